@@ -6,14 +6,14 @@ use Rattle.std.specs.Fmt.{digits}
 use Rattle.examples.proofs.ComputedReading.{outcome, rest_of}
 use Rattle.sedre.specs.Tree.{tree_at, tree_within}
 use Rattle.sedre.specs.Brackets.{list_at, list_end, delimiter_at}
-use Rattle.sedre.specs.Items.{interval, item_at as expression_item_at}
+use Rattle.sedre.specs.Items.{front_interval, item_at as expression_item_at}
 use Rattle.sedre.specs.Sets.{set_of}
-use Rattle.sedmatch.specs.Matching.{any, greatest, copies, spans, longest, found_from, found}
+use Rattle.sedmatch.specs.Matching.{any, greatest, copies, spans, longest, found_from, leftmost_longest}
 use Rattle.examples.proofs.ComputedScript.{verdict, cutting, walked, is_script}
 use Rattle.sedscript.specs.Items.{match_at, address_at, second_at, addresses_at, substitute_at, function_at, item_at}
 use Rattle.sedscript.specs.Letters.{substituted}
 use Rattle.sedscript.specs.Bytes.{past}
-use Rattle.sedscript.specs.Functions.{name_from, text_from}
+use Rattle.sedscript.specs.Arguments.{name_from, text_from}
 use Rattle.sedspace.specs.Lines.{lines}
 use Rattle.sedengine.specs.Move.{next_move}
 use Rattle.sedengine.specs.Select.{selects}
@@ -45,7 +45,7 @@ unfolding verdict cutting walked item_at past function_at addresses_at address_a
 but_the_last_line = is_script (ends_after 200 refl refl)
 
 expression_to_the_last_line : Writes (codes "/b/,$d") (codes "a\nb\nc\n") (codes "a\n")
-unfolding verdict cutting walked item_at past function_at addresses_at address_at second_at text_from name_from lines course next_move selects match_at substitute_at substituted delimiter_at outcome rest_of expression_item_at interval set_of tree_at tree_within list_at list_end found found_from longest greatest spans any copies
+unfolding verdict cutting walked item_at past function_at addresses_at address_at second_at text_from name_from lines course next_move selects match_at substitute_at substituted delimiter_at outcome rest_of expression_item_at front_interval set_of tree_at tree_within list_at list_end leftmost_longest found_from longest greatest spans any copies
 expression_to_the_last_line = is_script (ends_after 200 refl refl)
 
 but_a_range : Writes (codes "2,4!d") (codes "1\n2\n3\n4\n5\n") (codes "2\n3\n4\n")
@@ -59,7 +59,7 @@ but_a_range_downwards = is_script (ends_after 200 refl refl)
 
 -- With -n. The expression is tried from the line after the first one on.
 line_to_an_expression : QuietlyWrites (codes "1,/a/p") (codes "a\nb\na\nc\n") (codes "a\nb\na\n")
-unfolding verdict cutting walked item_at past function_at addresses_at address_at second_at text_from name_from lines course next_move selects match_at substitute_at substituted delimiter_at outcome rest_of expression_item_at interval set_of tree_at tree_within list_at list_end found found_from longest greatest spans any copies
+unfolding verdict cutting walked item_at past function_at addresses_at address_at second_at text_from name_from lines course next_move selects match_at substitute_at substituted delimiter_at outcome rest_of expression_item_at front_interval set_of tree_at tree_within list_at list_end leftmost_longest found_from longest greatest spans any copies
 line_to_an_expression = is_script (ends_after 200 refl refl)
 
 branch_out_of_a_block : Writes (codes "1{p;be;p};:e") (codes "a\nb\n") (codes "a\na\nb\n")
@@ -68,12 +68,12 @@ branch_out_of_a_block = is_script (ends_after 200 refl refl)
 
 -- With -n. The empty expression is the one last used.
 empty_expression_in_a_block : QuietlyWrites (codes "/a/{//p;}") (codes "a\nb\n") (codes "a\n")
-unfolding verdict cutting walked item_at past function_at addresses_at address_at second_at text_from name_from lines course next_move selects match_at substitute_at substituted delimiter_at outcome rest_of expression_item_at interval set_of tree_at tree_within list_at list_end found found_from longest greatest spans any copies
+unfolding verdict cutting walked item_at past function_at addresses_at address_at second_at text_from name_from lines course next_move selects match_at substitute_at substituted delimiter_at outcome rest_of expression_item_at front_interval set_of tree_at tree_within list_at list_end leftmost_longest found_from longest greatest spans any copies
 empty_expression_in_a_block = is_script (ends_after 200 refl refl)
 
 -- With -n.
 own_delimiter : QuietlyWrites (codes "\\%a%p") (codes "a\nb\n") (codes "a\n")
-unfolding verdict cutting walked item_at past function_at addresses_at address_at second_at text_from name_from lines course next_move selects match_at substitute_at substituted delimiter_at outcome rest_of expression_item_at interval set_of tree_at tree_within list_at list_end found found_from longest greatest spans any copies
+unfolding verdict cutting walked item_at past function_at addresses_at address_at second_at text_from name_from lines course next_move selects match_at substitute_at substituted delimiter_at outcome rest_of expression_item_at front_interval set_of tree_at tree_within list_at list_end leftmost_longest found_from longest greatest spans any copies
 own_delimiter = is_script (ends_after 200 refl refl)
 
 quiet_by_the_first_line : Writes (codes "#n\n2p") (codes "a\nb\n") (codes "b\n")
@@ -110,12 +110,12 @@ range_of_one_line = is_script (ends_after 200 refl refl)
 
 -- With -n.
 range_of_equal_expressions : QuietlyWrites (codes "/a/,/a/p") (codes "a\nb\na\nc\n") (codes "a\nb\na\n")
-unfolding verdict cutting walked item_at past function_at addresses_at address_at second_at text_from name_from lines course next_move selects match_at substitute_at substituted delimiter_at outcome rest_of expression_item_at interval set_of tree_at tree_within list_at list_end found found_from longest greatest spans any copies
+unfolding verdict cutting walked item_at past function_at addresses_at address_at second_at text_from name_from lines course next_move selects match_at substitute_at substituted delimiter_at outcome rest_of expression_item_at front_interval set_of tree_at tree_within list_at list_end leftmost_longest found_from longest greatest spans any copies
 range_of_equal_expressions = is_script (ends_after 200 refl refl)
 
 -- With -n. At line 4 the end of the range has passed; the line is judged anew, and begins a range of one line.
 passed_range_judged_anew : QuietlyWrites (codes "/a/,2{N;N;p;}") (codes "a\nb\nc\na\nb\nc\n") (codes "a\nb\nc\na\nb\nc\n")
-unfolding verdict cutting walked item_at past function_at addresses_at address_at second_at text_from name_from lines course next_move selects match_at substitute_at substituted delimiter_at outcome rest_of expression_item_at interval set_of tree_at tree_within list_at list_end found found_from longest greatest spans any copies
+unfolding verdict cutting walked item_at past function_at addresses_at address_at second_at text_from name_from lines course next_move selects match_at substitute_at substituted delimiter_at outcome rest_of expression_item_at front_interval set_of tree_at tree_within list_at list_end leftmost_longest found_from longest greatest spans any copies
 passed_range_judged_anew = is_script (ends_after 200 refl refl)
 
 -- With -n. The end of the range is passed when it is next judged, at line 5.

@@ -10,11 +10,10 @@ use Rattle.sedscript.specs.declared.letters.Verb.{Verb}
 use Rattle.sedscript.specs.declared.letters.Verb.TheVariants.{Open, Close, Label, Branch}
 use Rattle.sedscript.specs.declared.items.Argument.{Argument}
 use Rattle.sedscript.specs.declared.items.Item.{Item}
-use Rattle.sedscript.specs.Script.{Means, target_fault_at, target_fault_in, target_fault}
+use Rattle.sedscript.specs.Script.{Means, target_fault_at, target_fault_in, target_fault, counted, commands_in, written_in, branch_in, label_in, depth_after, close_in, block_end}
 use Rattle.sedscript.specs.Program.{Program}
-use Rattle.sedscript.specs.Targets.{counted, commands_in, written_in, branch_in, label_in, depth_after, close_in, block_end}
 use Rattle.sedscript.specs.Letters.{becomes_command, is_open, is_close}
-use Rattle.sedscript.specs.Functions.{fault_if}
+use Rattle.sedscript.specs.Bytes.{fault_if}
 use Rattle.sedscript.proofs.Labels.{counted_in}
 use Rattle.examples.specs.Blocks.{BracesMatch, none, other, block, IsStray, IsUnclosed}
 use Rattle.examples.proofs.FaultLemmas.{or_none, unless_wrong, Another, another_if, past_another}

@@ -15,11 +15,11 @@ use Rattle.sedre.specs.Brackets.{delimiter_at}
 use Rattle.sedre.specs.Tree.{tree_at, tree_within}
 use Rattle.sedre.specs.Items.{item_at as expression_item_at}
 use Rattle.sedre.specs.Sets.{set_of}
-use Rattle.sedmatch.specs.Matching.{any, greatest, copies, spans, longest, found_from, found, cut, first_copy, last_start, groups_after, report}
+use Rattle.sedmatch.specs.Matching.{any, greatest, copies, spans, longest, found_from, leftmost_longest, cut, first_copy, last_start, groups_after, report}
 use Rattle.sedscript.specs.Items.{match_at, address_at, second_at, addresses_at, substitute_at, function_at, item_at}
 use Rattle.sedscript.specs.Letters.{substituted}
 use Rattle.sedscript.specs.Bytes.{past}
-use Rattle.sedscript.specs.Functions.{name_from, text_from}
+use Rattle.sedscript.specs.Arguments.{name_from, text_from}
 use Rattle.sedscript.specs.Program.{Program}
 use Rattle.sedspace.specs.Lines.{lines}
 use Rattle.sedengine.specs.Move.{next_move}
@@ -208,7 +208,7 @@ script_first_writes heap = record {
 }
 
 two_options_in_a_word_write : (heap : Global) → Writes (codes "-nE" ∷ codes "s/(a)+/x/p" ∷ codes "f" ∷ []) [] (codes "x\n")
-unfolding verdict cutting walked item_at past function_at addresses_at address_at second_at text_from name_from lines course next_move selects match_at substitute_at substituted delimiter_at outcome rest_of expression_item_at set_of tree_at tree_within found found_from longest greatest spans any copies report groups_after cut first_copy last_start occurrences_from
+unfolding verdict cutting walked item_at past function_at addresses_at address_at second_at text_from name_from lines course next_move selects match_at substitute_at substituted delimiter_at outcome rest_of expression_item_at set_of tree_at tree_within leftmost_longest found_from longest greatest spans any copies report groups_after cut first_copy last_start occurrences_from
 two_options_in_a_word_write heap = record {
   quiet = true;
   extended = true;

@@ -9,7 +9,7 @@ use Rattle.examples.proofs.ComputedScript.{Script}
 use Rattle.sedspace.specs.Lines.{lines}
 use Rattle.sedengine.specs.State.{Limits, State, Task, Move, Setting, setting_of}
 use Rattle.sedengine.specs.Move.{next_move, after, start, to_sink}
-use Rattle.sedengine.specs.Ends.{WithinLimits, Within, IsCause, Cause, Whole, BrokenOff, named_sink, reads}
+use Rattle.sedengine.specs.Ends.{WithinLimits, Within, StopsAt, IsCause, Whole, BrokenOff, named_sink, reads}
 use Rattle.sedengine.specs.declared.ends.Ended.{Ended}
 use Rattle.sedengine.specs.declared.ends.Ended.TheVariants.{Done, PatternFull, HoldFull, QueueFull, TurnsSpent, NoPrevious, InputBroken}
 use Rattle.examples.proofs.ComputedRun.{course, course_so, stays, after_first, written_first}
@@ -118,7 +118,7 @@ is_cause l g s (NoPrevious n) =
 is_cause l g s InputBroken = reads g s.tasks
 is_cause l g s other = false
 
-cause_so : (l : Limits) (g : Setting) (s : State) (end : Ended) → is_cause l g s end ≡ true → IsCause l g s end
+cause_so : (l : Limits) (g : Setting) (s : State) (end : Ended) → is_cause l g s end ≡ true → StopsAt l g s end
 cause_so l g s Done e = no_tasks_so s.tasks e
 cause_so l g s (PatternFull n) e = leads_so l n l.space (λ now. length now.pattern) (next_move g s) e
 cause_so l g s (HoldFull n) e = leads_so l n l.space (λ now. length now.hold) (next_move g s) e
@@ -138,7 +138,7 @@ cause_so l g s other e = absurd cc
 -- a run within limits comes to an end, with this output
 pub record Stops (l : Limits) (g : Setting) (s : State) (end : Ended) (out : List (ℕ × ℕ)) : Type 0 where
   pub moves : ℕ
-  pub cause : Cause l g s out end moves
+  pub cause : IsCause l g s out end moves
 
 pub whole_or_cut : (l : Limits) (g : Setting) (s : State) (end : Ended) (out : List (ℕ × ℕ)) (t : ℕ) (o : Option ℕ) → o ≡ None →
     Whole l g s out end t → WholeOrBrokenOff l g s out end t o
@@ -156,7 +156,7 @@ pub whole_after : {l : Limits} {g : Setting} {s : State} {end : Ended} {out : Li
 whole_after {l = l} {g = g} {s = s} {end = end} n w c f = record {
   within = within_so l g n s f;
   wrote = (course_so g n s).0 ∙ w;
-  cause = subst (λ (x : State). IsCause l g x end) (sym (course_so g n s).1) (cause_so l g (course g n s).last end c);
+  cause = subst (λ (x : State). StopsAt l g x end) (sym (course_so g n s).1) (cause_so l g (course g n s).last end c);
 }
 
 -- one move more before such moves
@@ -172,7 +172,7 @@ unfolding Within
 whole_first {l = l} {g = g} {s = s} {m = m} {end = end} {t = t} e fits h = record {
   within = within_first l g s m t e fits h.within;
   wrote = written_first g s m t e ∙ ap (λ (bytes : List (ℕ × ℕ)). m.writes ++ bytes) h.wrote;
-  cause = subst (λ (x : State). IsCause l g x end) (sym (after_first g s m t e)) h.cause;
+  cause = subst (λ (x : State). StopsAt l g x end) (sym (after_first g s m t e)) h.cause;
 }
 
 abbrev pub stops_whole : {l : Limits} {g : Setting} {s : State} {end : Ended} {out : List (ℕ × ℕ)} {t : ℕ} → Whole l g s out end t →

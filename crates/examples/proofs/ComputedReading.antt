@@ -10,10 +10,9 @@ use Rattle.sedre.specs.declared.syntax.NextItem.{NextItem}
 use Rattle.sedre.specs.declared.syntax.NextItem.TheVariants.{Is, Ends, Bad}
 use Rattle.sedre.specs.declared.syntax.Item.{Item}
 use Rattle.sedre.specs.declared.syntax.Item.TheVariants.{Byte, Open, Close, Bar, Repeat, AtBegin, AtEnd}
-use Rattle.sedre.specs.Tree.{Tree, WrittenExpression, expression_tree}
-use Rattle.sedre.specs.Sizes.{size, depth, alternation}
+use Rattle.sedre.specs.Tree.{Tree, WrittenExpression, expression_tree, size}
+use Rattle.sedre.specs.Grammar.{depth, alternation, ReadsAs, FaultyWith, ExprFaulty}
 use Rattle.sedre.specs.Items.{item_at}
-use Rattle.sedre.specs.Grammar.{ReadsAs, FaultyWith, ExprFaulty}
 use Rattle.sedre.specs.Stacks.{Level, Nesting, start, step, all_alternatives, postorder}
 use Rattle.sedre.proofs.Exclusive.{no_fault}
 use Rattle.sedre.proofs.Folding.{faulty_alike}

@@ -14,9 +14,8 @@ use Rattle.sedscript.specs.declared.types.FileUse.TheVariants.{Read, Write}
 use Rattle.sedscript.specs.declared.bytes.Sort.TheVariants.{Separator}
 use Rattle.sedscript.specs.Bytes.{bytes_between, past}
 use Rattle.sedscript.specs.Items.{Pattern, Reading, plainly, expression, item_at}
-use Rattle.sedscript.specs.Script.{IsRead, Gives, value, after_expression, CutScript, done, IsEnd, texts_of, substitutions_of, tables_of, commands_of, is_quiet, Means, target_fault}
+use Rattle.sedscript.specs.Script.{IsRead, Gives, value, after_expression, CutScript, done, IsEnd, texts_of, substitutions_of, tables_of, commands_of, is_quiet, Means, target_fault, files_in}
 use Rattle.sedscript.specs.FirstFault.{in_script, Fails, own, no_expression, later, Faulty, early, afterwards}
-use Rattle.sedscript.specs.Targets.{files_in}
 use Rattle.sedscript.specs.Program.{Program}
 use Rattle.sedscript.proofs.Cuts.{cut_more}
 

@@ -5,14 +5,14 @@ use Rattle.std.proofs.lemmas.Bool.{leb-true}
 use Rattle.sedre.specs.declared.types.Kind.{Kind}
 use Rattle.sedre.specs.Tree.{Tree}
 use Rattle.sedre.specs.Sets.{set_of}
-use Rattle.sedre.specs.Items.{item_at, interval}
+use Rattle.sedre.specs.Items.{item_at, front_interval}
 use Rattle.sedre.specs.Brackets.{list_at}
 use Rattle.sedre.specs.Grammar.{ReadsAs}
 use Rattle.examples.proofs.ComputedReading.{Outcome, reads, faulty, unfinished, outcome, rest_of, outcome_holds, Holds}
 use Rattle.sedmatch.specs.Spans.{IsLeftmostLongest, NotFound}
 use Rattle.sedmatch.specs.Caps.{IsReport}
 use Rattle.sedmatch.specs.Groups.{Groups}
-use Rattle.sedmatch.specs.Matching.{any, greatest, copies, spans, longest, found_from, found, cut, first_copy, last_start, groups_after, report}
+use Rattle.sedmatch.specs.Matching.{any, greatest, copies, spans, longest, found_from, leftmost_longest, cut, first_copy, last_start, groups_after, report}
 use Rattle.sedmatch.proofs.MatchingLemmas.{found-iff, not_found-iff, report-iff}
 
 -- the whole match and the first groups, as they are reported; the other groups have no span
@@ -45,14 +45,14 @@ with_groups e w None = nothing
 with_groups e w (Some f) = matched f.0 f.1 (report e w f.0 f.1)
 
 abbrev answer : Outcome → (within : Bool) → List ℕ → ℕ → Answer
-answer (reads e count) true w p = with_groups e w (found e w p)
+answer (reads e count) true w p = with_groups e w (leftmost_longest e w p)
 answer (reads e count) false w p = no_answer
 answer (faulty place reason) within w p = no_answer
 answer unfinished within w p = no_answer
 
 -- the expression sought in w from place p on
 unfoldable pub search : Kind → (expression w : List ℕ) → ℕ → Answer
-unfolding outcome rest_of item_at interval list_at set_of any greatest copies spans longest found_from found cut first_copy last_start groups_after report
+unfolding outcome rest_of item_at front_interval list_at set_of any greatest copies spans longest found_from leftmost_longest cut first_copy last_start groups_after report
 search kind expression w p = answer (outcome kind false None expression 65536) (nat_le p (length w)) w p
 
 -- what the definitions say of an answer
@@ -61,7 +61,7 @@ Says e w p (matched i j groups) = IsLeftmostLongest e w p i j × IsReport e w i 
 Says e w p nothing = NotFound e w p
 Says e w p no_answer = Unit {0}
 
-says_so : (e : Tree) (w : List ℕ) (p : ℕ) → p ≤ length w → (r : Option (ℕ × ℕ)) → found e w p ≡ r → Says e w p (with_groups e w r)
+says_so : (e : Tree) (w : List ℕ) (p : ℕ) → p ≤ length w → (r : Option (ℕ × ℕ)) → leftmost_longest e w p ≡ r → Says e w p (with_groups e w r)
 says_so e w p fits None is = (not_found-iff e w p fits).0 is
 says_so e w p fits (Some f) is =
     let there : IsLeftmostLongest e w p f.0 f.1 = (found-iff e w p f.0 f.1 fits).0 is in
@@ -81,7 +81,7 @@ with_tree kind expression w p e count h no_answer says = tt
 answer_holds : (kind : Kind) (expression w : List ℕ) (p : ℕ) (o : Outcome) (within : Bool) → nat_le p (length w) ≡ within →
     Holds kind false None expression 65536 o → SaysOf kind expression w p (answer o within w p)
 answer_holds kind expression w p (reads e count) true is h =
-    with_tree kind expression w p e count h.0 (with_groups e w (found e w p)) (says_so e w p (leb-true p (length w) is) (found e w p) refl)
+    with_tree kind expression w p e count h.0 (with_groups e w (leftmost_longest e w p)) (says_so e w p (leb-true p (length w) is) (leftmost_longest e w p) refl)
 answer_holds kind expression w p (reads e count) false is h = tt
 answer_holds kind expression w p (faulty place reason) within is h = tt
 answer_holds kind expression w p unfinished within is h = tt

@@ -5,10 +5,10 @@ use Rattle.std.specs.Prelude.{codes}
 use Rattle.sedre.specs.declared.types.Kind.TheVariants.{Basic}
 use Rattle.sedscript.specs.Items.{address_at, second_at, addresses_at, function_at, item_at}
 use Rattle.sedscript.specs.Bytes.{past}
-use Rattle.sedscript.specs.Functions.{name_from, text_from}
+use Rattle.sedscript.specs.Arguments.{name_from, text_from}
 use Rattle.sedscript.specs.Program.{Program}
 use Rattle.sedspace.specs.Lines.{lines, is_newline, HasNoNewline}
-use Rattle.sedengine.specs.Ends.{Cause, reads, BreaksInLine, LosesPartAfter, size_of}
+use Rattle.sedengine.specs.Ends.{IsCause, reads, BreaksInLine, LosesPartAfter, size_of}
 use Rattle.sedengine.specs.State.{Limits, setting_of, Setting, State}
 use Rattle.sedengine.specs.LimitRanges.{limits_of}
 use Rattle.sedengine.specs.Move.{next_move, after, start, to_sink, written}
@@ -115,7 +115,7 @@ first_two g s (suc n) e = first_two g s n (nothing_front _ _ e)
 
 -- Where the first move asks for no input and the second writes, a line that is gone was given before the source failed.
 dropped_at : (l : Limits) (g : Setting) (s : State) (xs ys line : List ℕ) (t : ℕ) → reads g (after g s 1).tasks ≡ false → (written g s 2 ≡ [] → ⊥) → xs ≡ line ++ 10 ∷ ys →
-    Cause l g s [] InputBroken t → BreaksInLine g s (Some xs) (Some ys) l.space t → ⊥
+    IsCause l g s [] InputBroken t → BreaksInLine g s (Some xs) (Some ys) l.space t → ⊥
 unfolding after
 dropped_at l g s xs ys line zero quiet writes is cause (taken, are, part) = none_dropped xs ys line _ _ (no_size taken s.lines are) is part
 dropped_at l g s xs ys line (suc zero) quiet writes is cause part = absurd (let clash : true ≡ false = sym cause.cause ∙ quiet in cc)

@@ -9,7 +9,7 @@ use Rattle.examples.proofs.ComputedScript.{verdict, cutting, walked, is_script}
 use Rattle.sedscript.specs.Program.{Program}
 use Rattle.sedscript.specs.Items.{address_at, second_at, addresses_at, function_at, item_at}
 use Rattle.sedscript.specs.Bytes.{past}
-use Rattle.sedscript.specs.Functions.{name_from, text_from}
+use Rattle.sedscript.specs.Arguments.{name_from, text_from}
 use Rattle.sedspace.specs.Lines.{lines}
 use Rattle.sedengine.specs.Ends.{part, GainedWithin}
 use Rattle.sedengine.specs.State.{Limits}

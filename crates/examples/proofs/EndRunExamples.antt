@@ -5,14 +5,14 @@ use Rattle.std.specs.Prelude.{codes}
 use Rattle.examples.proofs.ComputedReading.{outcome, rest_of}
 use Rattle.sedre.specs.Tree.{tree_at, tree_within}
 use Rattle.sedre.specs.Brackets.{list_at, list_end, delimiter_at}
-use Rattle.sedre.specs.Items.{interval, item_at as expression_item_at}
+use Rattle.sedre.specs.Items.{front_interval, item_at as expression_item_at}
 use Rattle.sedre.specs.Sets.{set_of}
-use Rattle.sedmatch.specs.Matching.{any, greatest, copies, spans, longest, found_from, found, cut, first_copy, last_start, groups_after, report}
+use Rattle.sedmatch.specs.Matching.{any, greatest, copies, spans, longest, found_from, leftmost_longest, cut, first_copy, last_start, groups_after, report}
 use Rattle.examples.proofs.ComputedScript.{verdict, cutting, walked, is_script}
 use Rattle.sedscript.specs.Items.{match_at, address_at, second_at, addresses_at, substitute_at, function_at, item_at}
 use Rattle.sedscript.specs.Letters.{substituted}
 use Rattle.sedscript.specs.Bytes.{past}
-use Rattle.sedscript.specs.Functions.{name_from, text_from}
+use Rattle.sedscript.specs.Arguments.{name_from, text_from}
 use Rattle.sedspace.specs.Lines.{lines}
 use Rattle.sedengine.specs.Move.{next_move}
 use Rattle.sedengine.specs.Select.{selects}
@@ -46,23 +46,23 @@ no_turn = is_script (stops_after 0 refl refl refl refl)
 
 -- The turn is due before the empty expression is looked for.
 no_turn_for_a_command : EndsBy (turns 1) plain no_files (codes "//p") (codes "a\n") TurnsSpent (codes "")
-unfolding verdict cutting walked item_at past function_at addresses_at address_at second_at text_from name_from lines course next_move selects all_fit match_at substitute_at substituted delimiter_at outcome rest_of expression_item_at interval set_of tree_at tree_within list_at list_end found found_from longest greatest spans any copies
+unfolding verdict cutting walked item_at past function_at addresses_at address_at second_at text_from name_from lines course next_move selects all_fit match_at substitute_at substituted delimiter_at outcome rest_of expression_item_at front_interval set_of tree_at tree_within list_at list_end leftmost_longest found_from longest greatest spans any copies
 no_turn_for_a_command = is_script (stops_after 1 refl refl refl refl)
 
 no_previous_expression : EndsBy (turns 2) plain no_files (codes "//p") (codes "a\n") (NoPrevious 1) (codes "")
-unfolding verdict cutting walked item_at past function_at addresses_at address_at second_at text_from name_from lines course next_move selects all_fit match_at substitute_at substituted delimiter_at outcome rest_of expression_item_at interval set_of tree_at tree_within list_at list_end found found_from longest greatest spans any copies
+unfolding verdict cutting walked item_at past function_at addresses_at address_at second_at text_from name_from lines course next_move selects all_fit match_at substitute_at substituted delimiter_at outcome rest_of expression_item_at front_interval set_of tree_at tree_within list_at list_end leftmost_longest found_from longest greatest spans any copies
 no_previous_expression = is_script (stops_after 1 refl refl refl refl)
 
 no_previous_expression_within_the_limits : EndsBy (turns 18446744073709551615) plain no_files (codes "//p") (codes "a\n") (NoPrevious 1) (codes "")
-unfolding verdict cutting walked item_at past function_at addresses_at address_at second_at text_from name_from lines course next_move selects all_fit match_at substitute_at substituted delimiter_at outcome rest_of expression_item_at interval set_of tree_at tree_within list_at list_end found found_from longest greatest spans any copies
+unfolding verdict cutting walked item_at past function_at addresses_at address_at second_at text_from name_from lines course next_move selects all_fit match_at substitute_at substituted delimiter_at outcome rest_of expression_item_at front_interval set_of tree_at tree_within list_at list_end leftmost_longest found_from longest greatest spans any copies
 no_previous_expression_within_the_limits = is_script (stops_after 1 refl refl refl refl)
 
 substitution_past_the_space : EndsBy (space 3) plain no_files (codes "s/b/&&/") (codes "abc\n") (PatternFull 1) (codes "")
-unfolding verdict cutting walked item_at past function_at addresses_at address_at second_at text_from name_from lines course next_move selects all_fit match_at substitute_at substituted delimiter_at outcome rest_of expression_item_at interval set_of tree_at tree_within list_at list_end found found_from longest greatest spans any copies report groups_after cut first_copy last_start occurrences_from
+unfolding verdict cutting walked item_at past function_at addresses_at address_at second_at text_from name_from lines course next_move selects all_fit match_at substitute_at substituted delimiter_at outcome rest_of expression_item_at front_interval set_of tree_at tree_within list_at list_end leftmost_longest found_from longest greatest spans any copies report groups_after cut first_copy last_start occurrences_from
 substitution_past_the_space = is_script (stops_after 1 refl refl refl refl)
 
 substitution_within_the_space : EndsBy (space 3) plain no_files (codes "s/abc/x/") (codes "abc\n") Done (codes "x\n")
-unfolding verdict cutting walked item_at past function_at addresses_at address_at second_at text_from name_from lines course next_move selects all_fit match_at substitute_at substituted delimiter_at outcome rest_of expression_item_at interval set_of tree_at tree_within list_at list_end found found_from longest greatest spans any copies report groups_after cut first_copy last_start occurrences_from
+unfolding verdict cutting walked item_at past function_at addresses_at address_at second_at text_from name_from lines course next_move selects all_fit match_at substitute_at substituted delimiter_at outcome rest_of expression_item_at front_interval set_of tree_at tree_within list_at list_end leftmost_longest found_from longest greatest spans any copies report groups_after cut first_copy last_start occurrences_from
 substitution_within_the_space = is_script (stops_after 7 refl refl refl refl)
 
 -- Each byte of a file takes a turn.
@@ -96,11 +96,11 @@ unfolding verdict cutting walked item_at past function_at addresses_at address_a
 two_lines_within_the_space = is_script (stops_after 60 refl refl refl refl)
 
 growing_in_a_loop : EndsBy (space 5) plain no_files (codes ":a;s/^/x/;ta") (codes "a\n") (PatternFull 1) (codes "")
-unfolding verdict cutting walked item_at past function_at addresses_at address_at second_at text_from name_from lines course next_move selects all_fit match_at substitute_at substituted delimiter_at outcome rest_of expression_item_at interval set_of tree_at tree_within list_at list_end found found_from longest greatest spans any copies report groups_after cut first_copy last_start occurrences_from
+unfolding verdict cutting walked item_at past function_at addresses_at address_at second_at text_from name_from lines course next_move selects all_fit match_at substitute_at substituted delimiter_at outcome rest_of expression_item_at front_interval set_of tree_at tree_within list_at list_end leftmost_longest found_from longest greatest spans any copies report groups_after cut first_copy last_start occurrences_from
 growing_in_a_loop = is_script (stops_after 9 refl refl refl refl)
 
 endless_deletions : EndsBy (turns 10) plain no_files (codes "s/^/\\n/;D") (codes "a\n") TurnsSpent (codes "")
-unfolding verdict cutting walked item_at past function_at addresses_at address_at second_at text_from name_from lines course next_move selects all_fit match_at substitute_at substituted delimiter_at outcome rest_of expression_item_at interval set_of tree_at tree_within list_at list_end found found_from longest greatest spans any copies report groups_after cut first_copy last_start occurrences_from
+unfolding verdict cutting walked item_at past function_at addresses_at address_at second_at text_from name_from lines course next_move selects all_fit match_at substitute_at substituted delimiter_at outcome rest_of expression_item_at front_interval set_of tree_at tree_within list_at list_end leftmost_longest found_from longest greatest spans any copies report groups_after cut first_copy last_start occurrences_from
 endless_deletions = is_script (stops_after 13 refl refl refl refl)
 
 least_room : EndsBy (limits_of 1 0 1 18446744073709551615 1) plain no_files (codes "p") (codes "a\nb\n") Done (codes "a\na\nb\nb\n")
@@ -108,7 +108,7 @@ unfolding verdict cutting walked item_at past function_at addresses_at address_a
 least_room = is_script (stops_after 20 refl refl refl refl)
 
 least_room_to_substitute : EndsBy (limits_of 1 0 1 18446744073709551615 1) plain no_files (codes "s/a/b/") (codes "a\n") Done (codes "b\n")
-unfolding verdict cutting walked item_at past function_at addresses_at address_at second_at text_from name_from lines course next_move selects all_fit match_at substitute_at substituted delimiter_at outcome rest_of expression_item_at interval set_of tree_at tree_within list_at list_end found found_from longest greatest spans any copies report groups_after cut first_copy last_start occurrences_from
+unfolding verdict cutting walked item_at past function_at addresses_at address_at second_at text_from name_from lines course next_move selects all_fit match_at substitute_at substituted delimiter_at outcome rest_of expression_item_at front_interval set_of tree_at tree_within list_at list_end leftmost_longest found_from longest greatest spans any copies report groups_after cut first_copy last_start occurrences_from
 least_room_to_substitute = is_script (stops_after 20 refl refl refl refl)
 
 hold_space_past_the_space : EndsBy (space 1) plain no_files (codes "G") (codes "a\n") (PatternFull 1) (codes "")

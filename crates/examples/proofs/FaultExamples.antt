@@ -6,7 +6,7 @@ use Rattle.sedre.specs.declared.types.Kind.TheVariants.{Basic, Extended}
 use Rattle.sedre.specs.declared.types.Reason.TheVariants.{OpenBracket, UnknownClass, LongCollating, BadRange, OpenGroup}
 use Rattle.sedre.specs.declared.types.Reason.TheVariants.{StrayClose, BadInterval, NothingToRepeat, LastBackslash}
 use Rattle.sedre.specs.declared.types.Reason.TheVariants.{UnknownEscape, BackReference, TooManyNodes}
-use Rattle.sedre.specs.Items.{item_at, interval}
+use Rattle.sedre.specs.Items.{item_at, front_interval}
 use Rattle.sedre.specs.Brackets.{list_at}
 use Rattle.sedre.specs.Grammar.{ExprFaulty}
 use Rattle.examples.proofs.ComputedReading.{outcome, rest_of, faulty_with}
@@ -186,55 +186,55 @@ stray_closing_before_another_fault = faulty_with refl
 -- An interval isn't one, or its numbers aren't 0 to 255 in order: the place of its opening.
 
 number_above_255 : ExprFaulty Extended None (codes "a{256}") 65536 1 BadInterval
-unfolding outcome rest_of item_at interval
+unfolding outcome rest_of item_at front_interval
 number_above_255 = faulty_with refl
 
 number_above_255_with_zeros : ExprFaulty Extended None (codes "a{0000256}") 65536 1 BadInterval
-unfolding outcome rest_of item_at interval
+unfolding outcome rest_of item_at front_interval
 number_above_255_with_zeros = faulty_with refl
 
 numbers_in_disorder : ExprFaulty Basic None (codes "a\\{3,2\\}") 65536 1 BadInterval
-unfolding outcome rest_of item_at interval
+unfolding outcome rest_of item_at front_interval
 numbers_in_disorder = faulty_with refl
 
 interval_without_numbers : ExprFaulty Extended None (codes "a{") 65536 1 BadInterval
-unfolding outcome rest_of item_at interval
+unfolding outcome rest_of item_at front_interval
 interval_without_numbers = faulty_with refl
 
 interval_without_a_first_number : ExprFaulty Extended None (codes "a{,2}") 65536 1 BadInterval
-unfolding outcome rest_of item_at interval
+unfolding outcome rest_of item_at front_interval
 interval_without_a_first_number = faulty_with refl
 
 interval_not_closed : ExprFaulty Extended None (codes "a{2") 65536 1 BadInterval
-unfolding outcome rest_of item_at interval
+unfolding outcome rest_of item_at front_interval
 interval_not_closed = faulty_with refl
 
 interval_not_closed_after_the_comma : ExprFaulty Extended None (codes "a{2,") 65536 1 BadInterval
-unfolding outcome rest_of item_at interval
+unfolding outcome rest_of item_at front_interval
 interval_not_closed_after_the_comma = faulty_with refl
 
 interval_with_three_numbers : ExprFaulty Extended None (codes "a{1,2,3}") 65536 1 BadInterval
-unfolding outcome rest_of item_at interval
+unfolding outcome rest_of item_at front_interval
 interval_with_three_numbers = faulty_with refl
 
 interval_with_a_blank : ExprFaulty Extended None (codes "a{ 2}") 65536 1 BadInterval
-unfolding outcome rest_of item_at interval
+unfolding outcome rest_of item_at front_interval
 interval_with_a_blank = faulty_with refl
 
 interval_closed_as_in_the_other_kind : ExprFaulty Basic None (codes "a\\{2}") 65536 1 BadInterval
-unfolding outcome rest_of item_at interval
+unfolding outcome rest_of item_at front_interval
 interval_closed_as_in_the_other_kind = faulty_with refl
 
 escaped_closing_of_an_interval : ExprFaulty Extended None (codes "a{2\\}") 65536 1 BadInterval
-unfolding outcome rest_of item_at interval
+unfolding outcome rest_of item_at front_interval
 escaped_closing_of_an_interval = faulty_with refl
 
 escaped_delimiter_closes_no_interval : ExprFaulty Basic (Some 125) (codes "a\\{2\\}") 65536 1 BadInterval
-unfolding outcome rest_of item_at interval
+unfolding outcome rest_of item_at front_interval
 escaped_delimiter_closes_no_interval = faulty_with refl
 
 escaped_delimiter_in_an_interval : ExprFaulty Extended (Some 50) (codes "a{\\2}") 65536 1 BadInterval
-unfolding outcome rest_of item_at interval
+unfolding outcome rest_of item_at front_interval
 escaped_delimiter_in_an_interval = faulty_with refl
 
 stray_interval_closing : ExprFaulty Basic None (codes "\\}") 65536 0 BadInterval
@@ -284,7 +284,7 @@ unfolding outcome rest_of item_at
 question_mark_after_a_caret = faulty_with refl
 
 interval_after_a_caret : ExprFaulty Extended None (codes "^{1}") 65536 1 NothingToRepeat
-unfolding outcome rest_of item_at interval
+unfolding outcome rest_of item_at front_interval
 interval_after_a_caret = faulty_with refl
 
 question_mark_after_a_dollar : ExprFaulty Extended None (codes "$?") 65536 1 NothingToRepeat
@@ -292,7 +292,7 @@ unfolding outcome rest_of item_at
 question_mark_after_a_dollar = faulty_with refl
 
 interval_after_a_dollar : ExprFaulty Extended None (codes "${1}") 65536 1 NothingToRepeat
-unfolding outcome rest_of item_at interval
+unfolding outcome rest_of item_at front_interval
 interval_after_a_dollar = faulty_with refl
 
 question_mark_first : ExprFaulty Extended None (codes "?a") 65536 0 NothingToRepeat
@@ -300,15 +300,15 @@ unfolding outcome rest_of item_at
 question_mark_first = faulty_with refl
 
 interval_first : ExprFaulty Extended None (codes "{1}") 65536 0 NothingToRepeat
-unfolding outcome rest_of item_at interval
+unfolding outcome rest_of item_at front_interval
 interval_first = faulty_with refl
 
 brace_first : ExprFaulty Extended None (codes "{") 65536 0 NothingToRepeat
-unfolding outcome rest_of item_at interval
+unfolding outcome rest_of item_at front_interval
 brace_first = faulty_with refl
 
 bad_interval_first : ExprFaulty Extended None (codes "{300}") 65536 0 NothingToRepeat
-unfolding outcome rest_of item_at interval
+unfolding outcome rest_of item_at front_interval
 bad_interval_first = faulty_with refl
 
 plus_after_a_caret : ExprFaulty Extended None (codes "^+") 65536 1 NothingToRepeat
@@ -328,7 +328,7 @@ unfolding outcome rest_of item_at
 question_mark_first_basic = faulty_with refl
 
 interval_first_basic : ExprFaulty Basic None (codes "\\{1\\}a") 65536 0 NothingToRepeat
-unfolding outcome rest_of item_at interval
+unfolding outcome rest_of item_at front_interval
 interval_first_basic = faulty_with refl
 
 plus_first_in_a_group_basic : ExprFaulty Basic None (codes "\\(\\+a\\)") 65536 2 NothingToRepeat
@@ -340,7 +340,7 @@ unfolding outcome rest_of item_at
 plus_after_an_alternation_basic = faulty_with refl
 
 bad_interval_first_basic : ExprFaulty Basic None (codes "\\{300\\}") 65536 0 NothingToRepeat
-unfolding outcome rest_of item_at interval
+unfolding outcome rest_of item_at front_interval
 bad_interval_first_basic = faulty_with refl
 
 plus_after_a_caret_basic : ExprFaulty Basic None (codes "^\\+") 65536 1 NothingToRepeat
@@ -352,7 +352,7 @@ unfolding outcome rest_of item_at
 question_mark_after_a_caret_basic = faulty_with refl
 
 interval_after_a_caret_basic : ExprFaulty Basic None (codes "^\\{1\\}") 65536 1 NothingToRepeat
-unfolding outcome rest_of item_at interval
+unfolding outcome rest_of item_at front_interval
 interval_after_a_caret_basic = faulty_with refl
 
 -- A ? directly after a repetition of an extended expression is left out by name.
@@ -370,7 +370,7 @@ unfolding outcome rest_of item_at
 question_mark_after_another = faulty_with refl
 
 question_mark_after_an_interval : ExprFaulty Extended None (codes "a{2}?") 65536 4 NothingToRepeat
-unfolding outcome rest_of item_at interval
+unfolding outcome rest_of item_at front_interval
 question_mark_after_an_interval = faulty_with refl
 
 -- A backslash is the last byte: its place.
@@ -434,7 +434,7 @@ unfolding outcome rest_of item_at
 one_node_too_many = faulty_with refl
 
 one_copy_too_many : ExprFaulty Extended None (codes "x{0,255}") 763 8 TooManyNodes
-unfolding outcome rest_of item_at interval
+unfolding outcome rest_of item_at front_interval
 one_copy_too_many = faulty_with refl
 
 first_fault_before_too_many_nodes : ExprFaulty Extended None (codes "abc)") 1 3 StrayClose

@@ -3,7 +3,7 @@ use Rattle.std.proofs.Common.{◌≡◌, Bool, true, false, ℕ, Option, Some, N
 use Rattle.std.specs.Option.{option_or}
 use Rattle.sedscript.specs.declared.types.ScriptFault.{ScriptFault}
 use Rattle.sedscript.specs.declared.types.Reason.{Reason}
-use Rattle.sedscript.specs.Functions.{fault_if}
+use Rattle.sedscript.specs.Bytes.{fault_if}
 
 -- of two, neither
 pub or_none : {A : Type 0} (x y : Option A) → option_or x y ≡ None → (x ≡ None) × (y ≡ None)

@@ -7,9 +7,8 @@ use Rattle.std.proofs.lemmas.List.{take-append-drop}
 use Rattle.sedscript.specs.declared.types.ScriptFault.{ScriptFault}
 use Rattle.sedscript.specs.declared.types.Reason.TheVariants.{UnknownFlag, RepeatedFlag, BadNumber, MissingName, FlagOnEmpty}
 use Rattle.sedscript.specs.declared.items.Flags.{Flags}
-use Rattle.sedscript.specs.Bytes.{is_digit, bytes_between, with_digits}
-use Rattle.sedscript.specs.Functions.{fault, name_from, ◌>>=◌}
-use Rattle.sedscript.specs.Between.{no_flags, numbered, with_number, with_flag, flags_from, ends_flags, with_file}
+use Rattle.sedscript.specs.Bytes.{is_digit, bytes_between, with_digits, fault, ◌>>=◌}
+use Rattle.sedscript.specs.Arguments.{name_from, no_flags, numbered, with_number, with_flag, flags_from, ends_flags, with_file}
 use Rattle.sedscript.specs.Strings.{is_among}
 use Rattle.examples.specs.Numbers.{decimal_from, WritesNumber, NumberAmong}
 

@@ -13,7 +13,7 @@ use Rattle.examples.proofs.ComputedReading.{outcome, rest_of}
 use Rattle.sedscript.specs.Bytes.{past}
 use Rattle.sedscript.specs.Items.{match_at, address_at, addresses_at, substitute_at, function_at, item_at}
 use Rattle.sedscript.specs.Letters.{substituted}
-use Rattle.sedscript.specs.Functions.{text_from, name_from}
+use Rattle.sedscript.specs.Arguments.{text_from, name_from}
 
 -- The text of `a`, `i` or `c` is missing: the letter.
 

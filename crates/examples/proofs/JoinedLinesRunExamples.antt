@@ -11,7 +11,7 @@ use Rattle.sedscript.specs.declared.types.Simple.TheVariants.{AppendNext, Delete
 use Rattle.sedscript.specs.declared.types.Address.TheVariants.{Last}
 use Rattle.sedscript.specs.Items.{address_at, second_at, addresses_at, function_at, item_at}
 use Rattle.sedscript.specs.Bytes.{past}
-use Rattle.sedscript.specs.Functions.{name_from, text_from}
+use Rattle.sedscript.specs.Arguments.{name_from, text_from}
 use Rattle.sedscript.specs.Program.{Program}
 use Rattle.sedspace.specs.Lines.{is_newline, lines}
 use Rattle.sedengine.specs.Ends.{Whole, WithinLimits}

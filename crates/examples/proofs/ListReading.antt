@@ -9,7 +9,7 @@ use Rattle.sedre.specs.declared.elements.Element.TheVariants.{Plain}
 use Rattle.sedre.specs.declared.types.ExprFault.{ExprFault}
 use Rattle.sedre.specs.declared.byte_set.ByteSet.{ByteSet}
 use Rattle.sedre.specs.Sets.{set_of, has, only, union, matching, complement}
-use Rattle.sedre.specs.Brackets.{element, elements, elements_from, is_delimiter, single, both, listed, judged, matched, begins, ListedBytes, list_at}
+use Rattle.sedre.specs.Brackets.{front_element, elements, elements_from, is_delimiter, single, both, listed, judged, matched, begins, ListedBytes, list_at}
 use Rattle.sedscript.specs.Strings.{is_among}
 use Rattle.examples.specs.Lists.{ArePlain}
 
@@ -33,7 +33,7 @@ not_escaped : (delimiter : Option ℕ) (b c : ℕ) → (delimiter ≡ None) ⊎ 
 not_escaped delimiter b c (inl e) = rw e (no_escape (b == 92))
 not_escaped delimiter b c (inr other) = rw (ne_eqb b 92 other) refl
 
-element_front : (delimiter : Option ℕ) (b : ℕ) (bs rest : List ℕ) → (b ≡ 91 → ⊥) → (delimiter ≡ None) ⊎ (b ≡ 92 → ⊥) → element delimiter (b ∷ (bs ++ 93 ∷ rest)) ≡ (Plain b, 1)
+element_front : (delimiter : Option ℕ) (b : ℕ) (bs rest : List ℕ) → (b ≡ 91 → ⊥) → (delimiter ≡ None) ⊎ (b ≡ 92 → ⊥) → front_element delimiter (b ∷ (bs ++ 93 ∷ rest)) ≡ (Plain b, 1)
 element_front delimiter b [] rest other free = element_by (b == 92 && is_delimiter delimiter 93) (b == 91) _ _ _ b (not_escaped delimiter b 93 free) (ne_eqb b 91 other)
 element_front delimiter b (c ∷ bs) rest other free = element_by (b == 92 && is_delimiter delimiter c) (b == 91) _ _ _ b (not_escaped delimiter b c free) (ne_eqb b 91 other)
 
@@ -44,7 +44,7 @@ elements_step t s place b found next e f = rw e (rw f refl)
 front : (d : Option ℕ) (first : Bool) (place b : ℕ) (bs rest : List ℕ) → ArePlain d (b ∷ bs) →
     ◌≡◌ {A = Elements} (elements d first 0 place (b ∷ (bs ++ 93 ∷ rest))) ((place, Plain b) ∷ (elements d false 0 (place + 1) (bs ++ 93 ∷ rest)).0, (elements d false 0 (place + 1) (bs ++ 93 ∷ rest)).1)
 front d first place b bs rest p =
-    elements_step (b == 93) (not first) place b (element d (b ∷ (bs ++ 93 ∷ rest))) (λ n. elements d false n (place + 1) (bs ++ 93 ∷ rest)) (ne_eqb b 93 p.1) (element_front d b bs rest p.0 p.4)
+    elements_step (b == 93) (not first) place b (front_element d (b ∷ (bs ++ 93 ∷ rest))) (λ n. elements d false n (place + 1) (bs ++ 93 ∷ rest)) (ne_eqb b 93 p.1) (element_front d b bs rest p.0 p.4)
 
 later : (d : Option ℕ) (place : ℕ) (bs rest : List ℕ) → ArePlain d bs → ◌≡◌ {A = Elements} (elements d false 0 place (bs ++ 93 ∷ rest)) (placed place bs, Some (place + length bs + 1))
 later d place [] rest p = let e : place + 1 ≡ place + 0 + 1 = omega arith in ap (λ (n : ℕ). let x : Elements = ([], Some n) in x) e

@@ -1,11 +1,13 @@
 -- Scripts of as many opening braces as one likes and as many closing ones after them: what they mean.
 use Rattle.std.proofs.Common.{◌≡◌, ℕ, zero, suc, ◌+◌, ◌-◌, ◌<◌, ◌≤◌, ◌==◌, Bool, true, false, List, [], ◌∷◌, ◌++◌, length, Some, None, Ok, refl, sym, ◌∙◌, ap, subst, length-append, arith}
-use Rattle.std.specs.Prelude.{replicate, slice_get}
+use Rattle.std.specs.Prelude.{replicate, slice_get, take}
+use Rattle.std.specs.List.{prefix_len}
+use Rattle.std.specs.Str.{bytes_eq}
 use Rattle.std.proofs.lemmas.Bool.{ne_eqb}
 use Rattle.std.proofs.lemmas.Option.{slice_get_past}
 use Rattle.std.proofs.lemmas.List.{length-replicate, drop_all}
 use Rattle.sedre.specs.declared.types.Kind.{Kind}
-use Rattle.sedscript.specs.declared.bytes.Sort.TheVariants.{Separator, Blank}
+use Rattle.sedscript.specs.declared.bytes.Sort.TheVariants.{Separator, Blank, Line}
 use Rattle.sedscript.specs.declared.types.Action.TheVariants.{Block}
 use Rattle.sedscript.specs.declared.types.Command.{Command}
 use Rattle.sedscript.specs.declared.types.FileUse.TheVariants.{Read, Write}
@@ -15,11 +17,10 @@ use Rattle.sedscript.specs.declared.items.ItemOrEnd.{ItemOrEnd}
 use Rattle.sedscript.specs.declared.items.ItemOrEnd.TheVariants.{Is}
 use Rattle.sedscript.specs.declared.items.Item.{Item}
 use Rattle.sedscript.specs.Items.{Headed, address_at, addresses_at, addresses_of, with_bang, function_at, item_at, Reading, plainly}
-use Rattle.sedscript.specs.Bytes.{past}
-use Rattle.sedscript.specs.Script.{Gives, value, CutScript, done, item, IsEnd, Means, commands_of, is_quiet, substitutions_of, tables_of, texts_of, target_fault_in}
-use Rattle.sedscript.specs.Targets.{files_in, block_end, close_in, commands_in}
+use Rattle.sedscript.specs.Bytes.{past, belongs}
+use Rattle.sedscript.specs.Script.{Gives, value, CutScript, done, item, IsEnd, Means, commands_of, is_quiet, substitutions_of, tables_of, texts_of, target_fault_in, files_in, block_end, close_in, commands_in}
 use Rattle.sedscript.specs.Letters.{becomes_command}
-use Rattle.sedscript.specs.Functions.{may_end}
+use Rattle.sedscript.specs.Arguments.{may_end}
 use Rattle.sedscript.specs.Program.{Program}
 use Rattle.examples.proofs.ManyBracesExamples.{opening, openings, braces, stays, no_addresses, gives_opening}
 use Rattle.examples.proofs.ScriptWords.{always}
@@ -205,9 +206,10 @@ no_written text zero (suc n) at to = no_written text zero n at (to + 1)
 no_written text (suc k) n at to = no_written text k n (at + 1) to
 
 not_quiet : (bs : List ℕ) → is_quiet (123 ∷ bs) ≡ false
-not_quiet [] = refl
-not_quiet (b ∷ []) = refl
-not_quiet (b ∷ c ∷ bs) = refl
+not_quiet bs = starts (prefix_len (belongs Line) bs)
+  where
+    starts : (n : ℕ) → bytes_eq (take (1 + n) (123 ∷ bs)) (35 ∷ 110 ∷ []) ≡ false
+    starts n = let more : 1 + n ≡ suc n = omega arith in rw more refl
 
 blocks_not_quiet : (n : ℕ) → is_quiet (blocks n) ≡ false
 blocks_not_quiet zero = refl

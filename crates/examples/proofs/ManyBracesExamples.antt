@@ -16,9 +16,8 @@ use Rattle.sedscript.specs.declared.letters.Verb.TheVariants.{Open}
 use Rattle.sedscript.specs.declared.items.Argument.TheVariants.{Nothing}
 use Rattle.sedscript.specs.Items.{Headed, address_at, addresses_at, addresses_of, with_bang, function_at, item_at, Reading, plainly}
 use Rattle.sedscript.specs.Bytes.{belongs, past}
-use Rattle.sedscript.specs.Script.{Gives, value, CutScript, done, item, IsEnd, target_fault}
+use Rattle.sedscript.specs.Script.{Gives, value, CutScript, done, item, IsEnd, target_fault, close_in}
 use Rattle.sedscript.specs.FirstFault.{Faulty, afterwards}
-use Rattle.sedscript.specs.Targets.{close_in}
 use Rattle.examples.proofs.ScriptWords.{fault_at}
 
 -- an opening brace without addresses

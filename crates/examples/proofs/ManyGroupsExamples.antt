@@ -10,7 +10,7 @@ use Rattle.sedre.specs.declared.syntax.Item.TheVariants.{Open}
 use Rattle.sedre.specs.declared.syntax.Symbol.TheVariants.{Opening}
 use Rattle.sedre.specs.declared.syntax.NextItem.TheVariants.{Is, Ends}
 use Rattle.sedre.specs.Grammar.{CutExpression, done, item, open_groups, unclosed, ExprFaulty}
-use Rattle.sedre.specs.Items.{item_at, symbol}
+use Rattle.sedre.specs.Items.{item_at, front_symbol}
 
 -- so many openings, as bytes and as items
 abbrev openings : ℕ → List ℕ
@@ -28,7 +28,7 @@ none_after : (n : ℕ) → drop n (openings n) ≡ []
 none_after zero = refl
 none_after (suc n) = none_after n
 
-opening_first : (rest : List ℕ) → symbol Extended None (40 ∷ rest) ≡ Some (Opening, 1)
+opening_first : (rest : List ℕ) → front_symbol Extended None (40 ∷ rest) ≡ Some (Opening, 1)
 opening_first [] = refl
 opening_first (b ∷ bs) = refl
 

@@ -1,7 +1,7 @@
 -- Examples of the match that is sought (XBD 9.1): the span or that there is none, derived from the definition.
 use Rattle.std.proofs.Common.{◌≡◌, ◌≤◌, ℕ, zero, suc, [], ◌∷◌, false, true, Some, inl, inr, refl, subst, arith}
 use Rattle.std.specs.Prelude.{codes, slice_get}
-use Rattle.sedre.specs.Sets.{set_of, only, any_byte}
+use Rattle.sedre.specs.Sets.{set_of, only, any_but_zero}
 use Rattle.sedre.specs.Tree.{set, begin, end, seq, alt, star}
 use Rattle.sedmatch.specs.Spans.{Matches, IsIn, CopiesLead, IsLeftmostLongest, NotFound, no_copy, one_more}
 
@@ -64,7 +64,7 @@ only_nul zero byte within e = cc
 only_nul (suc zero) byte within e = absurd cc
 only_nul (suc (suc i)) byte within e = absurd (omega (arith, within))
 
-nul_and_any_byte : NotFound (set any_byte) (0 ∷ []) 0
+nul_and_any_byte : NotFound (set any_but_zero) (0 ∷ []) 0
 unfolding set_of
 nul_and_any_byte = λ i k from within s.
-    let member : false ≡ true = subst (λ (n : ℕ). IsIn n any_byte) (only_nul i s.0 within s.1) s.2 in absurd cc
+    let member : false ≡ true = subst (λ (n : ℕ). IsIn n any_but_zero) (only_nul i s.0 within s.1) s.2 in absurd cc

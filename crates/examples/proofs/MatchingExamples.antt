@@ -2,16 +2,16 @@
 use Rattle.std.proofs.Common.{◌≡◌, true, [], ◌∷◌, Some, None, refl}
 use Rattle.sedre.specs.Sets.{set_of}
 use Rattle.sedre.specs.Tree.{seq, alt, group, star}
-use Rattle.sedmatch.specs.Matching.{any, greatest, copies, spans, longest, found_from, found, cut, first_copy, last_start, groups_after, report}
+use Rattle.sedmatch.specs.Matching.{any, greatest, copies, spans, longest, found_from, leftmost_longest, cut, first_copy, last_start, groups_after, report}
 use Rattle.examples.proofs.ExampleWords.{byte}
 
 -- aa* at xaab
-example_found : found (seq (byte 97) (star (byte 97) true)) (120 ∷ 97 ∷ 97 ∷ 98 ∷ []) 0 ≡ Some (1, 3)
-unfolding any greatest copies spans longest found_from found set_of
+example_found : leftmost_longest (seq (byte 97) (star (byte 97) true)) (120 ∷ 97 ∷ 97 ∷ 98 ∷ []) 0 ≡ Some (1, 3)
+unfolding any greatest copies spans longest found_from leftmost_longest set_of
 example_found = refl
 
-example_none : found (seq (byte 97) (byte 99)) (120 ∷ 97 ∷ 97 ∷ 98 ∷ []) 0 ≡ None
-unfolding any greatest copies spans longest found_from found set_of
+example_none : leftmost_longest (seq (byte 97) (byte 99)) (120 ∷ 97 ∷ 97 ∷ 98 ∷ []) 0 ≡ None
+unfolding any greatest copies spans longest found_from leftmost_longest set_of
 example_none = refl
 
 -- \(a\|ab\)\(c\|bcd\)\(d*\) on abcd

@@ -9,8 +9,8 @@ use Rattle.sedscript.specs.declared.items.Argument.{Argument}
 use Rattle.sedscript.specs.declared.types.TextUse.{TextUse}
 use Rattle.sedscript.specs.declared.letters.Verb.TheVariants.{Text}
 use Rattle.sedscript.specs.declared.texts.Inside.TheVariants.{InLine, Escape, Due}
-use Rattle.sedscript.specs.Bytes.{past, is_byte}
-use Rattle.sedscript.specs.Functions.{fault, text_end, text_from, spanned as found_at}
+use Rattle.sedscript.specs.Bytes.{past, is_byte, fault}
+use Rattle.sedscript.specs.Arguments.{text_end, text_from, spanned as found_at}
 use Rattle.sedscript.specs.Letters.{argument_of}
 use Rattle.examples.specs.Backslashes.{NoneUnescaped}
 use Rattle.examples.specs.Texts.{EndsInBackslash, HasNoText}

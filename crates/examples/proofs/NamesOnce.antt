@@ -5,8 +5,7 @@ use Rattle.std.proofs.lemmas.Bool.{cases_order}
 use Rattle.std.proofs.lemmas.Slice.Eq.{bytes_eq-Decides}
 use Rattle.sedre.specs.declared.types.Kind.{Kind}
 use Rattle.sedscript.specs.declared.types.FileUse.TheVariants.{Read, Write}
-use Rattle.sedscript.specs.Targets.{distinct}
-use Rattle.sedscript.specs.Script.{Means}
+use Rattle.sedscript.specs.Script.{distinct, Means}
 use Rattle.sedscript.specs.Program.{Program}
 use Rattle.examples.specs.Names.{names_of, StandsBefore, EachOnce}
 

@@ -5,7 +5,7 @@ use Rattle.sedre.specs.declared.types.Kind.TheVariants.{Extended}
 use Rattle.sedre.specs.Tree.{WrittenExpression, expression_tree, Tree}
 use Rattle.sedre.specs.Brackets.{delimiter_at}
 use Rattle.sedre.specs.Items.{item_at as expression_item_at}
-use Rattle.sedmatch.specs.Matching.{found}
+use Rattle.sedmatch.specs.Matching.{leftmost_longest}
 use Rattle.sedmatch.proofs.MatchingLemmas.{not_found-iff}
 use Rattle.sedscript.specs.declared.substitution.Piece.TheVariants.{Literal}
 use Rattle.sedscript.specs.declared.types.Action.TheVariants.{Plain, Substitute}
@@ -15,7 +15,7 @@ use Rattle.sedscript.specs.declared.types.Command.{Command}
 use Rattle.sedscript.specs.Items.{match_at, address_at, second_at, addresses_at, substitute_at, function_at, item_at}
 use Rattle.sedscript.specs.Letters.{substituted}
 use Rattle.sedscript.specs.Bytes.{past}
-use Rattle.sedscript.specs.Functions.{name_from, text_from}
+use Rattle.sedscript.specs.Arguments.{name_from, text_from}
 use Rattle.sedspace.specs.Lines.{lines}
 use Rattle.sedengine.specs.Move.{next_move, start, to_sink}
 use Rattle.sedengine.specs.State.{finds_in, occurrence_at_span, search_in, Setting}
@@ -57,9 +57,9 @@ unfolding course next_move selects all_fit occurrences_from
 unchanged_where_nothing_is_found finds search no_match none =
     stops_after 12 (rw (no_match, none) refl) (rw (no_match, none) refl) (rw (no_match, none) refl) refl
 
-none_in : (n : ℕ) → found (expression_tree (written twice_nested 2)) (replicate n 97) 0 ≡ None
+none_in : (n : ℕ) → leftmost_longest (expression_tree (written twice_nested 2)) (replicate n 97) 0 ≡ None
 none_in n =
-    subst (λ (t : Tree). found t (replicate n 97) 0 ≡ None) (sym (tree_of_written twice_nested 2))
+    subst (λ (t : Tree). leftmost_longest t (replicate n 97) 0 ≡ None) (sym (tree_of_written twice_nested 2))
     ((not_found-iff twice_nested (replicate n 97) 0 (omega arith)).1 (λ i k from within s. no_b n s.0 k s.2))
 
 abbrev expressions : List WrittenExpression

@@ -9,9 +9,9 @@ use Rattle.examples.proofs.ComputedScript.{verdict, cutting, walked, Script, is_
 use Rattle.sedscript.specs.Program.{Program}
 use Rattle.sedscript.specs.Items.{match_at, address_at, second_at, addresses_at, function_at, item_at}
 use Rattle.sedscript.specs.Bytes.{past}
-use Rattle.sedscript.specs.Functions.{name_from, text_from}
+use Rattle.sedscript.specs.Arguments.{name_from, text_from}
 use Rattle.sedspace.specs.Lines.{HasNoNewline, lines}
-use Rattle.sedengine.specs.Ends.{part, GainedWithin, SourceAtEnd, Cause, BreaksInLine, LosesPartAfter}
+use Rattle.sedengine.specs.Ends.{part, GainedWithin, SourceAtEnd, IsCause, BreaksInLine, LosesPartAfter, SinkAtEnd}
 use Rattle.sedengine.specs.Move.{after, next_move, to_sink}
 use Rattle.sedengine.specs.State.{setting_of}
 use Rattle.sedengine.specs.Select.{selects}
@@ -23,7 +23,7 @@ use Rattle.sedfiles.specs.declared.asked.Part.{Part}
 use Rattle.sededit.specs.Editing.{nothing_before, start_over}
 use Rattle.sedfiles.specs.MemoryFiles.{File, file_of, files_of}
 use Rattle.sedfiles.specs.Files.{joined_files}
-use Rattle.sededit.specs.Program.{MakesText, Observed, SinkAtEnd, StopsEarly, or_standard}
+use Rattle.sededit.specs.Program.{MakesText, Observed, StopsEarly, or_standard}
 use Rattle.examples.proofs.LimitWords.{own}
 use Rattle.examples.proofs.PartWords.{file, text}
 
@@ -211,7 +211,7 @@ stopped whole bytes rest reads failures output end s other room has =
               to_sink 0 output,
               gains_all output end room,
               run.moves,
-              subst (λ (x : List ℕ). Cause own (setting_of p files) (start_over p x) (to_sink 0 output) end run.moves) same run.cause,
+              subst (λ (x : List ℕ). IsCause own (setting_of p files) (start_over p x) (to_sink 0 output) end run.moves) same run.cause,
               λ is. (Some rest, refl, subst (λ (x : List ℕ). BreaksInLine (setting_of p files) (start_over p x) (Some bytes) (Some rest) own.space run.moves) same (s.is.breaks files is)),
             ),
       );

@@ -24,14 +24,12 @@ use Rattle.sedscript.specs.declared.items.ItemOrEnd.{ItemOrEnd}
 use Rattle.sedscript.specs.declared.items.ItemOrEnd.TheVariants.{Is, Ends}
 use Rattle.sedscript.specs.declared.letters.Verb.{Verb}
 use Rattle.sedscript.specs.declared.letters.Verb.TheVariants.{Branch, Close, Comment, File, Label, Open, Substitute, Text, Transliterate}
-use Rattle.sedscript.specs.Bytes.{past, bytes_between, is_digit, is_byte, with_digits}
+use Rattle.sedscript.specs.Bytes.{past, bytes_between, is_digit, is_byte, with_digits, or_fault, ◌>>=◌ as ◌then◌, fault_if}
 use Rattle.sedscript.specs.Strings.{string_end, exceeds, replacement_fault, is_letter, chars_of, repeated_in, string_fault, strings_fault, repeated_fault}
 use Rattle.sedscript.specs.Items.{Reading, plainly, expression, ◌>>=◌, Addressed, line_of, folds_at, match_at, own_match, address_of, address_at, with_second, second_at, after_first, addresses_at, with_bang, substitute_with, substitute_at, argument_with, function_at, item_from, item_at, match_to, function_after, item_with, item_of}
-use Rattle.sedscript.specs.Functions.{or_fault, ended, may_end, text_from, name_from, spanned, ◌>>=◌ as ◌then◌, fault_if}
-use Rattle.sedscript.specs.Between.{no_flags, numbered, with_number, with_flag, flags_from, own_delimiter, strings_after, substitute_strings, transliterate_strings, unless_fault, flags_after, with_file, ends_flags, folds}
+use Rattle.sedscript.specs.Arguments.{to_command_end, may_end, text_from, name_from, spanned, no_flags, numbered, with_number, with_flag, flags_from, own_delimiter, strings_after, substitute_strings, transliterate_strings, unless_fault, flags_after, with_file, ends_flags, folds}
 use Rattle.sedscript.specs.Letters.{argument_of, allowed, verb_of, most_addresses, transliterate_at, substituted}
-use Rattle.sedscript.specs.Targets.{written_in, branch_in, label_in, block_end, depth_after}
-use Rattle.sedscript.specs.Script.{target_fault_at, target_fault_in, target_fault, Gives, value, after_expression, IsRead, CutScript, done, item, Means, IsEnd}
+use Rattle.sedscript.specs.Script.{written_in, branch_in, label_in, block_end, depth_after, target_fault_at, target_fault_in, target_fault, Gives, value, after_expression, IsRead, CutScript, done, item, Means, IsEnd}
 use Rattle.sedscript.specs.FirstFault.{Fails, Faulty, own, no_expression, later, early, afterwards}
 use Rattle.sedscript.specs.Program.{Program}
 use Rattle.examples.specs.Blocks.{IsStray, IsUnclosed}
@@ -275,7 +273,7 @@ module _ (kind : Kind) (max_nodes : ℕ) (text : List ℕ) where
   abbrev SoundFound : Argument × ℕ → Type 0
   SoundFound x = Sound x.0
 
-  ended_walk : (f : Argument) (at : ℕ) → Sound f → Walk SoundFound (ended text f at)
+  ended_walk : (f : Argument) (at : ℕ) → Sound f → Walk SoundFound (to_command_end text f at)
   ended_walk f at h = walk_if SoundFound (may_end (slice_get text (past Blank text at))) _ _ h tt
 
   -- the second string, where it ends
@@ -330,9 +328,9 @@ module _ (kind : Kind) (max_nodes : ℕ) (text : List ℕ) where
   unfolding transliterate_at
   transliterate_walk at letter =
       walk_then (λ (s : Strings). transliterate_strings text (at + 1) (own_delimiter (slice_get text (at + 1))) ≡ Ok s) SoundFound (transliterate_strings text (at + 1) (own_delimiter (slice_get text (at + 1))))
-      (λ (s : Strings). unless_fault (strings_fault text s.delimiter at s.from s.middle s.to) (ended text (Pair s) (s.to + 1)))
+      (λ (s : Strings). unless_fault (strings_fault text s.delimiter at s.from s.middle s.to) (to_command_end text (Pair s) (s.to + 1)))
       (walk_read (transliterate_strings text (at + 1) (own_delimiter (slice_get text (at + 1)))) (transliterate_strings_walk (at + 1) (own_delimiter (slice_get text (at + 1)))))
-      (λ s is. walk_unless SoundFound (strings_fault text s.delimiter at s.from s.middle s.to) (ended text (Pair s) (s.to + 1)) (strings_told at s (letter, is))
+      (λ s is. walk_unless SoundFound (strings_fault text s.delimiter at s.from s.middle s.to) (to_command_end text (Pair s) (s.to + 1)) (strings_told at s (letter, is))
       (λ none. ended_walk (Pair s) (s.to + 1) (pairs text at s none, none_wrong text at s none)))
 
   letter_of_text : (u : TextUse) (letter : ℕ) → verb_of letter ≡ Some (Text u) → letter ≡ letter_of u
@@ -367,7 +365,7 @@ module _ (kind : Kind) (max_nodes : ℕ) (text : List ℕ) where
       walk_unless SoundFound (replacement_fault s.delimiter groups false (s.middle + 1) (bytes_between text (s.middle + 1) s.to)) _
       (escape_told (wrong_in_replacement s.delimiter groups) (s.middle + 1) s.to _ (replacement_reason s.delimiter groups) (λ f h. in_replacement at s groups there has h)
       (replacement_fault_first text s.delimiter groups (s.middle + 1) s.to))
-      (λ none. walk_then Any SoundFound (flags_after text s (not (is_some e))) (λ (found : Flags × ℕ). ended text (FlaggedPair s e found.0) found.1)
+      (λ none. walk_then Any SoundFound (flags_after text s (not (is_some e))) (λ (found : Flags × ℕ). to_command_end text (FlaggedPair s e found.0) found.1)
       (flags_walk (not (is_some e)) no_flags 0 (s.to + 1) (drop (s.to + 1) text))
       (λ found h. ended_walk (FlaggedPair s e found.0) found.1
       (groups, has, subst (FirstWrong (wrong_in_replacement s.delimiter groups) text (s.middle + 1) s.to) none (replacement_fault_first text s.delimiter groups (s.middle + 1) s.to))))

@@ -5,8 +5,7 @@ use Rattle.sedscript.specs.declared.types.ScriptFault.{ScriptFault}
 use Rattle.sedscript.specs.declared.types.Reason.TheVariants.{RepeatedByte, LengthsDiffer}
 use Rattle.sedscript.specs.declared.transliteration.Char.{Char}
 use Rattle.sedscript.specs.declared.items.Strings.{Strings}
-use Rattle.sedscript.specs.Bytes.{bytes_between}
-use Rattle.sedscript.specs.Functions.{◌>>=◌ as ◌then◌}
+use Rattle.sedscript.specs.Bytes.{bytes_between, ◌>>=◌ as ◌then◌}
 use Rattle.sedscript.specs.Strings.{chars_of, bytes_of, is_among, repeated_in, string_fault, strings_fault, repeated_fault}
 use Rattle.examples.specs.Strings.{NoneTwice, RepeatsFirst}
 use Rattle.examples.proofs.BackslashLemmas.{same_byte}

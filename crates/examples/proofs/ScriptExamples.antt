@@ -11,13 +11,13 @@ use Rattle.sedscript.specs.declared.types.Address.TheVariants as address
 use Rattle.examples.proofs.ComputedScript.{verdict, cutting, walked, Script, is_script}
 use Rattle.examples.proofs.ScriptWords.{always, at, from_to, unless}
 use Rattle.examples.proofs.ExampleWords.{byte}
-use Rattle.sedre.specs.Items.{item_at as expression_item_at, interval}
+use Rattle.sedre.specs.Items.{item_at as expression_item_at, front_interval}
 use Rattle.sedre.specs.Brackets.{delimiter_at}
 use Rattle.examples.proofs.ComputedReading.{outcome, rest_of, written as written_out}
 use Rattle.sedscript.specs.Bytes.{past}
 use Rattle.sedscript.specs.Items.{match_at, address_at, second_at, addresses_at, substitute_at, function_at, item_at}
 use Rattle.sedscript.specs.Letters.{substituted}
-use Rattle.sedscript.specs.Functions.{text_from}
+use Rattle.sedscript.specs.Arguments.{text_from}
 
 -- Commands and what stands between them.
 
@@ -172,7 +172,7 @@ unfolding verdict cutting walked item_at past function_at addresses_at address_a
 block = is_script refl
 
 block_and_closing_semicolon : Script (codes "/a/{//p;}") Basic (λ s. s.commands ≡ at (address.Match (Some 0)) (action.Block 2) ∷ at (address.Match None) (action.Plain simple.Print) ∷ [])
-unfolding verdict cutting walked item_at past function_at addresses_at address_at match_at substitute_at substituted delimiter_at outcome rest_of expression_item_at interval text_from
+unfolding verdict cutting walked item_at past function_at addresses_at address_at match_at substitute_at substituted delimiter_at outcome rest_of expression_item_at front_interval text_from
 block_and_closing_semicolon = is_script refl
 
 empty_block : Script (codes "{};p") Basic (λ s. s.commands ≡ always (action.Block 1) ∷ always (action.Plain simple.Print) ∷ [])

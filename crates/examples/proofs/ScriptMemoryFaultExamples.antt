@@ -14,7 +14,7 @@ use Rattle.sedscript.specs.Items.{address_at, second_at, addresses_at, function_
 use Rattle.sedscript.specs.Answers.{fault_of}
 use Rattle.sedscript.specs.Bytes.{past}
 use Rattle.sedscript.specs.Faults.{number_of, name_of}
-use Rattle.sedscript.specs.Functions.{name_from, text_from}
+use Rattle.sedscript.specs.Arguments.{name_from, text_from}
 use Rattle.sedscript.specs.FirstFault.{Faulty}
 use Rattle.examples.proofs.ComputedScript.{Script, verdict, cutting, walked, is_script, has_fault}
 use Rattle.sedscript.proofs.Exclusive.{ReadsAsOne, means_no_fault}

@@ -5,14 +5,14 @@ use Rattle.std.specs.Prelude.{codes}
 use Rattle.examples.proofs.ComputedReading.{outcome, rest_of}
 use Rattle.sedre.specs.Tree.{tree_at, tree_within}
 use Rattle.sedre.specs.Brackets.{list_at, list_end, delimiter_at}
-use Rattle.sedre.specs.Items.{interval, item_at as expression_item_at}
+use Rattle.sedre.specs.Items.{front_interval, item_at as expression_item_at}
 use Rattle.sedre.specs.Sets.{set_of}
-use Rattle.sedmatch.specs.Matching.{any, greatest, copies, spans, longest, found_from, found, cut, first_copy, last_start, groups_after, report}
+use Rattle.sedmatch.specs.Matching.{any, greatest, copies, spans, longest, found_from, leftmost_longest, cut, first_copy, last_start, groups_after, report}
 use Rattle.examples.proofs.ComputedScript.{verdict, cutting, walked, is_script}
 use Rattle.sedscript.specs.Items.{match_at, address_at, second_at, addresses_at, substitute_at, function_at, item_at}
 use Rattle.sedscript.specs.Letters.{substituted}
 use Rattle.sedscript.specs.Bytes.{past}
-use Rattle.sedscript.specs.Functions.{name_from, text_from}
+use Rattle.sedscript.specs.Arguments.{name_from, text_from}
 use Rattle.sedspace.specs.Lines.{lines}
 use Rattle.sedengine.specs.Move.{next_move, to_sink}
 use Rattle.sedengine.specs.Select.{selects}
@@ -22,7 +22,7 @@ use Rattle.sedre.specs.declared.types.Kind.TheVariants.{Basic}
 
 -- `g` brings back what `h` kept.
 copied_from_the_hold_space : Writes (codes "h;s/a/b/;g") (codes "a\n") (codes "a\n")
-unfolding verdict cutting walked item_at past function_at addresses_at address_at second_at text_from name_from lines course next_move selects match_at substitute_at substituted delimiter_at outcome rest_of expression_item_at interval set_of tree_at tree_within list_at list_end found found_from longest greatest spans any copies report groups_after cut first_copy last_start occurrences_from
+unfolding verdict cutting walked item_at past function_at addresses_at address_at second_at text_from name_from lines course next_move selects match_at substitute_at substituted delimiter_at outcome rest_of expression_item_at front_interval set_of tree_at tree_within list_at list_end leftmost_longest found_from longest greatest spans any copies report groups_after cut first_copy last_start occurrences_from
 copied_from_the_hold_space = is_script (ends_after 200 refl refl)
 
 reversed_lines : Writes (codes "1!G;h;$!d") (codes "1\n2\n3\n") (codes "3\n2\n1\n")
@@ -35,7 +35,7 @@ unfolding verdict cutting walked item_at past function_at addresses_at address_a
 no_next_line_in_a_loop = is_script (ends_after 200 refl refl)
 
 lines_joined_in_a_loop : Writes (codes ":a;$!{N;ba;};s/\\n/-/g") (codes "1\n2\n3\n") (codes "1-2-3\n")
-unfolding verdict cutting walked item_at past function_at addresses_at address_at second_at text_from name_from lines course next_move selects match_at substitute_at substituted delimiter_at outcome rest_of expression_item_at interval set_of tree_at tree_within list_at list_end found found_from longest greatest spans any copies report groups_after cut first_copy last_start occurrences_from
+unfolding verdict cutting walked item_at past function_at addresses_at address_at second_at text_from name_from lines course next_move selects match_at substitute_at substituted delimiter_at outcome rest_of expression_item_at front_interval set_of tree_at tree_within list_at list_end leftmost_longest found_from longest greatest spans any copies report groups_after cut first_copy last_start occurrences_from
 lines_joined_in_a_loop = is_script (ends_after 200 refl refl)
 
 text_after_a_deletion : Writes (codes "a X\nD") (codes "a\n") (codes "X\n")
@@ -56,7 +56,7 @@ write_to_a_file = is_script (ends_after 200 refl refl)
 -- The flag `w` of `s`, after its flag `p`.
 flag_write : Edits Basic plain no_files (codes "s/a/b/pw out") (codes "a\n")
     (to_sink 0 (codes "b\n") ++ to_sink 1 (codes "b\n") ++ to_sink 0 (codes "b\n"))
-unfolding verdict cutting walked item_at past function_at addresses_at address_at second_at text_from name_from lines course next_move selects match_at substitute_at substituted delimiter_at outcome rest_of expression_item_at interval set_of tree_at tree_within list_at list_end found found_from longest greatest spans any copies report groups_after cut first_copy last_start occurrences_from
+unfolding verdict cutting walked item_at past function_at addresses_at address_at second_at text_from name_from lines course next_move selects match_at substitute_at substituted delimiter_at outcome rest_of expression_item_at front_interval set_of tree_at tree_within list_at list_end leftmost_longest found_from longest greatest spans any copies report groups_after cut first_copy last_start occurrences_from
 flag_write = is_script (ends_after 200 refl refl)
 
 write_to_the_standard_output : Writes (codes "w /dev/stdout") (codes "a\n") (codes "a\na\n")
@@ -114,7 +114,7 @@ file_without_a_newline = is_script (ends_after 200 refl refl)
 
 -- With -n.
 hold_space_by_the_end : QuietlyWrites (codes "H;${x;s/\\n/,/g;p}") (codes "a\nb\n") (codes ",a,b\n")
-unfolding verdict cutting walked item_at past function_at addresses_at address_at second_at text_from name_from lines course next_move selects match_at substitute_at substituted delimiter_at outcome rest_of expression_item_at interval set_of tree_at tree_within list_at list_end found found_from longest greatest spans any copies report groups_after cut first_copy last_start occurrences_from
+unfolding verdict cutting walked item_at past function_at addresses_at address_at second_at text_from name_from lines course next_move selects match_at substitute_at substituted delimiter_at outcome rest_of expression_item_at front_interval set_of tree_at tree_within list_at list_end leftmost_longest found_from longest greatest spans any copies report groups_after cut first_copy last_start occurrences_from
 hold_space_by_the_end = is_script (ends_after 200 refl refl)
 
 file_without_input : Writes (codes "w out") (codes "") (codes "")

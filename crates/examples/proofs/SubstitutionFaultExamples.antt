@@ -8,13 +8,13 @@ use Rattle.sedscript.specs.declared.types.Reason.TheVariants as fault
 use Rattle.sedscript.specs.FirstFault.{Faulty}
 use Rattle.examples.proofs.ComputedScript.{verdict, cutting, walked, has_fault}
 use Rattle.examples.proofs.ScriptWords.{fault_at, expression_fault_at}
-use Rattle.sedre.specs.Items.{item_at as expression_item_at, interval}
+use Rattle.sedre.specs.Items.{item_at as expression_item_at, front_interval}
 use Rattle.sedre.specs.Brackets.{list_at, list_end, delimiter_at}
 use Rattle.examples.proofs.ComputedReading.{outcome, rest_of}
 use Rattle.sedscript.specs.Bytes.{past}
 use Rattle.sedscript.specs.Items.{match_at, address_at, second_at, addresses_at, substitute_at, function_at, item_at}
 use Rattle.sedscript.specs.Letters.{substituted, transliterate_at}
-use Rattle.sedscript.specs.Functions.{text_from, name_from}
+use Rattle.sedscript.specs.Arguments.{text_from, name_from}
 
 -- A delimiter isn't there, or is none.
 
@@ -97,7 +97,7 @@ unfolding verdict cutting walked item_at past function_at addresses_at address_a
 back_reference = has_fault refl
 
 interval_with_numbers_in_disorder : Faulty (codes "s/a\\{3,2\\}/x/") Basic 65536 (expression_fault_at 3 1 expression.BadInterval)
-unfolding verdict cutting walked item_at past function_at addresses_at address_at second_at match_at substitute_at substituted delimiter_at outcome rest_of expression_item_at interval text_from
+unfolding verdict cutting walked item_at past function_at addresses_at address_at second_at match_at substitute_at substituted delimiter_at outcome rest_of expression_item_at front_interval text_from
 interval_with_numbers_in_disorder = has_fault refl
 
 too_many_nodes : Faulty (codes "s/ab/x/") Basic 1 (expression_fault_at 4 2 expression.TooManyNodes)

@@ -4,7 +4,7 @@ use Rattle.std.proofs.Common.{true, false, Some, None, refl}
 use Rattle.std.specs.Prelude.{codes}
 use Rattle.sedre.specs.declared.types.Kind.TheVariants.{Basic, Extended}
 use Rattle.sedre.specs.Tree.{empty, begin, end, seq, alt, group, star, opt}
-use Rattle.sedre.specs.Items.{item_at, interval}
+use Rattle.sedre.specs.Items.{item_at, front_interval}
 use Rattle.sedre.specs.Brackets.{list_at}
 use Rattle.sedre.specs.Grammar.{ReadsAs}
 use Rattle.examples.proofs.ComputedReading.{outcome, rest_of, reads_as}
@@ -113,7 +113,7 @@ unfolding outcome rest_of item_at
 dollar_before_a_star = reads_as refl
 
 question_mark_after_an_interval : ReadsAs Basic false None (codes "a\\{2\\}?") (seq (seq a a) (byte 63)) 0
-unfolding outcome rest_of item_at interval
+unfolding outcome rest_of item_at front_interval
 question_mark_after_an_interval = reads_as refl
 
 dollar_everywhere : ReadsAs Extended false None (codes "a$b") (seq a (seq end b)) 0
@@ -171,11 +171,11 @@ plus_of_an_option = reads_as refl
 -- What is a symbol in one kind is a byte in the other, and ] and } outside of what they close are bytes.
 
 bytes_of_basic_expressions : ReadsAs Basic false None (codes "a{+?|()") (literally (codes "a{+?|()")) 0
-unfolding outcome rest_of item_at interval
+unfolding outcome rest_of item_at front_interval
 bytes_of_basic_expressions = reads_as refl
 
 braces_of_basic_expressions : ReadsAs Basic false None (codes "a{1}") (literally (codes "a{1}")) 0
-unfolding outcome rest_of item_at interval
+unfolding outcome rest_of item_at front_interval
 braces_of_basic_expressions = reads_as refl
 
 closing_brace_extended : ReadsAs Extended false None (codes "a}") (literally (codes "a}")) 0
@@ -183,7 +183,7 @@ unfolding outcome rest_of item_at
 closing_brace_extended = reads_as refl
 
 escaped_brace_extended : ReadsAs Extended false None (codes "\\{}") (literally (codes "{}")) 0
-unfolding outcome rest_of item_at interval
+unfolding outcome rest_of item_at front_interval
 escaped_brace_extended = reads_as refl
 
 closing_bracket_basic : ReadsAs Basic false None (codes "a]") (literally (codes "a]")) 0
@@ -231,15 +231,15 @@ escaped_symbols_extended = reads_as refl
 -- Numbers of intervals go up to 255 and may begin with zeros (this project's own).
 
 leading_zeros : ReadsAs Extended false None (codes "a{01,002}") (seq a (opt a false)) 0
-unfolding outcome rest_of item_at interval
+unfolding outcome rest_of item_at front_interval
 leading_zeros = reads_as refl
 
 many_leading_zeros : ReadsAs Extended false None (codes "a{0000}") empty 0
-unfolding outcome rest_of item_at interval
+unfolding outcome rest_of item_at front_interval
 many_leading_zeros = reads_as refl
 
 greatest_number : Counts Extended (codes "a{255}") 509 0
-unfolding outcome rest_of item_at interval
+unfolding outcome rest_of item_at front_interval
 greatest_number = counted refl
 
 -- A backslash and the delimiter are the delimiter as a byte, whatever it means otherwise (XCU sed, "Regular Expressions
@@ -266,7 +266,7 @@ unfolding outcome rest_of item_at
 dollar_before_a_closing_as_delimiter = reads_as refl
 
 brace_as_delimiter : ReadsAs Basic false (Some 123) (codes "a\\{2}") (literally (codes "a{2}")) 0
-unfolding outcome rest_of item_at interval
+unfolding outcome rest_of item_at front_interval
 brace_as_delimiter = reads_as refl
 
 n_as_delimiter : ReadsAs Basic false (Some 110) (codes "\\n") (byte 110) 0

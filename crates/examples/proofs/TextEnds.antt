@@ -4,7 +4,7 @@ use Rattle.std.proofs.lemmas.Bool.{eqb-true, eqb-false, and_parts}
 use Rattle.std.proofs.lemmas.Option.{slice_get_within, some_pair_parts}
 use Rattle.sedscript.specs.declared.texts.Inside.{Inside}
 use Rattle.sedscript.specs.declared.texts.Inside.TheVariants.{InLine, Escape, Due}
-use Rattle.sedscript.specs.Functions.{text_from, text_end, stops, inside_after}
+use Rattle.sedscript.specs.Arguments.{text_from, text_end, stops, inside_after}
 use Rattle.sedscript.specs.Bytes.{is_byte}
 use Rattle.examples.specs.Backslashes.{IsUnescaped, NoneUnescaped}
 use Rattle.examples.proofs.BackslashLemmas.{Reaches, reaches_end, reaches_here, reaches_later, next, none_before, stands_last, odd_more, even_more}

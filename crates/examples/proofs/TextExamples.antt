@@ -16,13 +16,13 @@ use Rattle.sedscript.specs.Strings.{table_of}
 use Rattle.examples.proofs.ComputedScript.{verdict, cutting, walked, Script, is_script}
 use Rattle.examples.proofs.ScriptWords.{always, at, from_to, substitution}
 use Rattle.examples.proofs.ExampleWords.{byte}
-use Rattle.sedre.specs.Items.{item_at as expression_item_at, interval}
+use Rattle.sedre.specs.Items.{item_at as expression_item_at, front_interval}
 use Rattle.sedre.specs.Brackets.{list_at, list_end, delimiter_at}
 use Rattle.examples.proofs.ComputedReading.{outcome, rest_of, written as written_out}
 use Rattle.sedscript.specs.Bytes.{past}
 use Rattle.sedscript.specs.Items.{match_at, address_at, second_at, addresses_at, substitute_at, function_at, item_at}
 use Rattle.sedscript.specs.Letters.{substituted, transliterate_at}
-use Rattle.sedscript.specs.Functions.{text_from, name_from}
+use Rattle.sedscript.specs.Arguments.{text_from, name_from}
 
 -- Texts of `a`, `i` and `c`; the one-line form is this project's own.
 
@@ -240,7 +240,7 @@ unfolding verdict cutting walked item_at past function_at addresses_at address_a
 folded_expression = is_script refl
 
 flags_before_a_closing : Script (codes "{s/a/b/g}") Basic (λ s. s.commands ≡ always (action.Block 2) ∷ always (action.Substitute 0) ∷ [])
-unfolding verdict cutting walked item_at past function_at addresses_at address_at match_at substitute_at substituted delimiter_at outcome rest_of expression_item_at interval text_from
+unfolding verdict cutting walked item_at past function_at addresses_at address_at match_at substitute_at substituted delimiter_at outcome rest_of expression_item_at front_interval text_from
 flags_before_a_closing = is_script refl
 
 -- Tables of `y`.
@@ -270,7 +270,7 @@ unfolding verdict cutting walked item_at past function_at addresses_at address_a
 empty_strings = is_script refl
 
 y_before_a_closing : Script (codes "{y/a/b/}") Basic (λ s. s.commands ≡ always (action.Block 2) ∷ always (action.Transliterate 0) ∷ [])
-unfolding verdict cutting walked item_at past function_at addresses_at address_at match_at substitute_at substituted delimiter_at outcome rest_of expression_item_at interval transliterate_at text_from
+unfolding verdict cutting walked item_at past function_at addresses_at address_at match_at substitute_at substituted delimiter_at outcome rest_of expression_item_at front_interval transliterate_at text_from
 y_before_a_closing = is_script refl
 
 -- The text of a script that is put together from parts: each ends with a newline (this project's own).

@@ -5,7 +5,7 @@ use Rattle.std.specs.Prelude.{codes}
 use Rattle.examples.proofs.ComputedScript.{verdict, cutting, walked, is_script}
 use Rattle.sedscript.specs.Items.{address_at, second_at, addresses_at, function_at, item_at}
 use Rattle.sedscript.specs.Bytes.{past}
-use Rattle.sedscript.specs.Functions.{name_from, text_from}
+use Rattle.sedscript.specs.Arguments.{name_from, text_from}
 use Rattle.sedspace.specs.Lines.{lines}
 use Rattle.sedengine.specs.Move.{next_move}
 use Rattle.sedengine.specs.Select.{selects}

@@ -8,8 +8,7 @@ use Rattle.sedscript.specs.declared.types.ScriptFault.{ScriptFault}
 use Rattle.sedscript.specs.declared.types.Reason.{Reason}
 use Rattle.sedscript.specs.declared.types.Reason.TheVariants.{BadEscape, GroupAbsent}
 use Rattle.sedscript.specs.declared.substitution.Piece.TheVariants.{Literal as literal, Whole as whole, Group as group}
-use Rattle.sedscript.specs.Bytes.{bytes_between, is_digit}
-use Rattle.sedscript.specs.Functions.{fault_if}
+use Rattle.sedscript.specs.Bytes.{bytes_between, is_digit, fault_if}
 use Rattle.sedscript.specs.Strings.{string_fault, is_letter, exceeds, piece_fault, replacement_fault}
 use Rattle.examples.specs.Backslashes.{backslashes}
 use Rattle.examples.specs.Escapes.{wrong_in_string, wrong_in_replacement, IsEscape, FirstWrong}

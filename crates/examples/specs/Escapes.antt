@@ -8,7 +8,7 @@ use Rattle.sedscript.specs.declared.types.ScriptFault.{ScriptFault}
 use Rattle.sedscript.specs.declared.types.Reason.{Reason}
 use Rattle.sedscript.specs.declared.types.Reason.TheVariants.{BadEscape, GroupAbsent}
 use Rattle.sedscript.specs.declared.items.Strings.{Strings}
-use Rattle.sedscript.specs.Between.{own_delimiter, substitute_strings}
+use Rattle.sedscript.specs.Arguments.{own_delimiter, substitute_strings}
 use Rattle.sedscript.specs.Bytes.{is_digit}
 use Rattle.sedscript.specs.Script.{IsRead}
 use Rattle.sedscript.specs.Strings.{is_letter, exceeds}

@@ -2,7 +2,7 @@
 use Rattle.std.specs.Prelude.{◌≡◌, ◌≤◌, ◌<◌, ℕ, List, Some, slice_get, filter_map}
 use Rattle.sedscript.specs.declared.types.FileUse.{FileUse}
 use Rattle.sedscript.specs.declared.items.Item.{Item}
-use Rattle.sedscript.specs.Targets.{file_in, name_in}
+use Rattle.sedscript.specs.Script.{file_in, name_in}
 
 -- the names of files that the items read, or write, one after the other. That of the standard output isn't a file's,
 -- where it is written to

@@ -1,7 +1,7 @@
 -- The strings of `y` as they are written (XCU sed, "Editing Commands in sed": `y`).
 use Rattle.std.specs.Prelude.{◌≡◌, ℕ, ◌+◌, List, [], ◌∷◌, ◌++◌, Some, slice_get, if◌then◌else◌, ◌==◌, ◌||◌, Ok}
 use Rattle.sedscript.specs.declared.items.Strings.{Strings}
-use Rattle.sedscript.specs.Between.{own_delimiter, transliterate_strings}
+use Rattle.sedscript.specs.Arguments.{own_delimiter, transliterate_strings}
 use Rattle.sedscript.specs.declared.transliteration.Char.{Char}
 use Rattle.sedscript.specs.Strings.{bytes_of}
 

@@ -2,7 +2,7 @@
 use Rattle.std.proofs.Common.{◌≡◌, ◌⊎◌, inl, inr, ℕ, zero, suc, ◌+◌, ◌-◌, ◌<◌, ◌≤◌, List, [], ◌++◌, length, Option, None, Some, refl, sym, ap, subst, ◌∙◌, append-nil, arith}
 use Rattle.sedengine.specs.State.{Limits, State, Move, Setting}
 use Rattle.sedengine.specs.Move.{after, next_move, written}
-use Rattle.sedengine.specs.Ends.{WithinLimits, Cause}
+use Rattle.sedengine.specs.Ends.{WithinLimits, IsCause}
 use Rattle.sedengine.specs.declared.ends.Ended.{Ended}
 use Rattle.sedengine.specs.declared.ends.Ended.TheVariants.{Done, PatternFull, HoldFull, QueueFull, TurnsSpent, NoPrevious, InputBroken, OutputBroken, OutputFull}
 use Rattle.sedengine.proofs.Moves.{after-add, written-add, move_at}
@@ -55,7 +55,7 @@ module _ (g : Setting) (s : State) where
 -- A run whose states are within the limits up to its end, turns to spare, ends in the ordinary way, where no device has failed or
 -- is full.
 pub ends_done : (l : Limits) (g : Setting) (s : State) (out : List (ℕ × ℕ)) (n : ℕ) (all : List (ℕ × ℕ)) → (after g s n).tasks ≡ [] → written g s n ≡ all →
-    ((k : ℕ) → k ≤ n → WithinLimits l (after g s k)) → ((k : ℕ) → k ≤ n → (after g s k).turns < l.turns) → (end : Ended) (t : ℕ) → NoDevice end → Cause l g s out end t → (end ≡ Done) × (out ≡ all)
+    ((k : ℕ) → k ≤ n → WithinLimits l (after g s k)) → ((k : ℕ) → k ≤ n → (after g s k).turns < l.turns) → (end : Ended) (t : ℕ) → NoDevice end → IsCause l g s out end t → (end ≡ Done) × (out ≡ all)
 ends_done l g s out n all ended wrote fits spare Done t free c = (refl, sym c.wrote ∙ both_ended g s n t ended c.cause ∙ wrote)
 ends_done l g s out n all ended wrote fits spare (PatternFull i) t free c =
     let lead = c.cause in

@@ -13,7 +13,7 @@ use Rattle.sedscript.specs.declared.types.BranchUse.TheVariants.{Always, IfRepla
 use Rattle.sedscript.specs.declared.types.FileUse.TheVariants.{Read, Write}
 use Rattle.sedscript.specs.declared.types.TextUse.TheVariants.{Append, Change, Insert}
 use Rattle.sedscript.specs.declared.substitution.Substitution.{Substitution}
-use Rattle.sedengine.specs.State.{Entry, text, file, Task, begin, rebegin, do_at, print_pattern, empty_pattern, flush, copy, fetch, join, State, Move, Setting}
+use Rattle.sedengine.specs.State.{Entry, text_entry, file_entry, Task, begin, rebegin, do_at, print_pattern, empty_pattern, flush, copy, fetch, join, State, Move, Setting}
 use Rattle.sedengine.specs.Substitute.{Occurrence}
 use Rattle.sedengine.specs.Select.{Selection, selects, stands_for}
 use Rattle.sedengine.specs.Move.{acts, after, begins, copies, first_task, flushes, next_move, passes, reach, replaces, substitutes, start, written, quietly}
@@ -192,8 +192,8 @@ module _ (g : Setting) (more ls : List (List ℕ)) (n n' : ℕ) (p h h' : List �
 
   flushes_both : (rest : List Task) → Clean rest [] → (ts : List Task) (q' : List Entry) → Both more (flushes (record (one ts) { queue = q' }) rest q') (flushes (record (other ts) { queue = q' }) rest q')
   flushes_both rest c ts [] = (refl, record { lines = refl; queue = refl; tasks = refl; clean = c; same = same_text rest _ _ refl refl })
-  flushes_both rest c ts (text bytes ∷ q') = (refl, record { lines = refl; queue = refl; tasks = refl; clean = c; same = (refl, refl) })
-  flushes_both rest c ts (file k ∷ q') = (refl, record { lines = refl; queue = refl; tasks = refl; clean = c; same = (refl, refl) })
+  flushes_both rest c ts (text_entry bytes ∷ q') = (refl, record { lines = refl; queue = refl; tasks = refl; clean = c; same = (refl, refl) })
+  flushes_both rest c ts (file_entry k ∷ q') = (refl, record { lines = refl; queue = refl; tasks = refl; clean = c; same = (refl, refl) })
 
   copies_both : (rest : List Task) → Clean rest q → (ts : List Task) (k o : ℕ) (b : Option ℕ) → Both more (copies (one ts) rest k o b) (copies (other ts) rest k o b)
   copies_both rest c ts k o None = (refl, record { lines = refl; queue = refl; tasks = refl; clean = c; same = same_text rest _ _ refl refl })

@@ -16,8 +16,7 @@ use Rattle.sedscript.specs.Bytes.{past}
 use Rattle.sedscript.specs.Strings.{is_among}
 use Rattle.sedscript.specs.Items.{Reading, plainly, expression, ◌>>=◌, addresses_at, with_bang, argument_with, function_at, item_from, item_at, function_after, item_with}
 use Rattle.sedscript.specs.Letters.{verb_of, most_addresses, allowed}
-use Rattle.sedscript.specs.Script.{Gives, value, after_expression, CutScript, done, item}
-use Rattle.sedscript.specs.Targets.{counted, is_label, label_in}
+use Rattle.sedscript.specs.Script.{Gives, value, after_expression, CutScript, done, item, counted, is_label, label_in}
 use Rattle.scripts.specs.OneText.{HasLabel}
 
 -- what is so of a value that is read

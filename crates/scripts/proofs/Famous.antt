@@ -12,7 +12,7 @@ use Rattle.sedscript.specs.declared.types.Address.TheVariants.{Line, Last, Match
 use Rattle.sedscript.specs.declared.substitution.Piece.{Piece}
 use Rattle.sedscript.specs.Items.{address_at, match_at, second_at, addresses_at, function_at, item_at, substitute_at}
 use Rattle.sedscript.specs.Bytes.{past}
-use Rattle.sedscript.specs.Functions.{name_from, text_from}
+use Rattle.sedscript.specs.Arguments.{name_from, text_from}
 use Rattle.sedscript.specs.Pieces.{GroupsWithin}
 use Rattle.sedscript.specs.Script.{Means}
 use Rattle.sedscript.specs.Program.{Program}
@@ -20,7 +20,7 @@ use Rattle.sedspace.specs.Lines.{lines, is_newline}
 use Rattle.sedengine.specs.Move.{line_to, newline, start, to_sink}
 use Rattle.std.specs.List.{list_any}
 use Rattle.std.proofs.lemmas.Bool.{eqb-true}
-use Rattle.sedmatch.specs.Matching.{found, report}
+use Rattle.sedmatch.specs.Matching.{leftmost_longest, report}
 use Rattle.sedengine.specs.Ends.{part}
 use Rattle.sedengine.specs.Substitute.{Occurrence}
 use Rattle.sedengine.proofs.Gains.{part-append, part-same, part-other}
@@ -28,7 +28,7 @@ use Rattle.sedengine.specs.State.{finds_in, search_in, occurrence_at_span}
 use Rattle.sedengine.specs.Substitute.{occurrences, replaced_from}
 use Rattle.std.proofs.Math.Path.{fun_ext}
 use Rattle.sedre.specs.Brackets.{delimiter_at}
-use Rattle.sedre.specs.Items.{interval, item_at as expression_item_at}
+use Rattle.sedre.specs.Items.{front_interval, item_at as expression_item_at}
 use Rattle.sedre.specs.Sets.{set_of}
 use Rattle.sedscript.specs.Letters.{substituted}
 use Rattle.sedscript.specs.declared.substitution.Piece.TheVariants.{Literal}
@@ -201,7 +201,7 @@ module _ (one : OneMeaning) where
   })
 
   joining_means : Means (codes ":a;$!{N;ba;};s/\\n/,/g") Basic 65536 joining
-  unfolding verdict cutting walked item_at past function_at addresses_at address_at second_at text_from name_from match_at substitute_at substituted delimiter_at outcome rest_of expression_item_at interval set_of
+  unfolding verdict cutting walked item_at past function_at addresses_at address_at second_at text_from name_from match_at substitute_at substituted delimiter_at outcome rest_of expression_item_at front_interval set_of
   joining_means = meant _ _ refl
 
   first_newline : (left : List ℕ) → (list_any is_newline left ≡ false) ⊎ ((before : List ℕ) × (behind : List ℕ) × (left ≡ before ++ 10 ∷ behind) × (list_any is_newline before ≡ false))
@@ -216,13 +216,13 @@ module _ (one : OneMeaning) where
 
   seeks_newlines : (e : WrittenExpression) → expression_tree e ≡ newline_alone → SeeksNewlines (search_in (e ∷ []))
   seeks_newlines e same passed left = elim (first_newline left) [
-    | inl h ↦ inl (h, ap (λ t. option_map (occurrence_at_span e (passed ++ left)) (found t (passed ++ left) (length passed))) same ∙ ap (option_map (occurrence_at_span e (passed ++ left))) (none_found passed left h))
+    | inl h ↦ inl (h, ap (λ t. option_map (occurrence_at_span e (passed ++ left)) (leftmost_longest t (passed ++ left) (length passed))) same ∙ ap (option_map (occurrence_at_span e (passed ++ left))) (none_found passed left h))
     | inr h ↦
         let w : List ℕ = passed ++ left in
         let i : ℕ = length passed + length h.0 in
         let m : Occurrence = record { start = i; end = i + 1; groups = report (expression_tree e) w i (i + 1) } in
-        let there : found newline_alone w (length passed) ≡ Some (i, i + 1) = rw h.2 (next_found passed h.0 h.1 h.3) in
-        inr (h.0, h.1, m, h.2, h.3, ap (λ t. option_map (occurrence_at_span e w) (found t w (length passed))) same ∙ ap (option_map (occurrence_at_span e w)) there, refl, refl)
+        let there : leftmost_longest newline_alone w (length passed) ≡ Some (i, i + 1) = rw h.2 (next_found passed h.0 h.1 h.3) in
+        inr (h.0, h.1, m, h.2, h.3, ap (λ t. option_map (occurrence_at_span e w) (leftmost_longest t w (length passed))) same ∙ ap (option_map (occurrence_at_span e w)) there, refl, refl)
   ]
 
   joins_any : (e : WrittenExpression) → expression_tree e ≡ newline_alone → (files : ℕ → List ℕ) (ls : List (List ℕ)) → NoneBroken ls →

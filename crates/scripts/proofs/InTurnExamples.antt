@@ -3,7 +3,7 @@
 use Rattle.std.proofs.Common.{◌≡◌, ℕ, zero, suc, [], ◌∷◌, true, false, Some, refl}
 use Rattle.std.specs.Prelude.{codes, slice_get}
 use Rattle.sedre.specs.Brackets.{delimiter_at, list_at, list_end}
-use Rattle.sedre.specs.Items.{interval, item_at as expression_item_at}
+use Rattle.sedre.specs.Items.{front_interval, item_at as expression_item_at}
 use Rattle.sedre.specs.Sets.{only, set_of}
 use Rattle.sedre.specs.Tree.{Tree, set, tree_at, tree_within}
 use Rattle.sedre.specs.declared.types.Kind.TheVariants.{Basic}
@@ -16,12 +16,12 @@ use Rattle.sedscript.specs.declared.substitution.Piece.TheVariants.{Literal}
 use Rattle.sedscript.specs.Items.{address_at, match_at, second_at, addresses_at, function_at, item_at, substitute_at}
 use Rattle.sedscript.specs.Letters.{substituted, transliterate_at}
 use Rattle.sedscript.specs.Bytes.{past}
-use Rattle.sedscript.specs.Functions.{name_from, text_from}
+use Rattle.sedscript.specs.Arguments.{name_from, text_from}
 use Rattle.sedscript.specs.Script.{Means}
 use Rattle.sedscript.specs.FirstFault.{Faulty}
 use Rattle.sedscript.specs.Program.{Program}
 use Rattle.sedscript.specs.Strings.{table_of}
-use Rattle.sedmatch.specs.Matching.{any, groups_after, copies, cut, first_copy, found, found_from, greatest, last_start, longest, report, spans}
+use Rattle.sedmatch.specs.Matching.{any, groups_after, copies, cut, first_copy, leftmost_longest, found_from, greatest, last_start, longest, report, spans}
 use Rattle.sedspace.specs.Lines.{is_newline, lines}
 use Rattle.sedengine.specs.Move.{in_table, next_move}
 use Rattle.sedengine.specs.Select.{selects}
@@ -55,15 +55,15 @@ second = record (of_commands (always (action.Substitute 0) ∷ always (action.Tr
 }
 
 first_means : Means (codes "/x/d\ns/a/b/") Basic 65536 first
-unfolding verdict cutting walked item_at past function_at addresses_at address_at second_at text_from name_from match_at substitute_at substituted delimiter_at outcome rest_of expression_item_at interval set_of
+unfolding verdict cutting walked item_at past function_at addresses_at address_at second_at text_from name_from match_at substitute_at substituted delimiter_at outcome rest_of expression_item_at front_interval set_of
 first_means = meant _ _ refl
 
 second_means : Means (codes "s/c/d/\ny/e/f/") Basic 65536 second
-unfolding verdict cutting walked item_at past function_at addresses_at address_at second_at text_from name_from match_at substitute_at substituted transliterate_at delimiter_at outcome rest_of expression_item_at interval set_of
+unfolding verdict cutting walked item_at past function_at addresses_at address_at second_at text_from name_from match_at substitute_at substituted transliterate_at delimiter_at outcome rest_of expression_item_at front_interval set_of
 second_means = meant _ _ refl
 
 both_means : Means (codes "/x/d\ns/a/b/\ns/c/d/\ny/e/f/") Basic 65536 (in_turn first second)
-unfolding verdict cutting walked item_at past function_at addresses_at address_at second_at text_from name_from match_at substitute_at substituted transliterate_at delimiter_at outcome rest_of expression_item_at interval set_of
+unfolding verdict cutting walked item_at past function_at addresses_at address_at second_at text_from name_from match_at substitute_at substituted transliterate_at delimiter_at outcome rest_of expression_item_at front_interval set_of
 both_means = meant _ _ refl
 
 -- the law is about this pair
@@ -117,15 +117,15 @@ both_last = is_script (ends_after 60 refl refl)
 -- ---- an empty expression in the second script, and a newline that the first one makes
 
 both_empty : Writes (codes "s/b/c/\n//d") (codes "a\nb\n") (codes "a\nc\n")
-unfolding verdict cutting walked item_at past function_at addresses_at address_at second_at text_from name_from lines course next_move selects match_at substitute_at substituted delimiter_at outcome rest_of expression_item_at interval set_of tree_at tree_within list_at list_end found found_from longest greatest spans any copies report groups_after cut first_copy last_start occurrences_from
+unfolding verdict cutting walked item_at past function_at addresses_at address_at second_at text_from name_from lines course next_move selects match_at substitute_at substituted delimiter_at outcome rest_of expression_item_at front_interval set_of tree_at tree_within list_at list_end leftmost_longest found_from longest greatest spans any copies report groups_after cut first_copy last_start occurrences_from
 both_empty = is_script (ends_after 100 refl refl)
 
 second_broken : Writes (codes "s/^y/z/") (codes "x\ny\nb\n") (codes "x\nz\nb\n")
-unfolding verdict cutting walked item_at past function_at addresses_at address_at second_at text_from name_from lines course next_move selects match_at substitute_at substituted delimiter_at outcome rest_of expression_item_at interval set_of tree_at tree_within list_at list_end found found_from longest greatest spans any copies report groups_after cut first_copy last_start occurrences_from
+unfolding verdict cutting walked item_at past function_at addresses_at address_at second_at text_from name_from lines course next_move selects match_at substitute_at substituted delimiter_at outcome rest_of expression_item_at front_interval set_of tree_at tree_within list_at list_end leftmost_longest found_from longest greatest spans any copies report groups_after cut first_copy last_start occurrences_from
 second_broken = is_script (ends_after 100 refl refl)
 
 both_broken : Writes (codes "s/a/x\\ny/\ns/^y/z/") (codes "a\nb\n") (codes "x\ny\nb\n")
-unfolding verdict cutting walked item_at past function_at addresses_at address_at second_at text_from name_from lines course next_move selects match_at substitute_at substituted delimiter_at outcome rest_of expression_item_at interval set_of tree_at tree_within list_at list_end found found_from longest greatest spans any copies report groups_after cut first_copy last_start occurrences_from
+unfolding verdict cutting walked item_at past function_at addresses_at address_at second_at text_from name_from lines course next_move selects match_at substitute_at substituted delimiter_at outcome rest_of expression_item_at front_interval set_of tree_at tree_within list_at list_end leftmost_longest found_from longest greatest spans any copies report groups_after cut first_copy last_start occurrences_from
 both_broken = is_script (ends_after 100 refl refl)
 
 -- ---- a name that is a label in both, and `#n`, which is a comment where it stands in a later line

@@ -16,11 +16,9 @@ use Rattle.sedscript.specs.declared.items.Argument.{Argument}
 use Rattle.sedscript.specs.declared.items.Argument.TheVariants.{FlaggedPair}
 use Rattle.sedscript.specs.declared.letters.Verb.{Verb}
 use Rattle.sedscript.specs.declared.letters.Verb.TheVariants.{Open, Close, Label, Branch, File, Substitute}
-use Rattle.sedscript.specs.Bytes.{bytes_between}
-use Rattle.sedscript.specs.Targets.{written_in, counted, commands_in, is_label, label_in, branch_in, depth_after, close_in, number_in}
+use Rattle.sedscript.specs.Bytes.{bytes_between, fault_if}
+use Rattle.sedscript.specs.Script.{written_in, counted, commands_in, is_label, label_in, branch_in, depth_after, close_in, number_in, target_fault_at, target_fault_in, substitution_in, substitutions_of, action_of, command_of, commands_of}
 use Rattle.sedscript.specs.Letters.{becomes_command, is_close}
-use Rattle.sedscript.specs.Functions.{fault_if}
-use Rattle.sedscript.specs.Script.{target_fault_at, target_fault_in, substitution_in, substitutions_of, action_of, command_of, commands_of}
 use Rattle.sedscript.specs.Program.{Program}
 use Rattle.examples.proofs.ComputedEnds.{both}
 use Rattle.scripts.specs.InTurn.{edits, is_own, replaces_only}

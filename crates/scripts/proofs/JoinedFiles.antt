@@ -12,7 +12,7 @@ use Rattle.sedscript.specs.declared.items.Argument.TheVariants.{FlaggedPair}
 use Rattle.sedscript.specs.declared.letters.Verb.{Verb}
 use Rattle.sedscript.specs.declared.letters.Verb.TheVariants.{File, Substitute}
 use Rattle.sedscript.specs.Bytes.{bytes_between}
-use Rattle.sedscript.specs.Targets.{written_in, is_standard_output, is_file, sink_name, name_in, file_in, distinct, files_in, number_in}
+use Rattle.sedscript.specs.Script.{written_in, is_standard_output, is_file, sink_name, name_in, file_in, distinct, files_in, number_in}
 use Rattle.sedscript.proofs.Bounds.{any_more, file_there}
 use Rattle.sedscript.proofs.FileTables.{any_distinct, any_number}
 use Rattle.scripts.specs.InTurn.{Before, sink_behind}

@@ -20,11 +20,10 @@ use Rattle.sedscript.specs.declared.letters.Verb.{Verb}
 use Rattle.sedscript.specs.declared.letters.Verb.TheVariants.{Plain, Open, Branch, Text, File, Substitute, Transliterate}
 use Rattle.sedscript.specs.declared.types.FileUse.{FileUse}
 use Rattle.sedscript.specs.declared.types.FileUse.TheVariants.{Write}
-use Rattle.sedscript.specs.Targets.{written_in, sink_name, number_in, counted, commands_in, depth_after, close_in, block_end, branch_in}
+use Rattle.sedscript.specs.Script.{written_in, sink_name, number_in, counted, commands_in, depth_after, close_in, block_end, branch_in, text_in, texts_of, substitution_in, substitutions_of, table_in, tables_of, action_of, command_of, commands_of, unescaped_from, Means}
 use Rattle.sedscript.specs.Letters.{becomes_command, is_close}
 use Rattle.sedscript.specs.Bytes.{bytes_between}
 use Rattle.sedscript.specs.Strings.{pieces_of, chars_from, bytes_of, table_of}
-use Rattle.sedscript.specs.Script.{text_in, texts_of, substitution_in, substitutions_of, table_in, tables_of, action_of, command_of, commands_of, unescaped_from, Means}
 use Rattle.sedscript.specs.Program.{Program}
 use Rattle.sedre.specs.declared.types.Kind.{Kind}
 use Rattle.sedscript.proofs.Chars.{same_bytes}

@@ -1,7 +1,7 @@
 -- What two texts with a newline between them mean.
-use Rattle.std.proofs.Common.{bytes_eq, ◌≡◌, ℕ, ◌+◌, ◌≤◌, ◌&&◌, ◌||◌, ◌==◌, ◌⊎◌, inl, inr, Bool, true, false, List, [], ◌∷◌, ◌++◌, length, map, Option, Some, None, refl, sym, ap, ap₂, subst, ◌∙◌, arith}
-use Rattle.std.specs.List.{list_all, list_any}
-use Rattle.std.specs.Prelude.{nat_lt, unwrap_or}
+use Rattle.std.proofs.Common.{bytes_eq, ◌≡◌, ℕ, suc, take, ◌+◌, ◌≤◌, ◌&&◌, ◌||◌, ◌==◌, ◌⊎◌, inl, inr, Bool, true, false, List, [], ◌∷◌, ◌++◌, length, map, Option, Some, None, refl, sym, ap, ap₂, subst, ◌∙◌, arith}
+use Rattle.std.specs.List.{list_all, list_any, take_while}
+use Rattle.std.specs.Prelude.{cond, nat_lt, unwrap_or}
 use Rattle.std.proofs.lemmas.Bool.Decides.{eqb_tells, nat_tests}
 use Rattle.std.proofs.lemmas.List.{append-nil}
 use Rattle.std.proofs.lemmas.Slice.Eq.{bytes_eq-Decides}
@@ -16,9 +16,9 @@ use Rattle.sedscript.specs.declared.items.Item.{Item}
 use Rattle.sedscript.specs.declared.items.Argument.{Argument}
 use Rattle.sedscript.specs.declared.letters.Verb.{Verb}
 use Rattle.sedscript.specs.declared.letters.Verb.TheVariants.{Label, Branch}
-use Rattle.sedscript.specs.Bytes.{bytes_between}
-use Rattle.sedscript.specs.Targets.{distinct, files_in, number_in, written_in, commands_in, is_label, label_in, branch_in, depth_after}
-use Rattle.sedscript.specs.Script.{target_fault_in, target_fault_at, CutScript, IsEnd, Means, action_of, commands_of, texts_of, substitutions_of, tables_of, is_quiet}
+use Rattle.sedscript.specs.declared.bytes.Sort.TheVariants.{Line as in_line}
+use Rattle.sedscript.specs.Bytes.{belongs, bytes_between}
+use Rattle.sedscript.specs.Script.{distinct, files_in, number_in, written_in, commands_in, is_label, label_in, branch_in, depth_after, target_fault_in, target_fault_at, CutScript, IsEnd, Means, action_of, commands_of, texts_of, substitutions_of, tables_of, is_quiet}
 use Rattle.sedscript.specs.Program.{Program}
 use Rattle.scripts.specs.InTurn.{all_of, command_behind, substitution_behind, in_turn}
 use Rattle.scripts.specs.OneText.{leads_inside, EachLeadsInside, ShareNoFile, apart as apart_names, ShareNoLabel}
@@ -36,18 +36,15 @@ use Rattle.scripts.proofs.JoinedFaults.{all_close, none_open, none_named, names,
 -- ---- `#n`
 
 quiet_same : (a b : List ℕ) → is_quiet (a ++ 10 ∷ b) ≡ is_quiet a
-quiet_same [] [] = refl
-quiet_same [] (x ∷ []) = refl
-quiet_same [] (x ∷ y ∷ b) = refl
-quiet_same (x ∷ []) [] = elim (eqb_tells x 35) [ inl h ↦ rw h.0 refl | inr h ↦ rw h.0 refl ]
-quiet_same (x ∷ []) (y ∷ b) = elim (eqb_tells x 35) [ inl h ↦ rw h.0 refl | inr h ↦ rw h.0 refl ]
-quiet_same (x ∷ y ∷ []) b = by_test (x == 35) (y == 110)
+quiet_same a b = ap (λ l. bytes_eq l (35 ∷ 110 ∷ [])) (first_line a)
   where
-    by_test : (s t : Bool) → ((s && t) && true) ≡ (s && t)
-    by_test true true = refl
-    by_test true false = refl
-    by_test false t = refl
-quiet_same (x ∷ y ∷ z ∷ a) b = refl
+    more : (t : Bool) (x : ℕ) (a : List ℕ) (n m : ℕ) → take n (a ++ 10 ∷ b) ≡ take m a → take (cond t (1 + n) 0) (x ∷ (a ++ 10 ∷ b)) ≡ take (cond t (1 + m) 0) (x ∷ a)
+    more false x a n m h = refl
+    more true x a n m h = let n_more : 1 + n ≡ suc n = omega arith in let m_more : 1 + m ≡ suc m = omega arith in rw (n_more, m_more) (ap (λ l. x ∷ l) h)
+
+    first_line : (a : List ℕ) → take_while (belongs in_line) (a ++ 10 ∷ b) ≡ take_while (belongs in_line) a
+    first_line [] = refl
+    first_line (x ∷ a) = more (belongs in_line x) x a _ _ (first_line a)
 
 not_less : (k n : ℕ) → k ≡ n → nat_lt k n ≡ true → ⊥
 not_less k n e h = let no : nat_lt k n ≡ false = grind (arith, nat_tests) in absurd cc

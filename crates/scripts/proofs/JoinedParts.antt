@@ -9,8 +9,7 @@ use Rattle.sedre.specs.Tree.{WrittenExpression}
 use Rattle.sedscript.specs.declared.bytes.Sort.TheVariants.{Separator}
 use Rattle.sedscript.specs.declared.items.Item.{Item}
 use Rattle.sedscript.specs.Bytes.{bytes_between, past}
-use Rattle.sedscript.specs.Targets.{label_in}
-use Rattle.sedscript.specs.Script.{Means, CutWithoutFault, done, with_part}
+use Rattle.sedscript.specs.Script.{label_in, Means, CutWithoutFault, done, with_part}
 use Rattle.sedscript.specs.Program.{Program}
 use Rattle.scripts.specs.InTurn.{in_turn}
 use Rattle.scripts.specs.OneText.{LacksNewline, EachLeadsInside}

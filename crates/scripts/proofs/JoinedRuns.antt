@@ -6,7 +6,7 @@ use Rattle.std.proofs.lemmas.Option.{slice_get-map}
 use Rattle.sedre.specs.Tree.{WrittenExpression, expression_tree, Tree}
 use Rattle.sedre.specs.declared.types.Kind.{Kind}
 use Rattle.sedre.specs.declared.types.Kind.TheVariants.{Basic}
-use Rattle.sedmatch.specs.Matching.{found}
+use Rattle.sedmatch.specs.Matching.{leftmost_longest}
 use Rattle.sedscript.specs.declared.types.Action.{Action}
 use Rattle.sedscript.specs.declared.types.Action.TheVariants.{Branch}
 use Rattle.sedscript.specs.declared.types.Command.{Command}
@@ -34,14 +34,14 @@ use Rattle.std.specs.Option.{option_and_then, option_map_or}
 
 -- expressions of equal trees are found alike
 same_match : (o p : Option WrittenExpression) → option_map expression_tree o ≡ option_map expression_tree p → (w : List ℕ) →
-    option_map_or (λ e. is_some (found (expression_tree e) w 0)) o false ≡ option_map_or (λ e. is_some (found (expression_tree e) w 0)) p false
+    option_map_or (λ e. is_some (leftmost_longest (expression_tree e) w 0)) o false ≡ option_map_or (λ e. is_some (leftmost_longest (expression_tree e) w 0)) p false
 same_match None None e w = refl
 same_match None (Some y) e w = absurd cc
 same_match (Some x) None e w = absurd cc
 same_match (Some x) (Some y) e w = let same : expression_tree x ≡ expression_tree y = cc in ap (λ t. has_tree t w) same
   where
     has_tree : Tree → List ℕ → Bool
-    has_tree t w = is_some (found t w 0)
+    has_tree t w = is_some (leftmost_longest t w 0)
 
 same_search : (o p : Option WrittenExpression) → option_map expression_tree o ≡ option_map expression_tree p → (w : List ℕ) (from : ℕ) →
     option_and_then (λ e. search_for e w from) o ≡ option_and_then (λ e. search_for e w from) p
@@ -50,7 +50,7 @@ same_search None (Some y) e w from = absurd cc
 same_search (Some x) None e w from = absurd cc
 same_search (Some x) (Some y) e w from =
     let same : expression_tree x ≡ expression_tree y = cc in
-    found_by x w (found (expression_tree x) w from) ∙ (ap (λ t. match_with t w (found t w from)) same ∙ sym (found_by y w (found (expression_tree y) w from)))
+    found_by x w (leftmost_longest (expression_tree x) w from) ∙ (ap (λ t. match_with t w (leftmost_longest t w from)) same ∙ sym (found_by y w (leftmost_longest (expression_tree y) w from)))
 
 module _ (es fs : List WrittenExpression) (same : map expression_tree es ≡ map expression_tree fs) where
   same_tree : (k : ℕ) → option_map expression_tree (slice_get es k) ≡ option_map expression_tree (slice_get fs k)

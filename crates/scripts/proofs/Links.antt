@@ -4,7 +4,7 @@ use Rattle.std.proofs.Math.Path.{fun_ext}
 use Rattle.sedre.specs.Tree.{WrittenExpression, expression_tree, Tree}
 use Rattle.sedre.specs.declared.types.Kind.{Kind}
 use Rattle.sedre.specs.declared.types.Kind.TheVariants.{Basic}
-use Rattle.sedmatch.specs.Matching.{found}
+use Rattle.sedmatch.specs.Matching.{leftmost_longest}
 use Rattle.sedscript.specs.declared.types.Command.{Command}
 use Rattle.sedscript.specs.declared.substitution.Substitution.{Substitution}
 use Rattle.sedscript.specs.Script.{Means}
@@ -70,5 +70,5 @@ found_by e w None = refl
 found_by e w (Some span) = refl
 
 -- how an expression of this tree is sought
-pub sought : (t : Tree) (e : WrittenExpression) → expression_tree e ≡ t → (w : List ℕ) → search_in (e ∷ []) 0 w ≡ (λ from. match_with t w (found t w from))
-sought t e same w = fun_ext (λ from. found_by e w (found (expression_tree e) w from) ∙ ap (λ t. match_with t w (found t w from)) same)
+pub sought : (t : Tree) (e : WrittenExpression) → expression_tree e ≡ t → (w : List ℕ) → search_in (e ∷ []) 0 w ≡ (λ from. match_with t w (leftmost_longest t w from))
+sought t e same w = fun_ext (λ from. found_by e w (leftmost_longest (expression_tree e) w from) ∙ ap (λ t. match_with t w (leftmost_longest t w from)) same)

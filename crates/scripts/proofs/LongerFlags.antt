@@ -14,12 +14,11 @@ use Rattle.sedscript.specs.declared.items.Flags.{Flags}
 use Rattle.sedscript.specs.declared.texts.Inside.{Inside}
 use Rattle.sedscript.specs.declared.texts.Inside.TheVariants.{InLine, Escape, Due}
 use Rattle.sedscript.specs.declared.transliteration.Char.{Char}
-use Rattle.sedscript.specs.Bytes.{past, bytes_between, is_digit, is_byte, with_digits}
+use Rattle.sedscript.specs.Bytes.{past, bytes_between, is_digit, is_byte, with_digits, fault, ◌>>=◌ as ◌then◌, fault_if}
 use Rattle.sedscript.specs.Strings.{escapes, escaped_piece, exceeds, piece_fault, replacement_fault, escaped_byte, chars_from, bytes_of, string_fault, is_among, repeated_in, strings_fault, repeated_fault}
-use Rattle.sedscript.specs.Functions.{fault, text_end, text_from, name_from, ◌>>=◌ as ◌then◌, fault_if}
+use Rattle.sedscript.specs.Arguments.{text_end, text_from, name_from, no_flags, numbered, with_number, with_flag, flags_from, unless_fault, with_file, ends_flags}
 use Rattle.sedscript.specs.declared.substitution.Piece.{Piece}
 use Rattle.sedscript.specs.declared.substitution.Piece.TheVariants.{Literal, Whole, Group}
-use Rattle.sedscript.specs.Between.{no_flags, numbered, with_number, with_flag, flags_from, unless_fault, with_file, ends_flags}
 use Rattle.sedscript.proofs.Chars.{same_bytes}
 use Rattle.scripts.proofs.LongerText.{tail_of, prefix_on, taken_on, past_low, past_high, rest_on, there, past_on}
 use Rattle.scripts.proofs.LongerStrings.{FoundOn, found_if, found_later}

@@ -11,10 +11,9 @@ use Rattle.sedscript.specs.declared.items.Argument.{Argument}
 use Rattle.sedscript.specs.declared.items.Argument.TheVariants.{Nothing, Between, Pair, FlaggedPair}
 use Rattle.sedscript.specs.declared.letters.Verb.{Verb}
 use Rattle.sedscript.specs.declared.letters.Verb.TheVariants.{Open, Comment, Label, Branch, Text, File, Transliterate}
-use Rattle.sedscript.specs.Bytes.{past, bytes_between}
+use Rattle.sedscript.specs.Bytes.{past, bytes_between, fault, or_fault, ◌>>=◌ as ◌then◌}
 use Rattle.sedscript.specs.Strings.{string_end, replacement_fault}
-use Rattle.sedscript.specs.Functions.{fault, or_fault, ended, may_end, text_from, name_from, spanned, ◌>>=◌ as ◌then◌}
-use Rattle.sedscript.specs.Between.{no_flags, flags_from, own_delimiter, strings_after, substitute_strings, transliterate_strings, flags_after}
+use Rattle.sedscript.specs.Arguments.{to_command_end, may_end, text_from, name_from, spanned, no_flags, flags_from, own_delimiter, strings_after, substitute_strings, transliterate_strings, flags_after}
 use Rattle.sedscript.specs.Letters.{name_at, label_at, transliterate_at, substituted, argument_of}
 use Rattle.scripts.proofs.LongerText.{tail_of, past_low, past_high, near, past_on, between_on}
 use Rattle.scripts.proofs.LongerStrings.{FoundOn, delimiter_on, string_there}
@@ -60,12 +59,12 @@ module _ (before text : List ℕ) (more : Option (List ℕ)) (count : ℕ) where
   abbrev Moved : Result (Argument × ℕ) ScriptFault → Result (Argument × ℕ) ScriptFault → Type 0
   Moved r z = Same (EndsIn end) (move_found base count) r z
 
-  ended_on : (f : Argument) (at place : ℕ) → at ≤ end → place ≡ base + at → ArgumentIn end f → Moved (ended text f at) (ended whole (move_argument base count f) place)
+  ended_on : (f : Argument) (at place : ℕ) → at ≤ end → place ≡ base + at → ArgumentIn end f → Moved (to_command_end text f at) (to_command_end whole (move_argument base count f) place)
   ended_on f at place le e h =
       let after : past Blank whole place ≡ base + past Blank text at = ap (past Blank whole) e ∙ past_on before text more Blank at le refl in
       let low : past Blank text at ≤ end = past_high Blank text at le in
       let ends : may_end (slice_get whole (past Blank whole place)) ≡ may_end (slice_get text (past Blank text at)) = ap (λ (n : ℕ). may_end (slice_get whole n)) after ∙ near before text more may_end (past Blank text at) low refl in
-      subst (λ (t : Bool). Moved (ended text f at) (if t then Ok (move_argument base count f, past Blank whole place) else fault TrailingBytes (past Blank whole place))) (sym ends)
+      subst (λ (t : Bool). Moved (to_command_end text f at) (if t then Ok (move_argument base count f, past Blank whole place) else fault TrailingBytes (past Blank whole place))) (sym ends)
       (same_if (EndsIn end) (move_found base count) (may_end (slice_get text (past Blank text at))) _ _ _ _ (ap (λ n. Ok (move_argument base count f, n)) after, (h, low)) tt)
 
   spanned_on : (reason : Reason) (at place : ℕ) (x z : Option (ℕ × ℕ)) → SpanOn base end x z → Moved (spanned reason at x) (spanned reason place z)
@@ -76,7 +75,7 @@ module _ (before text : List ℕ) (more : Option (List ℕ)) (count : ℕ) where
   label_name_on at place le e =
       let after : past Name whole place ≡ base + past Name text at = ap (past Name whole) e ∙ past_on before text more Name at le refl in
       let high : past Name text at ≤ end = past_high Name text at le in
-      subst (λ (f : Argument). Moved (name_at text at) (ended whole f (past Name whole place))) (ap₂ Between (sym e) (sym after))
+      subst (λ (f : Argument). Moved (name_at text at) (to_command_end whole f (past Name whole place))) (ap₂ Between (sym e) (sym after))
       (ended_on (Between at (past Name text at)) (past Name text at) (past Name whole place) high after (past_low Name text at, high))
 
   label_on : (letter letter' at place : ℕ) → at ≤ end → place ≡ base + at → Moved (label_at text letter at) (label_at whole letter' place)

@@ -21,9 +21,8 @@ use Rattle.sedscript.specs.declared.items.Argument.{Argument}
 use Rattle.sedscript.specs.declared.items.Argument.TheVariants.{FlaggedPair}
 use Rattle.sedscript.specs.declared.letters.Verb.{Verb}
 use Rattle.sedscript.specs.declared.letters.Verb.TheVariants.{Substitute}
-use Rattle.sedscript.specs.Functions.{ended, fault, ◌>>=◌ as ◌then◌}
-use Rattle.sedscript.specs.Bytes.{past, bytes_between, is_digit, is_byte, with_digits}
-use Rattle.sedscript.specs.Between.{own_delimiter, substitute_strings, unless_fault, flags_after, folds}
+use Rattle.sedscript.specs.Arguments.{to_command_end, own_delimiter, substitute_strings, unless_fault, flags_after, folds}
+use Rattle.sedscript.specs.Bytes.{fault, ◌>>=◌ as ◌then◌, past, bytes_between, is_digit, is_byte, with_digits}
 use Rattle.sedscript.specs.Letters.{verb_of, most_addresses, allowed, substituted, flagged}
 use Rattle.sedscript.specs.Strings.{replacement_fault}
 use Rattle.sedscript.specs.Items.{Pattern, Reading, plainly, expression, ◌>>=◌, Addressed, Headed, found, with_addresses, line_of, folds_at, past_flag, match_at, own_match, address_of, address_at, with_second, second_at, after_first, addresses_at, with_bang, substitute_with, substitute_at, argument_with, function_at, item_from, item_at, match_to, function_after, item_with, empty_match}
@@ -315,7 +314,7 @@ module _ (before text : List ℕ) (more : Option (List ℕ)) (n : ℕ) (kind : K
   no_flags_read s count limit f e = by_fault (replacement_fault s.delimiter limit false (s.middle + 1) (bytes_between text (s.middle + 1) s.to))
     where
       by_fault : (o : Option ScriptFault) → (g : ScriptFault) × (unless_fault o (flagged text s (Some count)) ≡ Err g)
-      by_fault None = (f, ap (λ (r : Result (Flags × ℕ) ScriptFault). ◌then◌ r (λ (x : Flags × ℕ). ended text (FlaggedPair s (Some count) x.0) x.1)) e)
+      by_fault None = (f, ap (λ (r : Result (Flags × ℕ) ScriptFault). ◌then◌ r (λ (x : Flags × ℕ). to_command_end text (FlaggedPair s (Some count) x.0) x.1)) e)
       by_fault (Some g) = (g, refl)
 
   substitute_on : (count : ℕ) (s : Strings) → StringsIn end s → ArgumentStays (substitute_with text count s) (substitute_with whole (n + count) (move_strings base s))

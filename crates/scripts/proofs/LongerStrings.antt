@@ -3,7 +3,7 @@ use Rattle.std.proofs.Common.{◌≡◌, ℕ, zero, suc, ◌+◌, ◌-◌, ◌<�
 use Rattle.std.proofs.lemmas.List.{take-append-le}
 use Rattle.sedre.specs.declared.elements.Element.{Element}
 use Rattle.sedre.specs.declared.elements.Element.TheVariants.{Plain, Delimiter}
-use Rattle.sedre.specs.Brackets.{before_closing, content, form, is_delimiter, element, elements, list_end, next_place, first_delimiter, delimiter_at}
+use Rattle.sedre.specs.Brackets.{before_closing, content, form, is_delimiter, front_element, elements, list_end, next_place, first_delimiter, delimiter_at}
 use Rattle.sedscript.specs.Strings.{string_end}
 use Rattle.scripts.proofs.LongerText.{tail_of, rest_on}
 
@@ -64,7 +64,7 @@ abbrev chosen : (b c : ℕ) (t u : Bool) → Element × ℕ → Element × ℕ
 chosen b c t u x = if t then (Delimiter c, 2) else if u then x else (Plain b, 1)
 
 -- the element at the front of a list is the same, or it takes all that is left
-element_on : (ys : List ℕ) (delimiter : Option ℕ) (b : ℕ) (bs : List ℕ) → (element delimiter (b ∷ (bs ++ ys)) ≡ element delimiter (b ∷ bs)) ⊎ (length bs ≤ (element delimiter (b ∷ bs)).1 - 1)
+element_on : (ys : List ℕ) (delimiter : Option ℕ) (b : ℕ) (bs : List ℕ) → (front_element delimiter (b ∷ (bs ++ ys)) ≡ front_element delimiter (b ∷ bs)) ⊎ (length bs ≤ (front_element delimiter (b ∷ bs)).1 - 1)
 element_on ys delimiter b [] = inr (omega arith)
 element_on ys delimiter b (c ∷ rest) = by_tests (b == 92 && is_delimiter delimiter c) (b == 91 && (c == 58 || c == 61 || c == 46)) (content c rest) (content c (rest ++ ys)) (content_on ys c rest)
   where
@@ -91,7 +91,7 @@ elements_on base ys delimiter first skip at place [] e = tt
 elements_on base ys delimiter first (suc skip) at place (b ∷ bs) e = let next : place + 1 ≡ base + (at + 1) = omega (arith, e) in elements_on base ys delimiter first skip (at + 1) (place + 1) bs next
 elements_on base ys delimiter first zero at place (b ∷ bs) e =
     let next : place + 1 ≡ base + (at + 1) = omega (arith, e) in
-    by_test (b == 93 && not first) next (element delimiter (b ∷ bs)) (element delimiter (b ∷ (bs ++ ys))) (element_on ys delimiter b bs) (λ skip. elements_on base ys delimiter false skip (at + 1) (place + 1) bs next)
+    by_test (b == 93 && not first) next (front_element delimiter (b ∷ bs)) (front_element delimiter (b ∷ (bs ++ ys))) (element_on ys delimiter b bs) (λ skip. elements_on base ys delimiter false skip (at + 1) (place + 1) bs next)
   where
     by_test : (t : Bool) → place + 1 ≡ base + (at + 1) → (x z : Element × ℕ) → (z ≡ x) ⊎ (length bs ≤ x.1 - 1) → ((skip : ℕ) → NextOn base (elements delimiter false skip (at + 1) bs).1 (elements delimiter false skip (place + 1) (bs ++ ys)).1) →
         NextOn base (if◌then◌else◌ {A = List (ℕ × Element) × Option ℕ} t ([], Some (at + 1)) ((at, x.0) ∷ (elements delimiter false (x.1 - 1) (at + 1) bs).0, (elements delimiter false (x.1 - 1) (at + 1) bs).1)).1

@@ -9,7 +9,7 @@ use Rattle.sedre.specs.WordLaws.{has-set_of}
 use Rattle.sedre.proofs.ByteLemmas.{only_true}
 use Rattle.sedspace.specs.Lines.{is_newline}
 use Rattle.sedmatch.specs.Spans.{Matches}
-use Rattle.sedmatch.specs.Matching.{found}
+use Rattle.sedmatch.specs.Matching.{leftmost_longest}
 use Rattle.sedmatch.proofs.MatchingLemmas.{found-iff, not_found-iff}
 
 abbrev pub newline_alone : Tree
@@ -42,7 +42,7 @@ behind_it [] left k = ap (slice_get left) (zero-add k)
 behind_it (b ∷ passed) left k = ap (slice_get (b ∷ (passed ++ left))) (suc-add (length passed) k) ∙ behind_it passed left k
 
 -- none in the bytes from here on
-pub none_found : (passed left : List ℕ) → list_any is_newline left ≡ false → found newline_alone (passed ++ left) (length passed) ≡ None
+pub none_found : (passed left : List ℕ) → list_any is_newline left ≡ false → leftmost_longest newline_alone (passed ++ left) (length passed) ≡ None
 none_found passed left e =
     (not_found-iff newline_alone (passed ++ left) (length passed) (omega (arith, length-append passed left))).1
     (λ i k from within s.
@@ -64,7 +64,7 @@ none_before before behind k e less h = none_there before k e (sym (front before 
 
 -- or the first of them
 pub next_found : (passed before behind : List ℕ) → list_any is_newline before ≡ false →
-    found newline_alone (passed ++ (before ++ 10 ∷ behind)) (length passed) ≡ Some (length passed + length before, length passed + length before + 1)
+    leftmost_longest newline_alone (passed ++ (before ++ 10 ∷ behind)) (length passed) ≡ Some (length passed + length before, length passed + length before + 1)
 next_found passed before behind e =
     let w : List ℕ = passed ++ (before ++ 10 ∷ behind) in
     let i : ℕ = length passed + length before in

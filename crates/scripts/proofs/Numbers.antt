@@ -1,13 +1,14 @@
 -- Commands whose addresses are numbers, as they are read.
-use Rattle.std.proofs.Common.{◌≡◌, ℕ, zero, suc, ◌+◌, ◌-◌, ◌*◌, ◌/◌, ◌%◌, ◌^◌, ◌<◌, ◌≤◌, List, [], ◌∷◌, ◌++◌, length, length-append, take, drop, drop-drop, false, true, Option, None, Some, Ok, refl, sym, ap, ap₂, subst, ◌∙◌, add-zero, arith}
-use Rattle.std.specs.Prelude.{decimal, slice_get, nat_lt, ◌==◌}
+use Rattle.std.proofs.Common.{◌≡◌, ℕ, zero, suc, ◌+◌, ◌-◌, ◌*◌, ◌/◌, ◌%◌, ◌^◌, ◌<◌, ◌≤◌, List, [], ◌∷◌, ◌++◌, length, length-append, take, drop, drop-drop, Bool, false, true, Option, None, Some, Ok, refl, sym, ap, ap₂, subst, ◌∙◌, add-zero, arith}
+use Rattle.std.specs.Prelude.{cond, decimal, slice_get, nat_lt, ◌==◌}
+use Rattle.std.specs.Str.{bytes_eq}
 use Rattle.std.specs.List.{list_all, prefix_len}
 use Rattle.std.proofs.lemmas.Fmt.{decimal_by_steps}
 use Rattle.std.proofs.lemmas.List.Sums.{fold-append}
 use Rattle.std.proofs.lemmas.List.Folds.{list_all-append}
 use Rattle.std.proofs.Math.Seq.{drop-append_seam, take-append_seam}
 use Rattle.std.proofs.lemmas.Bool.Decides.{nat_tests}
-use Rattle.sedscript.specs.declared.bytes.Sort.TheVariants.{Blank, Separator, Digit}
+use Rattle.sedscript.specs.declared.bytes.Sort.TheVariants.{Blank, Separator, Digit, Line as in_line}
 use Rattle.sedscript.specs.declared.types.Address.TheVariants.{Line}
 use Rattle.sedscript.specs.Items.{found, address_at, addresses_at, addresses_of, after_first, with_addresses, second_at, with_bang, with_second, function_at, item_at, plainly, ◌>>=◌, function_after, item_with, item_of}
 use Rattle.sedscript.specs.Bytes.{past, is_digit, is_blank, bytes_between, with_digit, belongs, with_digits}
@@ -20,7 +21,7 @@ use Rattle.sedscript.specs.declared.items.Argument.TheVariants.{Nothing}
 use Rattle.sedscript.specs.declared.types.Simple.{Simple}
 use Rattle.sedscript.specs.declared.types.Simple.TheVariants.{Quit, Delete}
 use Rattle.sedscript.specs.Script.{IsEnd, Means, item, done, is_quiet, Gives, value, target_fault}
-use Rattle.sedscript.specs.Functions.{ended}
+use Rattle.sedscript.specs.Arguments.{to_command_end}
 use Rattle.sedre.specs.Tree.{WrittenExpression}
 use Rattle.sedre.specs.declared.types.Kind.TheVariants.{Basic}
 use Rattle.sedscript.specs.declared.items.Argument.{Argument}
@@ -134,7 +135,7 @@ pub no_bang : (text : List ℕ) (at count b : ℕ) (first second : Option Addres
     with_bang text (record { addresses = addresses_of first second; at = at; count = count }) ≡ record { addresses = addresses_of first second; at = at; count = count }
 no_bang text at count b first second e f g = rw (past_none Blank text at b [] e f, byte_there text at b [] e, g) refl
 
-pub ends_command : (text : List ℕ) (at : ℕ) (f : Argument) → drop at text ≡ [] → ended text f at ≡ Ok (f, at)
+pub ends_command : (text : List ℕ) (at : ℕ) (f : Argument) → drop at text ≡ [] → to_command_end text f at ≡ Ok (f, at)
 ends_command text at f e = rw (past_end Blank text at e, end_there text at e) refl
 
 module _ (text : List ℕ) (at count : ℕ) (a : Address) where
@@ -227,9 +228,11 @@ module _ (ds es : List ℕ) (n m : ℕ) (writes : WritesNumber ds (suc n)) (writ
       ∙ deletes cut_text (second_place + length es) 0 (Line (suc n)) (Line (suc m)) behind_second
 
 pub not_quiet : (b : ℕ) (rest : List ℕ) → (b == 35) ≡ false → is_quiet (b ∷ rest) ≡ false
-not_quiet b [] e = refl
-not_quiet b (c ∷ []) e = rw e refl
-not_quiet b (c ∷ d ∷ rest) e = rw e refl
+not_quiet b rest e = starts (belongs in_line b) (prefix_len (belongs in_line) rest)
+  where
+    starts : (t : Bool) (n : ℕ) → bytes_eq (take (cond t (1 + n) 0) (b ∷ rest)) (35 ∷ 110 ∷ []) ≡ false
+    starts false n = refl
+    starts true n = let more : 1 + n ≡ suc n = omega arith in rw (more, e) refl
 
 digit_not_quiet : (ds : List ℕ) (b : ℕ) (rest : List ℕ) (n : ℕ) → WritesNumber ds n → is_quiet (ds ++ b ∷ rest) ≡ false
 digit_not_quiet ds b rest n writes =

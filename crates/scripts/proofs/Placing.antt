@@ -33,7 +33,7 @@ use Rattle.scripts.proofs.EditedLines.{AreAlike, Both, Fits, RangesAgree, placed
 use Rattle.scripts.proofs.OneAfterOther.{AnyLines, SameLines, in_turn_run}
 use Rattle.scripts.proofs.Unbroken.{Unbroken, unbroken_map, unbroken_replaced}
 use Rattle.sedengine.specs.SubstituteCalls.{to_replace_in}
-use Rattle.sedmatch.specs.Matching.{found}
+use Rattle.sedmatch.specs.Matching.{leftmost_longest}
 
 -- ---- places in lists
 
@@ -218,7 +218,7 @@ module _ (p : Program) (files : ℕ → List ℕ) where
     to k = b.commands + k
 
     same_finds : (e : ℕ) (x : WrittenExpression) (w : List ℕ) → slice_get p.expressions e ≡ Some x → g.finds (b.expressions + e) w ≡ g1.finds e w
-    same_finds e x w h = ap (λ (o : Option WrittenExpression). option_map_or (λ e. is_some (found (expression_tree e) w 0)) o false) (is.expressions e x h ∙ sym h)
+    same_finds e x w h = ap (λ (o : Option WrittenExpression). option_map_or (λ e. is_some (leftmost_longest (expression_tree e) w 0)) o false) (is.expressions e x h ∙ sym h)
 
     same_search : (e : ℕ) (x : WrittenExpression) (w : List ℕ) → slice_get p.expressions e ≡ Some x → g.search (b.expressions + e) w ≡ g1.search e w
     same_search e x w h = ap (λ (o : Option WrittenExpression). λ (from : ℕ). option_and_then (λ e. search_for e w from) o) (is.expressions e x h ∙ sym h)

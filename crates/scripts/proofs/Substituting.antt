@@ -17,7 +17,7 @@ use Rattle.sedscript.specs.declared.items.Argument.TheVariants.{FlaggedPair}
 use Rattle.sedscript.specs.declared.letters.Verb.TheVariants.{Substitute}
 use Rattle.sedscript.specs.declared.substitution.Piece.{Piece}
 use Rattle.sedscript.specs.Items.{address_at, addresses_at, addresses_of, function_at, item_at, substitute_at, Reading, plainly, expression, ◌>>=◌, item_of}
-use Rattle.sedscript.specs.Between.{flags_after, unless_fault, flags_from, no_flags}
+use Rattle.sedscript.specs.Arguments.{flags_after, unless_fault, flags_from, no_flags}
 use Rattle.sedscript.specs.Letters.{substituted, flagged}
 use Rattle.sedscript.specs.Bytes.{bytes_between}
 use Rattle.sedscript.specs.Pieces.{GroupsWithin}

@@ -13,7 +13,7 @@ use Rattle.sedengine.specs.Substitute.{Occurrence}
 use Rattle.sedengine.specs.Select.{selects}
 use Rattle.sedengine.specs.Move.{after, line_to, next_move, newline, start, to_sink, writing, written}
 use Rattle.sedengine.specs.Steps.{at_end}
-use Rattle.sedengine.specs.Ends.{size_of, Cause, Whole, Within, WithinLimits}
+use Rattle.sedengine.specs.Ends.{size_of, IsCause, Whole, Within, WithinLimits}
 use Rattle.sedengine.specs.declared.ends.Ended.{Ended}
 use Rattle.sedengine.specs.declared.ends.Ended.TheVariants.{Done}
 use Rattle.examples.proofs.ComputedEnds.{whole_first}
@@ -167,7 +167,7 @@ lines_size (line ∷ rest) = let more = lines_size rest in omega (arith, more)
 -- A run within ample limits ends in the ordinary way, and has written the lines in reverse order, where no device has failed or
 -- is full.
 pub turned_done : (l : Limits) (input : List ℕ) (finds : ℕ → List ℕ → Bool) (search : ℕ → List ℕ → ℕ → Option Occurrence) (files : ℕ → List ℕ) (out : List (ℕ × ℕ)) (end : Ended) (t : ℕ) → Ample l 4 input → NoDevice end →
-    Cause l (turns_round finds search files) (between (lines input) 0 [] false (false ∷ false ∷ false ∷ []) None 0) out end t → (end ≡ Done) × (out ≡ to_sink 0 (text_of (reverse (lines input))))
+    IsCause l (turns_round finds search files) (between (lines input) 0 [] false (false ∷ false ∷ false ∷ []) None 0) out end t → (end ≡ Done) × (out ≡ to_sink 0 (text_of (reverse (lines input))))
 unfolding Within
 turned_done l input finds search files out end t ample free cause =
     let small = size_of_lines input in
@@ -182,9 +182,9 @@ turned_done l input finds search files out end t ample free cause =
 
 -- the same of any script that the text means
 pub turned_ends : OneMeaning → (l : Limits) (p : Program) (files : ℕ → List ℕ) (input : List ℕ) (out : List (ℕ × ℕ)) (end : Ended) (t : ℕ) → Means (codes "1!G;h;$!d") Basic 65536 p → Ample l 4 input → NoDevice end →
-    Cause l (setting_of p files) (start p.commands (lines input)) out end t → (end ≡ Done) × (out ≡ to_sink 0 (text_of (reverse (lines input))))
+    IsCause l (setting_of p files) (start p.commands (lines input)) out end t → (end ≡ Done) × (out ≡ to_sink 0 (text_of (reverse (lines input))))
 turned_ends one l p files input out end t m ample free cause =
     let q : Program = turned_program in
     let same = one (codes "1!G;h;$!d") Basic 65536 p q m turned_means in
-    let moved = same_run (λ g s. Cause l g s out end t) p.commands q.commands p.texts q.texts p.substitutions q.substitutions p.tables q.tables p.quiet q.quiet p.expressions files (lines input) same.0 same.1 same.2 same.3 same.6 cause in
+    let moved = same_run (λ g s. IsCause l g s out end t) p.commands q.commands p.texts q.texts p.substitutions q.substitutions p.tables q.tables p.quiet q.quiet p.expressions files (lines input) same.0 same.1 same.2 same.3 same.6 cause in
     turned_done l input (finds_in p.expressions) (search_in p.expressions) files out end t ample free moved

@@ -7,7 +7,7 @@ use Rattle.sedspace.specs.Lines.{is_newline, lines}
 use Rattle.sedspace.proofs.LineLemmas.{lines_nil}
 use Rattle.sedre.specs.Tree.{Tree}
 use Rattle.std.proofs.lemmas.List.{length-map}
-use Rattle.sedmatch.specs.Matching.{found}
+use Rattle.sedmatch.specs.Matching.{leftmost_longest}
 use Rattle.sedmatch.specs.Groups.{part_of, span_of}
 use Rattle.sedscript.specs.declared.substitution.Piece.{Piece}
 use Rattle.sedscript.specs.declared.substitution.Piece.TheVariants.{Literal, Whole, Group}
@@ -80,5 +80,5 @@ lines_again (line ∷ rest) none = line_again line (text_of rest) none.0 ∙ ap 
 -- `s/RE/text/g` makes one line of each, where the text has no newline
 pub line_for_line_law : (e : Tree) (text : List Piece) (input : List ℕ) → list_any is_break text ≡ false → length (lines (text_of (map (replaced e text) (lines input)))) ≡ length (lines input)
 line_for_line_law e text input none =
-    ap length (lines_again (map (replaced e text) (lines input)) (none_broken_map (replaced e text) (λ w h. unbroken_replaced w text 0 (occurrences (λ from. match_with e w (found e w from)) (length w)) h none) (lines input) (lines_none_broken input)))
+    ap length (lines_again (map (replaced e text) (lines input)) (none_broken_map (replaced e text) (λ w h. unbroken_replaced w text 0 (occurrences (λ from. match_with e w (leftmost_longest e w from)) (length w)) h none) (lines input) (lines_none_broken input)))
     ∙ length-map (lines input) (replaced e text)

@@ -10,7 +10,7 @@ use Rattle.sedspace.specs.Lines.{lines}
 use Rattle.sedspace.specs.Failures.{Rose}
 use Rattle.sedengine.specs.State.{Limits, State, Setting, setting_of}
 use Rattle.sedengine.specs.Move.{after, newline, to_sink, written}
-use Rattle.sedengine.specs.Ends.{GainedWithin, SourceAtEnd, part, BrokenOff, Cause, size_of}
+use Rattle.sedengine.specs.Ends.{GainedWithin, SourceAtEnd, part, BrokenOff, IsCause, size_of}
 use Rattle.sedengine.specs.DevicesAfter.{SinksAtEnd}
 use Rattle.sedengine.specs.declared.ends.Ended.{Ended}
 use Rattle.sedengine.specs.declared.ends.Ended.TheVariants.{Done, PatternFull, HoldFull, QueueFull, TurnsSpent, NoPrevious, InputBroken, OutputBroken, OutputFull}
@@ -89,7 +89,7 @@ module _ (old bytes : List ℕ) (was failed : ℕ) (nothing : old ≡ []) where
   not_broken : (most : Option ℕ) (l : Limits) (g : Setting) (s : State) (out cut_off : List (ℕ × ℕ)) (k t : ℕ) → IsOutput g s out → length out ≤ ample_room → (0 < failed → ample_room ≤ length bytes) →
       SinksAtEnd most (failures was) (failures failed) (Err (OutputBroken k)) → GainedWithin most nothing_before (held old) (held bytes) (Err (OutputBroken k)) cut_off → BrokenOff l g s cut_off k t → ⊥
   not_broken most l g s out cut_off zero t ends fits full sinks gains cut =
-      let rose : Rose was failed = sinks.0.0 in
+      let rose : Rose was failed = sinks.0 in
       let filled = full (omega (arith, rose)) in
       let is = ap length (holds_part most (OutputBroken 0) cut_off gains) in
       let few = part_no_longer 0 cut_off in
@@ -98,10 +98,10 @@ module _ (old bytes : List ℕ) (was failed : ℕ) (nothing : old ≡ []) where
       let due = slice_get_within (written g s (suc t)) cut.b (0, cut.byte) cut.due in
       let all = no_more_than g s out (suc t) ends in
       omega (arith, filled, is, few, wrote, short, due, all, fits)
-  not_broken most l g s out cut_off (suc k) t ends fits full sinks gains cut = let rose : Rose 0 0 = rw (is_not_zero k) at sinks.0.0 in omega (arith, rose)
+  not_broken most l g s out cut_off (suc k) t ends fits full sinks gains cut = let rose : Rose 0 0 = rw (is_not_zero k) at sinks.0 in omega (arith, rose)
 
 no_device : (l : Limits) (g : Setting) (s : State) (old bytes : List ℕ) (was failed : ℕ) (out gained : List (ℕ × ℕ)) (end : Ended) (t : ℕ) → old ≡ [] → l.output ≡ None → IsOutput g s out → length out ≤ ample_room → (0 < failed → ample_room ≤ length bytes) →
-    SourceAtEnd 0 0 end → SinksAtEnd l.output (failures was) (failures failed) (Err end) → GainedWithin l.output nothing_before (held old) (held bytes) (Err end) gained → Cause l g s gained end t → NoDevice end
+    SourceAtEnd 0 0 end → SinksAtEnd l.output (failures was) (failures failed) (Err end) → GainedWithin l.output nothing_before (held old) (held bytes) (Err end) gained → IsCause l g s gained end t → NoDevice end
 no_device l g s old bytes was failed out gained Done t nothing free ends fits full source sinks gains cause = tt
 no_device l g s old bytes was failed out gained (PatternFull n) t nothing free ends fits full source sinks gains cause = tt
 no_device l g s old bytes was failed out gained (HoldFull n) t nothing free ends fits full source sinks gains cause = tt
@@ -110,7 +110,7 @@ no_device l g s old bytes was failed out gained TurnsSpent t nothing free ends f
 no_device l g s old bytes was failed out gained (NoPrevious n) t nothing free ends fits full source sinks gains cause = tt
 no_device l g s old bytes was failed out gained InputBroken t nothing free ends fits full source sinks gains cause = let rose : Rose 0 0 = source in absurd (omega (arith, rose))
 no_device l g s old bytes was failed out gained (OutputBroken k) t nothing free ends fits full source sinks gains cause = absurd (not_broken old bytes was failed nothing l.output l g s out gained k t ends fits full sinks gains cause)
-no_device l g s old bytes was failed out gained (OutputFull k) t nothing free ends fits full source sinks gains cause = absurd (sinks.1 free)
+no_device l g s old bytes was failed out gained (OutputFull k) t nothing free ends fits full source sinks gains cause = absurd (sinks.0 free)
 
 -- ---- the whole edit
 

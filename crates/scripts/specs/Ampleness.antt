@@ -3,7 +3,7 @@ use Rattle.std.specs.Prelude.{◌≡◌, ℕ, ◌+◌, ◌-◌, ◌*◌, ◌^◌
 use Rattle.sedre.specs.declared.types.Kind.TheVariants.{Basic}
 use Rattle.sedscript.specs.Script.{Means}
 use Rattle.sedscript.specs.Program.{Program}
-use Rattle.sedengine.specs.Ends.{GainedWithin, Cause}
+use Rattle.sedengine.specs.Ends.{GainedWithin, IsCause}
 use Rattle.sedengine.specs.State.{Limits, setting_of}
 use Rattle.sedengine.specs.declared.ends.Ended.{Ended}
 use Rattle.sedengine.specs.declared.ends.Ended.TheVariants.{InputBroken, OutputBroken, OutputFull}
@@ -26,7 +26,7 @@ pub record ComesTo (l : Limits) (text input : List ℕ) (old new : ℕ → Optio
   pub out : List (ℕ × ℕ)
   pub gains : GainedWithin l.output before old new (Err end) out
   pub t : ℕ
-  pub cause : Cause l (setting_of program files) (start_over program input) out end t
+  pub cause : IsCause l (setting_of program files) (start_over program input) out end t
   pub free : NoDevice end
 
 -- a space holds all of the input, and there are so many turns for each byte of it, and some more

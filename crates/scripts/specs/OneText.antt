@@ -9,8 +9,7 @@ use Rattle.sedscript.specs.declared.types.Command.{Command}
 use Rattle.sedscript.specs.declared.types.Action.{Action}
 use Rattle.sedscript.specs.declared.types.Action.TheVariants.{Branch}
 use Rattle.sedscript.specs.declared.items.Item.{Item}
-use Rattle.sedscript.specs.Targets.{label_in}
-use Rattle.sedscript.specs.Script.{CutScript, IsEnd, Means}
+use Rattle.sedscript.specs.Script.{label_in, CutScript, IsEnd, Means}
 use Rattle.sedscript.specs.Program.{Program}
 use Rattle.scripts.specs.InTurn.{BreaksNoLine, EachOnlyEdits}
 

@@ -1,9 +1,8 @@
 -- Expressions between slashes.
 use Rattle.std.specs.Prelude.{◌≡◌, ◌≤◌, ◌<◌, ℕ, ◌+◌, List, ◌∷◌, ◌++◌, false, Some, length}
 use Rattle.sedre.specs.declared.types.Kind.TheVariants.{Basic}
-use Rattle.sedre.specs.Tree.{Tree}
-use Rattle.sedre.specs.Sizes.{size, depth}
-use Rattle.sedre.specs.Grammar.{ReadsAs}
+use Rattle.sedre.specs.Tree.{Tree, size}
+use Rattle.sedre.specs.Grammar.{depth, ReadsAs}
 use Rattle.sedre.specs.Brackets.{first_delimiter}
 
 -- The text is a basic expression with so many groups, and a slash directly behind it is the first one that isn't escaped and

@@ -6,7 +6,7 @@ use Rattle.examples.specs.Strings.{NoneTwice, written}
 use Rattle.sedscript.specs.Strings.{is_among, table_of}
 use Rattle.sedengine.specs.Move.{in_table}
 use Rattle.sedre.specs.Tree.{Tree}
-use Rattle.sedmatch.specs.Matching.{found, report}
+use Rattle.sedmatch.specs.Matching.{leftmost_longest, report}
 use Rattle.sedscript.specs.declared.substitution.Piece.{Piece}
 use Rattle.sedengine.specs.Substitute.{Occurrence, occurrences, replaced_from}
 
@@ -28,11 +28,11 @@ match_with e w (Some span) = Some (record { start = span.0; end = span.1; groups
 
 -- a text with all occurrences of an expression in it replaced
 abbrev pub replaced : Tree → List Piece → List ℕ → List ℕ
-replaced e pieces w = replaced_from w pieces 0 (occurrences (λ from. match_with e w (found e w from)) (length w))
+replaced e pieces w = replaced_from w pieces 0 (occurrences (λ from. match_with e w (leftmost_longest e w from)) (length w))
 
 -- whether an expression has no match in a text
 abbrev pub has_none : Tree → List ℕ → Bool
-has_none e w = not (is_some (found e w 0))
+has_none e w = not (is_some (leftmost_longest e w 0))
 
 -- the lines in one, with commas between them; none where there are none
 abbrev pub in_one : List (List ℕ) → List (List ℕ)
