@@ -11,7 +11,7 @@ ghost use Rattle.std.specs.Prelude.{◌≡◌, ◌<◌, ◌≤◌, ◌^◌, ◌�
 ghost use Rattle.sedre.specs.Tree.{expression_tree};
 ghost use Rattle.sedmatch.specs.Following.{Occurs};
 ghost use Rattle.sedmatch.specs.Occurrences.{RoomFor};
-ghost use Rattle.benches.specs.Ready.{IsReady};
+ghost use Rattle.benches.specs.Ready.{CanSeek};
 
 use anyhow::{Context, Result, bail, ensure};
 use sedmatch::{Occurrences, Scratch, TableMatcher, TableRoom, Text};
@@ -51,8 +51,8 @@ impl Call {
     /// Makes the call from the beginning of a piece on, and says whether it has a hit.
     fn hits(self, expr: &Expr, searcher: &mut Searcher, piece: &[u8]) -> bool
         requires piece { length piece.now ≤ searcher.old.size }
-        requires ready { IsReady expr.now searcher.old }
-        ensures ready { IsReady expr.now searcher.new }
+        requires ready { CanSeek expr.now searcher.old }
+        ensures ready { CanSeek expr.now searcher.new }
         ensures size { searcher.new.size ≡ searcher.old.size }
     {
         let text = Text::new(piece);
@@ -69,8 +69,8 @@ impl Call {
     /// In how many pieces of a text the call has a hit.
     fn round(self, expr: &Expr, searcher: &mut Searcher, text: &[u8]) -> u64
         requires some { 0 < searcher.old.size }
-        requires ready { IsReady expr.now searcher.old }
-        ensures ready { IsReady expr.now searcher.new }
+        requires ready { CanSeek expr.now searcher.old }
+        ensures ready { CanSeek expr.now searcher.new }
         ensures size { searcher.new.size ≡ searcher.old.size }
     {
         let mut hits = 0u64;
@@ -85,7 +85,7 @@ impl Call {
     /// The hits of so many rounds, none of them left out.
     fn rounds(self, count: u32, expr: &Expr, searcher: &mut Searcher, text: &[u8]) -> u64
         requires some { 0 < searcher.old.size }
-        requires ready { IsReady expr.now searcher.old }
+        requires ready { CanSeek expr.now searcher.old }
     {
         let mut hits = 0u64;
         for _ in 0..count {
@@ -110,7 +110,7 @@ impl Searcher {
     fn new(alloc: Global, expr: &Expr, size: usize) -> Result<Searcher>
         requires size { size ≤ 2 ^ 20 }
         requires nodes { length expr.now.nodes ≤ 16384 }
-        ensures { IfOk result (λ s. IsReady expr.now s × (s.size ≡ size)) }
+        ensures { IfOk result (λ s. CanSeek expr.now s × (s.size ≡ size)) }
     {
         let tables = TableMatcher::new(alloc, expr, TableRoom::ample(), &mut Steps::new())?;
         match Occurrences::new(alloc, size, MAX_NODES, slice::from_ref(&tables)) {
@@ -132,7 +132,7 @@ impl Searcher {
         requires size { size ≤ 2 ^ 20 }
         requires nodes { length tables.nodes ≤ 16384 }
         requires room { RoomFor size (tables ∷ []) seeking }
-        ensures { IfOk result (λ s. IsReady tables s × (s.size ≡ size)) }
+        ensures { IfOk result (λ s. CanSeek tables s × (s.size ≡ size)) }
     {
         match Scratch::new(alloc, size, MAX_NODES) {
             Ok(scratch) => Ok(Searcher {
@@ -153,8 +153,8 @@ impl Searcher {
     /// Where the first occurrence begins and ends.
     fn first(&mut self, expr: &Expr, text: &Text) -> Option<(usize, usize)>
         requires text { length text.now ≤ self.old.size }
-        requires ready { IsReady expr.now self.old }
-        ensures ready { IsReady expr.now self.new }
+        requires ready { CanSeek expr.now self.old }
+        ensures ready { CanSeek expr.now self.new }
         ensures size { self.new.size ≡ self.old.size }
         ensures occurs { IfSome result (Occurs (expression_tree expr.now) text.now None) }
     {
@@ -167,8 +167,8 @@ impl Searcher {
     /// Tells the groups of the first occurrence, and whether there is one.
     fn finds(&mut self, expr: &Expr, text: &Text) -> bool
         requires text { length text.now ≤ self.old.size }
-        requires ready { IsReady expr.now self.old }
-        ensures ready { IsReady expr.now self.new }
+        requires ready { CanSeek expr.now self.old }
+        ensures ready { CanSeek expr.now self.new }
         ensures size { self.new.size ≡ self.old.size }
     {
         let Some((start, end)) = self.first(expr, text) else {

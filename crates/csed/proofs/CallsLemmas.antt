@@ -2,13 +2,13 @@
 use Rattle.std.proofs.Common.{◌≡◌, ℕ, List, pos, take}
 use Rattle.sededit.proofs.EditLemmas.{BeginsOutput-at}
 use Rattle.csed.specs.declared.asked.SedLimits.{SedLimits}
-use Rattle.csed.specs.declared.outcome.Outcome.{Outcome}
-use Rattle.csed.specs.declared.outcome.Outcome.TheVariants.{Done, Faulty, WritesFiles, BadLimits, NoMemory, Stopped}
+use Rattle.csed.specs.declared.outcome.CallOutcome.{CallOutcome}
+use Rattle.csed.specs.declared.outcome.CallOutcome.TheVariants.{Done, Faulty, WritesFiles, BadLimits, NoMemory, Stopped}
 use Rattle.csed.specs.Calls.{IsBeginning, asked_by}
 use Rattle.csed.specs.Outcomes.{EditsTo, report_of, status_of}
 
 -- a run that stopped has written a beginning
-pub Beginning-written : (text : List ℕ) (flags : ℕ) (l : SedLimits) (input output : List ℕ) (o : Outcome) → status_of o ≡ pos 4 → EditsTo text flags l input output o →
+pub Beginning-written : (text : List ℕ) (flags : ℕ) (l : SedLimits) (input output : List ℕ) (o : CallOutcome) → status_of o ≡ pos 4 → EditsTo text flags l input output o →
     IsBeginning text (asked_by flags l) input (take (report_of o).written output)
 Beginning-written text flags l input output (Stopped n end) is h =
     let (p, gives, stops) = h.1 in

@@ -3,14 +3,14 @@ use Rattle.std.proofs.Common.{◌≡◌, ◌≢◌, ◌≤◌, ◌+◌, ◌==◌
 use Rattle.sedscript.specs.Program.{Program}
 use Rattle.sedengine.specs.State.{Limits, Setting, State, setting_of}
 use Rattle.sedengine.specs.Move.{to_sink}
-use Rattle.sedengine.specs.Ends.{part, Gained, GainedWithin, SourceAtEnd, IsCause}
+use Rattle.sedengine.specs.Ends.{bytes_of_sink, Gained, GainedWithin, SourceAtEnd, IsCause}
 use Rattle.sedengine.specs.declared.ends.Ended.{Ended}
 use Rattle.sedengine.specs.declared.ends.Ended.TheVariants.{Done, PatternFull, HoldFull, QueueFull, TurnsSpent, NoPrevious, InputBroken, OutputBroken, OutputFull}
 use Rattle.sededit.specs.EditEnds.{EditEnds}
 use Rattle.sededit.specs.Editing.{IsOutput, nothing_before, start_over}
 use Rattle.csed.specs.Reports.{cause_of}
 use Rattle.csed.specs.Calls.{RunStops, no_files}
-use Rattle.csed.specs.Outcomes.{RunsTo, outcome_of}
+use Rattle.csed.specs.Outcomes.{CallRunsTo, outcome_of}
 
 -- what the one sink holds, and no other
 abbrev pub of_one : Option (List ℕ) → ℕ → Option (List ℕ)
@@ -26,17 +26,17 @@ is_not_zero : (k : ℕ) → nat_eq (suc k) 0 ≡ false
 is_not_zero k = grind arith
 
 -- bytes of which none is for another sink
-only_first : (out : List (ℕ × ℕ)) → ((k : ℕ) → part (suc k) out ≡ []) → out ≡ to_sink 0 (part 0 out)
+only_first : (out : List (ℕ × ℕ)) → ((k : ℕ) → bytes_of_sink (suc k) out ≡ []) → out ≡ to_sink 0 (bytes_of_sink 0 out)
 only_first [] none = refl
 only_first ((zero, byte) ∷ out) none = ap (λ xs. (0, byte) ∷ xs) (only_first out (λ k. rw (zero_is_not k) at (none k)))
 only_first ((suc m, byte) ∷ out) none = let e = rw (nat_eq_self (suc m)) at (none m) in cc
 
 -- what a sink holds that held nothing is what was written
 module _ (held held' : Option (List ℕ)) (bytes : List ℕ) (before : held ≡ Some []) (after : Some bytes ≡ held') where
-  first_part : (out : List (ℕ × ℕ)) → Gained (of_one held) (of_one held') out → bytes ≡ part 0 out
+  first_part : (out : List (ℕ × ℕ)) → Gained (of_one held) (of_one held') out → bytes ≡ bytes_of_sink 0 out
   first_part out h = let e = rw (before, ← after) at (h.each 0) in e
 
-  other_parts : (out : List (ℕ × ℕ)) → Gained (of_one held) (of_one held') out → (k : ℕ) → part (suc k) out ≡ []
+  other_parts : (out : List (ℕ × ℕ)) → Gained (of_one held) (of_one held') out → (k : ℕ) → bytes_of_sink (suc k) out ≡ []
   other_parts out h k = let e = rw (is_not_zero k) at (h.each (suc k)) in sym e
 
   all_written : (out : List (ℕ × ℕ)) → Gained (of_one held) (of_one held') out → out ≡ to_sink 0 bytes
@@ -60,12 +60,12 @@ module _ (room : ℕ) (held held' : Option (List ℕ)) (bytes : List ℕ) (befor
 
   full_at : (k : ℕ) (out : List (ℕ × ℕ)) → GainedWithin (Some room) nothing_before (of_one held) (of_one held') (Err (OutputFull k)) out → length bytes ≡ room
   full_at zero out h =
-      let full : Some room ≡ Some (0 + length (part 0 out)) = h.full in
-      let is : room ≡ 0 + length (part 0 out) = cc in
+      let full : Some room ≡ Some (0 + length (bytes_of_sink 0 out)) = h.full in
+      let is : room ≡ 0 + length (bytes_of_sink 0 out) = cc in
       rw (first_part held held' bytes before after out h.gained) (omega (arith, is))
   full_at (suc m) out h =
       let le = within_room (Some room) _ out refl h in
-      let full : Some room ≡ Some (0 + length (part (suc m) out)) = h.full in
+      let full : Some room ≡ Some (0 + length (bytes_of_sink (suc m) out)) = h.full in
       let none = rw (other_parts held held' bytes before after out h.gained m) at full in
       let empty : room ≡ 0 = cc in
       omega (arith, le, empty)
@@ -103,7 +103,7 @@ module _ (room : ℕ) (held held' : Option (List ℕ)) (bytes : List ℕ) (befor
 pub Runs-to : (l : Limits) (p : Program) (input output bytes : List ℕ) (end : Ended) (n : ℕ) → take n output ≡ bytes →
     (end ≡ Done → IsOutput (setting_of p no_files) (start_over p input) (to_sink 0 bytes)) →
     (end ≢ Done → RunStops (record l { output = Some (length output) }) (setting_of p no_files) (start_over p input) (length output) bytes end) →
-    RunsTo l p input output (outcome_of end n)
+    CallRunsTo l p input output (outcome_of end n)
 Runs-to l p input output bytes Done n same whole stops = rw same (whole refl)
 Runs-to l p input output bytes (PatternFull k) n same whole stops = rw same (stops (λ e. cc))
 Runs-to l p input output bytes (HoldFull k) n same whole stops = rw same (stops (λ e. cc))

@@ -22,12 +22,12 @@ cause_of (OutputBroken k) = 7
 cause_of (OutputFull k) = 8
 
 -- the line that an end names, or 0
-abbrev pub line_of : Ended → ℕ
-line_of (PatternFull n) = n
-line_of (HoldFull n) = n
-line_of (QueueFull n) = n
-line_of (NoPrevious n) = n
-line_of other = 0
+abbrev pub line_named : Ended → ℕ
+line_named (PatternFull n) = n
+line_named (HoldFull n) = n
+line_named (QueueFull n) = n
+line_named (NoPrevious n) = n
+line_named other = 0
 
 -- the number of the fault of an expression, as 5 of E5, or 0
 abbrev pub expression_of : Reason → ℕ
@@ -44,7 +44,7 @@ of_bytes written = record empty_report { written = written }
 
 -- so many bytes were written, and the run came to this end
 abbrev pub of_end : ℕ → Ended → SedReport
-of_end written end = record empty_report { written = written; line = line_of end; cause = cause_of end }
+of_end written end = record empty_report { written = written; line = line_named end; cause = cause_of end }
 
 -- the script has this fault
 abbrev pub of_fault : ScriptFault → SedReport

@@ -30,7 +30,7 @@ pub struct SedLimits {
 
 /// What a caller asks for.
 #[derive(Clone, Copy)]
-pub(crate) struct Asked {
+pub(crate) struct Request {
     /// The kind of the script's expressions.
     pub kind: Kind,
     /// Whether default output is suppressed.
@@ -40,7 +40,7 @@ pub(crate) struct Asked {
 }
 
 /// What flags and limits ask for; None where a flag isn't known, or a limit is out of its range.
-pub(crate) fn asked_by(flags: u32, limits: &SedLimits) -> Option<Asked>
+pub(crate) fn asked_by(flags: u32, limits: &SedLimits) -> Option<Request>
     ensures asked { IfSome result (λ a. (a ≡ asked_by flags limits.now) × MayAsk flags limits.now) }
     ensures refused { IfNone result (MayNotAsk flags limits.now) }
 {
@@ -54,7 +54,7 @@ pub(crate) fn asked_by(flags: u32, limits: &SedLimits) -> Option<Asked>
         limits.turns,
         limits.nodes,
     )?;
-    Some(Asked {
+    Some(Request {
         kind: kind_with(flags & SED_EXTENDED != 0),
         quiet: flags & SED_QUIET != 0,
         limits: within,

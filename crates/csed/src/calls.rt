@@ -2,12 +2,12 @@
 ghost use Rattle.std.specs.Prelude.{◌≡◌, ◌≢◌, ◌≤◌, ◌⊎◌, drop, length, take};
 ghost use Rattle.sedscript.specs.Program.{Program};
 ghost use Rattle.csed.specs.Reports.{empty_report, of_bytes};
-ghost use Rattle.csed.specs.Calls.{GivesScript, IsBeginning, IsRefused, IsStopped, IsWhole, MayAsk, MayNotAsk, asked_by};
-ghost use Rattle.csed.specs.Outcomes.{ChecksTo, EditsTo, written_of};
+ghost use Rattle.csed.specs.Calls.{GivesFilelessScript, IsBeginning, IsRefused, IsStopped, IsWhole, MayAsk, MayNotAsk, asked_by};
+ghost use Rattle.csed.specs.Outcomes.{ChecksTo, EditsTo, bytes_written};
 
 use crate::asked::{SedLimits, asked_by};
 use crate::outcome::{
-    Outcome, SED_BAD_LIMITS, SED_DONE, SED_NO_MEMORY, SED_REFUSED, SED_STOPPED, SedReport,
+    CallOutcome, SED_BAD_LIMITS, SED_DONE, SED_NO_MEMORY, SED_REFUSED, SED_STOPPED, SedReport,
 };
 use crate::running::{read, run};
 use std::alloc::Global;
@@ -32,7 +32,7 @@ pub extern "C" fn sed_check(
     ensures bad_limits { result ≡ SED_BAD_LIMITS → MayNotAsk flags limits.now }
     ensures may { result ≢ SED_BAD_LIMITS → MayAsk flags limits.now }
     // The text means a script that may run.
-    ensures done { result ≡ SED_DONE → (p : Program) × GivesScript script.now (asked_by flags limits.now) p }
+    ensures done { result ≡ SED_DONE → (p : Program) × GivesFilelessScript script.now (asked_by flags limits.now) p }
     // The fault is the first one of the text, or a file is written.
     ensures refused { result ≡ SED_REFUSED → IsRefused script.now (asked_by flags limits.now) report.new }
     // Nothing else is reported.
@@ -89,17 +89,17 @@ pub extern "C" fn sed_edit(
 }
 
 /// What the reading of a script comes to.
-fn check(alloc: Global, script: &[u8], flags: u32, limits: &SedLimits) -> Outcome
+fn check(alloc: Global, script: &[u8], flags: u32, limits: &SedLimits) -> CallOutcome
     ensures { ChecksTo script.now flags limits.now result }
 {
     let Some(asked) = asked_by(flags, limits) else {
-        return Outcome::BadLimits;
+        return CallOutcome::BadLimits;
     };
     match read(alloc, script, &asked) {
         Err(refusal) => refusal,
         Ok(program) => {
             program.close();
-            Outcome::Done(0)
+            CallOutcome::Done(0)
         }
     }
 }
@@ -112,14 +112,14 @@ fn edit_by(
     input: &[u8],
     output: &mut [u8],
     limits: &SedLimits,
-) -> Outcome
+) -> CallOutcome
     ensures comes { EditsTo script.now flags limits.now input.now output.new result }
-    ensures written { written_of result ≤ length output.new }
-    ensures rest { drop (written_of result) output.new ≡ drop (written_of result) output.old }
+    ensures written { bytes_written result ≤ length output.new }
+    ensures rest { drop (bytes_written result) output.new ≡ drop (bytes_written result) output.old }
     ensures same_length { length output.new ≡ length output.old }
 {
     let Some(asked) = asked_by(flags, limits) else {
-        return Outcome::BadLimits;
+        return CallOutcome::BadLimits;
     };
     match read(alloc, script, &asked) {
         Err(refusal) => refusal,

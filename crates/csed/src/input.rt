@@ -5,20 +5,20 @@ use sedspace::{Broken, ByteSource};
 
 /// Bytes that the caller lends. No read of them fails.
 #[derive(Drop)]
-pub(crate) struct Input<'a> {
+pub(crate) struct LentBytes<'a> {
     left: &'a [u8],
 }
 
-impl<'a> Input<'a> {
+impl<'a> LentBytes<'a> {
     /// The bytes as an input.
-    pub(crate) fn new(bytes: &'a [u8]) -> Input<'a>
+    pub(crate) fn new(bytes: &'a [u8]) -> LentBytes<'a>
         ensures { result ≡ record { left = bytes.entry } }
     {
-        Input { left: bytes }
+        LentBytes { left: bytes }
     }
 }
 
-impl<'a> ByteSource for Input<'a> {
+impl<'a> ByteSource for LentBytes<'a> {
     ghost remaining = { λ s. Some s.left.now };
 
     ghost failures = { λ _. 0 };

@@ -1,6 +1,6 @@
 //! What calls come to, and what they report.
 ghost use Rattle.std.specs.Prelude.{◌≡◌};
-ghost use Rattle.csed.specs.Reports.{cause_of, expression_of, line_of};
+ghost use Rattle.csed.specs.Reports.{cause_of, expression_of, line_named};
 ghost use Rattle.csed.specs.Outcomes.{report_of, status_of};
 
 use sedengine::Ended;
@@ -46,7 +46,7 @@ pub struct SedReport {
 
 /// What a call came to.
 #[derive(Clone, Copy)]
-pub(crate) enum Outcome {
+pub(crate) enum CallOutcome {
     /// All went well, and this many bytes were written.
     Done(usize),
     /// The script has this fault.
@@ -61,17 +61,17 @@ pub(crate) enum Outcome {
     Stopped(usize, Ended),
 }
 
-impl Outcome {
+impl CallOutcome {
     /// Its number.
     pub(crate) fn status(self) -> i32
         ensures { result ≡ status_of self }
     {
         match self {
-            Outcome::Done(_) => SED_DONE,
-            Outcome::Faulty(_) | Outcome::WritesFiles => SED_REFUSED,
-            Outcome::BadLimits => SED_BAD_LIMITS,
-            Outcome::NoMemory => SED_NO_MEMORY,
-            Outcome::Stopped(_, _) => SED_STOPPED,
+            CallOutcome::Done(_) => SED_DONE,
+            CallOutcome::Faulty(_) | CallOutcome::WritesFiles => SED_REFUSED,
+            CallOutcome::BadLimits => SED_BAD_LIMITS,
+            CallOutcome::NoMemory => SED_NO_MEMORY,
+            CallOutcome::Stopped(_, _) => SED_STOPPED,
         }
     }
 
@@ -89,19 +89,19 @@ impl Outcome {
             spare: 0,
         };
         match self {
-            Outcome::Done(written) => SedReport { written, ..blank },
-            Outcome::Faulty(fault) => SedReport {
+            CallOutcome::Done(written) => SedReport { written, ..blank },
+            CallOutcome::Faulty(fault) => SedReport {
                 place: fault.place,
                 fault: fault.reason.number(),
                 expression: expression_of(fault.reason),
                 ..blank
             },
-            Outcome::WritesFiles => SedReport {
+            CallOutcome::WritesFiles => SedReport {
                 fault: SED_FAULT_WRITES_FILES,
                 ..blank
             },
-            Outcome::BadLimits | Outcome::NoMemory => blank,
-            Outcome::Stopped(written, end) => SedReport {
+            CallOutcome::BadLimits | CallOutcome::NoMemory => blank,
+            CallOutcome::Stopped(written, end) => SedReport {
                 written,
                 line: line_of(end),
                 cause: cause_of(end),
@@ -140,7 +140,7 @@ fn cause_of(end: Ended) -> u32
 
 /// The line that an end names, or 0.
 fn line_of(end: Ended) -> u64
-    ensures { result ≡ line_of end }
+    ensures { result ≡ line_named end }
 {
     match end {
         Ended::PatternFull(line) => line,

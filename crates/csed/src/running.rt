@@ -1,12 +1,12 @@
 //! A script is read, and run over bytes in memory.
 ghost use Rattle.std.specs.Prelude.{◌≡◌, ◌≢◌, ◌<◌, ◌≤◌, ◌⊎◌, ◌||◌, ℕ, [], Ok, IfErr, IfOk, IfSome, drop, length, take};
-ghost use Rattle.csed.specs.declared.outcome.Outcome.TheVariants.{Faulty as HasFault, NoMemory, WritesFiles as HasFiles};
-ghost use Rattle.csed.specs.Calls.{GivesScript};
-ghost use Rattle.csed.specs.Outcomes.{IsRefusal, RunsTo, outcome_of, written_of};
+ghost use Rattle.csed.specs.declared.outcome.CallOutcome.TheVariants.{Faulty as HasFault, NoMemory, WritesFiles as HasFiles};
+ghost use Rattle.csed.specs.Calls.{GivesFilelessScript};
+ghost use Rattle.csed.specs.Outcomes.{IsScriptRefusal, CallRunsTo, outcome_of, bytes_written};
 
-use crate::asked::Asked;
-use crate::input::Input;
-use crate::outcome::Outcome;
+use crate::asked::Request;
+use crate::input::LentBytes;
+use crate::outcome::CallOutcome;
 use crate::standard_output::StandardOutput;
 use sededit::{edit, script};
 use sedengine::{Ended, Limits};
@@ -15,9 +15,9 @@ use sedspace::MemoryTexts;
 use std::alloc::{AllocError, Global};
 
 /// Reads a script that may run here.
-pub(crate) fn read(alloc: Global, text: &[u8], asked: &Asked) -> Result<Script, Outcome>
-    ensures gives { IfOk result (GivesScript text.now asked.now) }
-    ensures refused { IfErr result (IsRefusal text.now asked.now) }
+pub(crate) fn read(alloc: Global, text: &[u8], asked: &Request) -> Result<Script, CallOutcome>
+    ensures gives { IfOk result (GivesFilelessScript text.now asked.now) }
+    ensures refused { IfErr result (IsScriptRefusal text.now asked.now) }
 {
     match script(alloc, text, asked.kind, asked.limits.nodes()) {
         Err(fault) => Err(refusal_of(fault)),
@@ -26,23 +26,23 @@ pub(crate) fn read(alloc: Global, text: &[u8], asked: &Asked) -> Result<Script, 
 }
 
 /// What keeps a script from being read.
-fn refusal_of(fault: ScriptFault) -> Outcome
+fn refusal_of(fault: ScriptFault) -> CallOutcome
     ensures { (result ≡ NoMemory) ⊎ ((result ≡ HasFault fault) × (fault ≢ NO_MEMORY)) }
 {
     match fault.reason {
-        Reason::NoMemory => Outcome::NoMemory,
-        _ => Outcome::Faulty(fault),
+        Reason::NoMemory => CallOutcome::NoMemory,
+        _ => CallOutcome::Faulty(fault),
     }
 }
 
 /// The script, with its default output suppressed where that is asked for, if it names no file to write.
-fn without_files(mut program: Script, quiet: bool) -> Result<Script, Outcome>
+fn without_files(mut program: Script, quiet: bool) -> Result<Script, CallOutcome>
     ensures gives { IfOk result (λ p. (program.wfiles ≡ []) × (p ≡ record program { quiet = quiet || program.quiet })) }
     ensures refused { IfErr result (λ o. (o ≡ HasFiles) × (0 < length program.wfiles)) }
 {
     if !program.wfiles().is_empty() {
         program.close();
-        return Err(Outcome::WritesFiles);
+        return Err(CallOutcome::WritesFiles);
     }
     if quiet {
         program.set_quiet();
@@ -61,12 +61,12 @@ fn deliver(bytes: &[u8], output: &mut [u8])
 }
 
 /// What a run came to that ended with `end` and wrote `written` bytes.
-fn outcome_of(end: Ended, written: usize) -> Outcome
+fn outcome_of(end: Ended, written: usize) -> CallOutcome
     ensures { result ≡ outcome_of end written }
 {
     match end {
-        Ended::Done => Outcome::Done(written),
-        end => Outcome::Stopped(written, end),
+        Ended::Done => CallOutcome::Done(written),
+        end => CallOutcome::Stopped(written, end),
     }
 }
 
@@ -88,19 +88,19 @@ pub(crate) fn run(
     limits: Limits,
     input: &[u8],
     output: &mut [u8],
-) -> Outcome
+) -> CallOutcome
     requires nodes { program.max_nodes ≤ limits.nodes }
     requires files { program.wfiles ≡ [] }
-    ensures runs { RunsTo limits program input.now output.new result }
-    ensures written { written_of result ≤ length output.new }
-    ensures rest { drop (written_of result) output.new ≡ drop (written_of result) output.old }
+    ensures runs { CallRunsTo limits program input.now output.new result }
+    ensures written { bytes_written result ≤ length output.new }
+    ensures rest { drop (bytes_written result) output.new ≡ drop (bytes_written result) output.old }
     ensures same_length { length output.new ≡ length output.old }
 {
     let room = output.len();
     let Ok(mut standard) = StandardOutput::with_room(alloc, room) else {
-        return Outcome::NoMemory;
+        return CallOutcome::NoMemory;
     };
-    let mut source = Input::new(input);
+    let mut source = LentBytes::new(input);
     let mut texts = MemoryTexts::new(Vec::new(alloc));
     let ended = edit(
         alloc,
@@ -111,7 +111,7 @@ pub(crate) fn run(
         &mut texts,
     );
     let Some(end) = end_of(ended) else {
-        return Outcome::NoMemory;
+        return CallOutcome::NoMemory;
     };
     let bytes = standard.bytes();
     deliver(bytes, output);

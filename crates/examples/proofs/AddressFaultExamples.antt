@@ -3,12 +3,12 @@
 use Rattle.std.proofs.Common.{refl}
 use Rattle.std.specs.Prelude.{codes}
 use Rattle.sedre.specs.declared.types.Kind.TheVariants.{Basic, Extended}
-use Rattle.sedre.specs.declared.types.Reason.TheVariants as expression
+use Rattle.sedre.specs.declared.types.ExprReason.TheVariants as expression
 use Rattle.sedscript.specs.declared.types.Reason.TheVariants as fault
 use Rattle.sedscript.specs.FirstFault.{Faulty}
 use Rattle.examples.proofs.ComputedScript.{verdict, cutting, walked, has_fault}
 use Rattle.examples.proofs.ScriptWords.{fault_at, expression_fault_at}
-use Rattle.sedre.specs.Items.{item_at as expression_item_at}
+use Rattle.sedre.specs.Tokens.{token_at}
 use Rattle.sedre.specs.Brackets.{list_at, list_end, delimiter_at}
 use Rattle.examples.proofs.ComputedReading.{outcome, rest_of}
 use Rattle.sedscript.specs.Bytes.{past}
@@ -55,11 +55,11 @@ unfolding verdict cutting walked item_at past function_at addresses_at address_a
 bang_before_too_many_addresses = has_fault refl
 
 flag_after_a_blank : Faulty (codes "/a/ Ip") Basic 65536 (fault_at 4 fault.UnknownCommand)
-unfolding verdict cutting walked item_at past function_at addresses_at address_at match_at substitute_at substituted delimiter_at outcome rest_of expression_item_at text_from
+unfolding verdict cutting walked item_at past function_at addresses_at address_at match_at substitute_at substituted delimiter_at outcome rest_of token_at text_from
 flag_after_a_blank = has_fault refl
 
 second_flag_of_an_address : Faulty (codes "/a/I I") Basic 65536 (fault_at 5 fault.UnknownCommand)
-unfolding verdict cutting walked item_at past function_at addresses_at address_at match_at substitute_at substituted delimiter_at outcome rest_of expression_item_at text_from
+unfolding verdict cutting walked item_at past function_at addresses_at address_at match_at substitute_at substituted delimiter_at outcome rest_of token_at text_from
 second_flag_of_an_address = has_fault refl
 
 left_out_z : Faulty (codes "z") Basic 65536 (fault_at 0 fault.UnknownCommand)
@@ -137,57 +137,57 @@ left_out_offset = has_fault refl
 -- The delimiter that ends an address isn't there, or is none.
 
 open_second_address : Faulty (codes "/a/,/b") Basic 65536 (fault_at 4 fault.OpenDelimiter)
-unfolding verdict cutting walked item_at past function_at addresses_at address_at second_at match_at substitute_at substituted delimiter_at outcome rest_of expression_item_at text_from
+unfolding verdict cutting walked item_at past function_at addresses_at address_at second_at match_at substitute_at substituted delimiter_at outcome rest_of token_at text_from
 open_second_address = has_fault refl
 
 open_list_in_an_address : Faulty (codes "/[/p") Basic 65536 (fault_at 0 fault.OpenDelimiter)
-unfolding verdict cutting walked item_at past function_at addresses_at address_at match_at substitute_at substituted delimiter_at outcome rest_of expression_item_at list_at list_end
+unfolding verdict cutting walked item_at past function_at addresses_at address_at match_at substitute_at substituted delimiter_at outcome rest_of token_at list_at list_end
 open_list_in_an_address = has_fault refl
 
 form_of_no_byte_in_an_address : Faulty (codes "/[[::]]/p") Basic 65536 (fault_at 0 fault.OpenDelimiter)
-unfolding verdict cutting walked item_at past function_at addresses_at address_at match_at substitute_at substituted delimiter_at outcome rest_of expression_item_at list_at list_end
+unfolding verdict cutting walked item_at past function_at addresses_at address_at match_at substitute_at substituted delimiter_at outcome rest_of token_at list_at list_end
 form_of_no_byte_in_an_address = has_fault refl
 
 address_over_two_lines : Faulty (codes "/a\n/p") Basic 65536 (fault_at 0 fault.OpenDelimiter)
-unfolding verdict cutting walked item_at past function_at addresses_at address_at match_at substitute_at substituted delimiter_at outcome rest_of expression_item_at text_from
+unfolding verdict cutting walked item_at past function_at addresses_at address_at match_at substitute_at substituted delimiter_at outcome rest_of token_at text_from
 address_over_two_lines = has_fault refl
 
 open_address_with_its_own_delimiter : Faulty (codes "\\%a") Basic 65536 (fault_at 1 fault.OpenDelimiter)
-unfolding verdict cutting walked item_at past function_at addresses_at address_at match_at substitute_at substituted delimiter_at outcome rest_of expression_item_at text_from
+unfolding verdict cutting walked item_at past function_at addresses_at address_at match_at substitute_at substituted delimiter_at outcome rest_of token_at text_from
 open_address_with_its_own_delimiter = has_fault refl
 
 no_delimiter : Faulty (codes "\\") Basic 65536 (fault_at 1 fault.BadDelimiter)
-unfolding verdict cutting walked item_at past function_at addresses_at address_at match_at substitute_at substituted delimiter_at outcome rest_of expression_item_at
+unfolding verdict cutting walked item_at past function_at addresses_at address_at match_at substitute_at substituted delimiter_at outcome rest_of token_at
 no_delimiter = has_fault refl
 
 backslash_as_delimiter : Faulty (codes "\\\\a\\p") Basic 65536 (fault_at 1 fault.BadDelimiter)
-unfolding verdict cutting walked item_at past function_at addresses_at address_at match_at substitute_at substituted delimiter_at outcome rest_of expression_item_at text_from
+unfolding verdict cutting walked item_at past function_at addresses_at address_at match_at substitute_at substituted delimiter_at outcome rest_of token_at text_from
 backslash_as_delimiter = has_fault refl
 
 newline_as_delimiter : Faulty (codes "\\\na\np") Basic 65536 (fault_at 1 fault.BadDelimiter)
-unfolding verdict cutting walked item_at past function_at addresses_at address_at match_at substitute_at substituted delimiter_at outcome rest_of expression_item_at text_from
+unfolding verdict cutting walked item_at past function_at addresses_at address_at match_at substitute_at substituted delimiter_at outcome rest_of token_at text_from
 newline_as_delimiter = has_fault refl
 
 -- A regular expression has a fault, told at its place in the script and in the expression.
 
 open_group_in_an_address : Faulty (codes "/\\(/p") Basic 65536 (expression_fault_at 3 2 expression.OpenGroup)
-unfolding verdict cutting walked item_at past function_at addresses_at address_at match_at substitute_at substituted delimiter_at outcome rest_of expression_item_at
+unfolding verdict cutting walked item_at past function_at addresses_at address_at match_at substitute_at substituted delimiter_at outcome rest_of token_at
 open_group_in_an_address = has_fault refl
 
 too_many_nodes_in_an_address : Faulty (codes "/ab/p") Basic 1 (expression_fault_at 3 2 expression.TooManyNodes)
-unfolding verdict cutting walked item_at past function_at addresses_at address_at match_at substitute_at substituted delimiter_at outcome rest_of expression_item_at text_from
+unfolding verdict cutting walked item_at past function_at addresses_at address_at match_at substitute_at substituted delimiter_at outcome rest_of token_at text_from
 too_many_nodes_in_an_address = has_fault refl
 
 back_reference_in_an_address : Faulty (codes "/\\(a\\)\\1/p") Basic 65536 (expression_fault_at 6 5 expression.BackReference)
-unfolding verdict cutting walked item_at past function_at addresses_at address_at match_at substitute_at substituted delimiter_at outcome rest_of expression_item_at text_from
+unfolding verdict cutting walked item_at past function_at addresses_at address_at match_at substitute_at substituted delimiter_at outcome rest_of token_at text_from
 back_reference_in_an_address = has_fault refl
 
 fault_of_the_second_address : Faulty (codes "/a/,/*/p") Extended 65536 (expression_fault_at 5 0 expression.NothingToRepeat)
-unfolding verdict cutting walked item_at past function_at addresses_at address_at second_at match_at substitute_at substituted delimiter_at outcome rest_of expression_item_at text_from
+unfolding verdict cutting walked item_at past function_at addresses_at address_at second_at match_at substitute_at substituted delimiter_at outcome rest_of token_at text_from
 fault_of_the_second_address = has_fault refl
 
 -- The flag I stands after an empty expression.
 
 flag_on_an_empty_address : Faulty (codes "//Ip") Basic 65536 (fault_at 2 fault.FlagOnEmpty)
-unfolding verdict cutting walked item_at past function_at addresses_at address_at match_at substitute_at substituted delimiter_at outcome rest_of expression_item_at
+unfolding verdict cutting walked item_at past function_at addresses_at address_at match_at substitute_at substituted delimiter_at outcome rest_of token_at
 flag_on_an_empty_address = has_fault refl

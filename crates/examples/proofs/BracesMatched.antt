@@ -10,7 +10,7 @@ use Rattle.sedscript.specs.declared.letters.Verb.{Verb}
 use Rattle.sedscript.specs.declared.letters.Verb.TheVariants.{Open, Close, Label, Branch}
 use Rattle.sedscript.specs.declared.items.Argument.{Argument}
 use Rattle.sedscript.specs.declared.items.Item.{Item}
-use Rattle.sedscript.specs.Script.{Means, target_fault_at, target_fault_in, target_fault, counted, commands_in, written_in, branch_in, label_in, depth_after, close_in, block_end}
+use Rattle.sedscript.specs.Script.{Means, target_fault_at, target_fault_in, target_fault, count_with, commands_in, written_in, branch_in, label_in, depth_after, close_in, block_end}
 use Rattle.sedscript.specs.Program.{Program}
 use Rattle.sedscript.specs.Letters.{becomes_command, is_open, is_close}
 use Rattle.sedscript.specs.Bytes.{fault_if}
@@ -63,7 +63,7 @@ open_step d n i is o = rw o refl
 close_step : (d n : ℕ) (j : Item) (is : Items) → j.verb ≡ Close → close_in (suc d) n (j ∷ is) ≡ close_in d n is
 close_step d n j is c = rw (c, some_more d, one_less d) refl
 
-plain_step : (d n : ℕ) (i : Item) (is : Items) → is_open i.verb ≡ false → is_close i.verb ≡ false → close_in d n (i ∷ is) ≡ close_in d (counted n i) is
+plain_step : (d n : ℕ) (i : Item) (is : Items) → is_open i.verb ≡ false → is_close i.verb ≡ false → close_in d n (i ∷ is) ≡ close_in d (count_with n i) is
 plain_step d n i is o c = rw (o, c) refl
 
 close_here : (n : ℕ) (j : Item) (is : Items) → j.verb ≡ Close → close_in 0 n (j ∷ is) ≡ Some n
@@ -87,7 +87,7 @@ close_counts j is c = rw c refl
 past_matching : (is : Items) → BracesMatch is → (d n : ℕ) (rest : Items) → close_in d n (is ++ rest) ≡ close_in d (n + commands_in is) rest
 past_matching _ none d n rest = ap (λ (k : ℕ). close_in d k rest) (let e : n ≡ n + 0 = omega arith in e)
 past_matching _ (other i is o c m) d n rest =
-    plain_step d n i (is ++ rest) o c ∙ (past_matching is m d (counted n i) rest ∙ ap (λ (k : ℕ). close_in d k rest) (counted_in n i is))
+    plain_step d n i (is ++ rest) o c ∙ (past_matching is m d (count_with n i) rest ∙ ap (λ (k : ℕ). close_in d k rest) (counted_in n i is))
 past_matching _ (block i j inner after o m c g) d n rest =
     open_step d n i ((inner ++ j ∷ after) ++ rest) o
     ∙ (ap (close_in (suc d) (suc n)) (append_assoc inner (j ∷ after) rest)
@@ -120,7 +120,7 @@ none_deeper (i ∷ is) d n m e = by_verb i.verb refl (none_deeper is) d e
     by_verb Close c rest zero e = let no : ◌≡◌ {A = Option ℕ} (Some n) None = sym (close_here n i is c) ∙ e in absurd cc
     by_verb Close c rest (suc d) e = close_step (suc d) m i is c ∙ rest d n m (sym (close_step d n i is c) ∙ e)
     by_verb f p rest d e =
-        plain_step (suc d) m i is (ap is_open p) (ap is_close p) ∙ rest d (counted n i) (counted m i) (sym (plain_step d n i is (ap is_open p) (ap is_close p)) ∙ e)
+        plain_step (suc d) m i is (ap is_open p) (ap is_close p) ∙ rest d (count_with n i) (count_with m i) (sym (plain_step d n i is (ap is_open p) (ap is_close p)) ∙ e)
 
 -- ---- where nothing is wrong
 

@@ -13,15 +13,15 @@ use Rattle.sedfiles.specs.CommandLine.{Asks, IsCommandLine, given_to, is_given, 
 use Rattle.sedfiles.specs.declared.asked.Part.{Part}
 use Rattle.sedre.specs.Brackets.{delimiter_at}
 use Rattle.sedre.specs.Tree.{tree_at, tree_within}
-use Rattle.sedre.specs.Items.{item_at as expression_item_at}
+use Rattle.sedre.specs.Tokens.{token_at}
 use Rattle.sedre.specs.Sets.{set_of}
-use Rattle.sedmatch.specs.Matching.{any, greatest, copies, spans, longest, found_from, leftmost_longest, cut, first_copy, last_start, groups_after, report}
+use Rattle.sedmatch.specs.Matching.{any, greatest, copies, spans, longest, found_from, leftmost_longest, greatest_cut, first_copy, last_start, groups_after, reported_groups}
 use Rattle.sedscript.specs.Items.{match_at, address_at, second_at, addresses_at, substitute_at, function_at, item_at}
 use Rattle.sedscript.specs.Letters.{substituted}
 use Rattle.sedscript.specs.Bytes.{past}
 use Rattle.sedscript.specs.Arguments.{name_from, text_from}
 use Rattle.sedscript.specs.Program.{Program}
-use Rattle.sedspace.specs.Lines.{lines}
+use Rattle.sedspace.specs.Lines.{split_lines}
 use Rattle.sedengine.specs.Move.{next_move}
 use Rattle.sedengine.specs.Select.{selects}
 use Rattle.sedengine.specs.Substitute.{occurrences_from}
@@ -197,7 +197,7 @@ record Writes (words : List Text) (standard output : List ℕ) : Type 0 where
   answers : Answers (kind_with extended) (asked quiet) no_files parts standard operands output
 
 script_first_writes : (heap : Global) → Writes (codes "p" ∷ codes "a" ∷ []) [] (codes "x\nx\n")
-unfolding verdict cutting walked item_at past function_at addresses_at address_at second_at text_from name_from lines course next_move selects
+unfolding verdict cutting walked item_at past function_at addresses_at address_at second_at text_from name_from split_lines course next_move selects
 script_first_writes heap = record {
   quiet = false;
   extended = false;
@@ -208,7 +208,7 @@ script_first_writes heap = record {
 }
 
 two_options_in_a_word_write : (heap : Global) → Writes (codes "-nE" ∷ codes "s/(a)+/x/p" ∷ codes "f" ∷ []) [] (codes "x\n")
-unfolding verdict cutting walked item_at past function_at addresses_at address_at second_at text_from name_from lines course next_move selects match_at substitute_at substituted delimiter_at outcome rest_of expression_item_at set_of tree_at tree_within leftmost_longest found_from longest greatest spans any copies report groups_after cut first_copy last_start occurrences_from
+unfolding verdict cutting walked item_at past function_at addresses_at address_at second_at text_from name_from split_lines course next_move selects match_at substitute_at substituted delimiter_at outcome rest_of token_at set_of tree_at tree_within leftmost_longest found_from longest greatest spans any copies reported_groups groups_after greatest_cut first_copy last_start occurrences_from
 two_options_in_a_word_write heap = record {
   quiet = true;
   extended = true;
@@ -219,7 +219,7 @@ two_options_in_a_word_write heap = record {
 }
 
 two_scripts_write : (heap : Global) → Writes (codes "-ep" ∷ codes "-e" ∷ codes "P" ∷ codes "a" ∷ []) [] (codes "x\nx\nx\n")
-unfolding verdict cutting walked item_at past function_at addresses_at address_at second_at text_from name_from lines course next_move selects
+unfolding verdict cutting walked item_at past function_at addresses_at address_at second_at text_from name_from split_lines course next_move selects
 two_scripts_write heap = record {
   quiet = false;
   extended = false;
@@ -231,7 +231,7 @@ two_scripts_write heap = record {
 
 -- The script that a file holds is `#n` and `p`.
 script_in_a_file_writes : (heap : Global) → Writes (codes "-f" ∷ codes "s" ∷ codes "a" ∷ []) [] (codes "x\n")
-unfolding verdict cutting walked item_at past function_at addresses_at address_at second_at text_from name_from lines course next_move selects
+unfolding verdict cutting walked item_at past function_at addresses_at address_at second_at text_from name_from split_lines course next_move selects
 script_in_a_file_writes heap = record {
   quiet = false;
   extended = false;
@@ -248,7 +248,7 @@ script_in_a_file_writes heap = record {
 }
 
 option_at_the_end_writes : (heap : Global) → Writes (codes "p" ∷ codes "a" ∷ codes "-n" ∷ []) [] (codes "x\n")
-unfolding verdict cutting walked item_at past function_at addresses_at address_at second_at text_from name_from lines course next_move selects
+unfolding verdict cutting walked item_at past function_at addresses_at address_at second_at text_from name_from split_lines course next_move selects
 option_at_the_end_writes heap = record {
   quiet = true;
   extended = false;
@@ -259,7 +259,7 @@ option_at_the_end_writes heap = record {
 }
 
 lone_hyphen_writes : (heap : Global) → Writes (codes "p" ∷ codes "-" ∷ []) (codes "y\n") (codes "y\ny\n")
-unfolding verdict cutting walked item_at past function_at addresses_at address_at second_at text_from name_from lines course next_move selects
+unfolding verdict cutting walked item_at past function_at addresses_at address_at second_at text_from name_from split_lines course next_move selects
 lone_hyphen_writes heap = record {
   quiet = false;
   extended = false;

@@ -6,7 +6,7 @@ use Rattle.sedre.specs.declared.types.Kind.{Kind}
 use Rattle.sedre.specs.declared.types.Kind.TheVariants.{Basic}
 use Rattle.sedscript.specs.Program.{Program}
 use Rattle.examples.proofs.ComputedScript.{Script}
-use Rattle.sedspace.specs.Lines.{lines}
+use Rattle.sedspace.specs.Lines.{split_lines}
 use Rattle.sedengine.specs.State.{Limits, State, Task, Move, Setting, setting_of}
 use Rattle.sedengine.specs.Move.{next_move, after, start, to_sink}
 use Rattle.sedengine.specs.Ends.{WithinLimits, Within, StopsAt, IsCause, Whole, BrokenOff, named_sink, reads}
@@ -208,7 +208,7 @@ stops_within {l = l} {g = g} {s = s} {end = end} {out = out} n k byte past due w
 abbrev pub StopsBy : Limits → Kind → (Program → Program) → (ℕ → List ℕ) → (text input : List ℕ) → Ended →
     (out : List (ℕ × ℕ)) → Type 0
 StopsBy l kind asked files text input end out =
-    Script text kind (λ p. Stops l (setting_of (asked p) files) (start p.commands (lines input)) end out)
+    Script text kind (λ p. Stops l (setting_of (asked p) files) (start p.commands (split_lines input)) end out)
 
 -- the same, of a script with basic expressions, for the standard output alone
 abbrev pub EndsBy : Limits → (Program → Program) → (ℕ → List ℕ) → (text input : List ℕ) → Ended → (output : List ℕ) → Type 0

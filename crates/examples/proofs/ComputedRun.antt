@@ -5,7 +5,7 @@ use Rattle.sedre.specs.declared.types.Kind.{Kind}
 use Rattle.sedre.specs.declared.types.Kind.TheVariants.{Basic}
 use Rattle.sedscript.specs.Program.{Program}
 use Rattle.examples.proofs.ComputedScript.{Script}
-use Rattle.sedspace.specs.Lines.{lines}
+use Rattle.sedspace.specs.Lines.{split_lines}
 use Rattle.sedengine.specs.State.{State, Move, Setting, setting_of}
 use Rattle.sedengine.specs.Move.{next_move, after, written, start, to_sink}
 use Rattle.sededit.specs.Editing.{IsOutput}
@@ -75,7 +75,7 @@ ends_after {g = g} {s = s} n w e = record {
 -- The script of a text, over the lines of an input and with these files, writes these bytes, each to its sink, and ends.
 abbrev pub Edits : Kind → (Program → Program) → (ℕ → List ℕ) → List ℕ → List ℕ → List (ℕ × ℕ) → Type 0
 Edits kind asked files text input out =
-    Script text kind (λ p. IsOutput (setting_of (asked p) files) (start p.commands (lines input)) out)
+    Script text kind (λ p. IsOutput (setting_of (asked p) files) (start p.commands (split_lines input)) out)
 
 -- the script as it stands, and with `-n`
 abbrev pub plain : Program → Program

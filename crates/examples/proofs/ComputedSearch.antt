@@ -5,14 +5,14 @@ use Rattle.std.proofs.lemmas.Bool.{leb-true}
 use Rattle.sedre.specs.declared.types.Kind.{Kind}
 use Rattle.sedre.specs.Tree.{Tree}
 use Rattle.sedre.specs.Sets.{set_of}
-use Rattle.sedre.specs.Items.{item_at, front_interval}
+use Rattle.sedre.specs.Tokens.{token_at, front_interval}
 use Rattle.sedre.specs.Brackets.{list_at}
 use Rattle.sedre.specs.Grammar.{ReadsAs}
 use Rattle.examples.proofs.ComputedReading.{Outcome, reads, faulty, unfinished, outcome, rest_of, outcome_holds, Holds}
 use Rattle.sedmatch.specs.Spans.{IsLeftmostLongest, NotFound}
 use Rattle.sedmatch.specs.Caps.{IsReport}
 use Rattle.sedmatch.specs.Groups.{Groups}
-use Rattle.sedmatch.specs.Matching.{any, greatest, copies, spans, longest, found_from, leftmost_longest, cut, first_copy, last_start, groups_after, report}
+use Rattle.sedmatch.specs.Matching.{any, greatest, copies, spans, longest, found_from, leftmost_longest, greatest_cut, first_copy, last_start, groups_after, reported_groups}
 use Rattle.sedmatch.proofs.MatchingLemmas.{found-iff, not_found-iff, report-iff}
 
 -- the whole match and the first groups, as they are reported; the other groups have no span
@@ -42,7 +42,7 @@ pub data Answer : Type 0 where
 
 abbrev with_groups : Tree → List ℕ → Option (ℕ × ℕ) → Answer
 with_groups e w None = nothing
-with_groups e w (Some f) = matched f.0 f.1 (report e w f.0 f.1)
+with_groups e w (Some f) = matched f.0 f.1 (reported_groups e w f.0 f.1)
 
 abbrev answer : Outcome → (within : Bool) → List ℕ → ℕ → Answer
 answer (reads e count) true w p = with_groups e w (leftmost_longest e w p)
@@ -52,7 +52,7 @@ answer unfinished within w p = no_answer
 
 -- the expression sought in w from place p on
 unfoldable pub search : Kind → (expression w : List ℕ) → ℕ → Answer
-unfolding outcome rest_of item_at front_interval list_at set_of any greatest copies spans longest found_from leftmost_longest cut first_copy last_start groups_after report
+unfolding outcome rest_of token_at front_interval list_at set_of any greatest copies spans longest found_from leftmost_longest greatest_cut first_copy last_start groups_after reported_groups
 search kind expression w p = answer (outcome kind false None expression 65536) (nat_le p (length w)) w p
 
 -- what the definitions say of an answer
@@ -65,7 +65,7 @@ says_so : (e : Tree) (w : List ℕ) (p : ℕ) → p ≤ length w → (r : Option
 says_so e w p fits None is = (not_found-iff e w p fits).0 is
 says_so e w p fits (Some f) is =
     let there : IsLeftmostLongest e w p f.0 f.1 = (found-iff e w p f.0 f.1 fits).0 is in
-    (there, (report-iff e w f.0 f.1 (report e w f.0 f.1) there.spans).0 refl)
+    (there, (report-iff e w f.0 f.1 (reported_groups e w f.0 f.1) there.spans).0 refl)
 
 -- what an answer to an expression's text says
 abbrev SaysOf : Kind → (expression w : List ℕ) → ℕ → Answer → Type 0

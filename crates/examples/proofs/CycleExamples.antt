@@ -7,7 +7,7 @@ use Rattle.sedscript.specs.Items.{address_at, second_at, addresses_at, function_
 use Rattle.sedscript.specs.Bytes.{past}
 use Rattle.sedscript.specs.Arguments.{name_from, text_from}
 use Rattle.sedscript.specs.Program.{Program}
-use Rattle.sedspace.specs.Lines.{lines, is_newline, HasNoNewline}
+use Rattle.sedspace.specs.Lines.{split_lines, is_newline, HasNoNewline}
 use Rattle.sedengine.specs.Ends.{IsCause, reads, BreaksInLine, LosesPartAfter, size_of}
 use Rattle.sedengine.specs.State.{Limits, setting_of, Setting, State}
 use Rattle.sedengine.specs.LimitRanges.{limits_of}
@@ -31,10 +31,10 @@ input = codes "a\nb\nc\n"
 -- as `less`.
 record FirstCycle (p : Program) (out : List (ℕ × ℕ)) (left rest less : List ℕ) : Type 0 where
   moves : ℕ
-  cycled : Cycled one_ahead (setting_of p no_files) (start p.commands (lines input)) out
+  cycled : Cycled one_ahead (setting_of p no_files) (start p.commands (split_lines input)) out
       (record { source = Some input; all = Some input }) (record { source = Some rest; all = Some left })
-      (after (setting_of p no_files) (start p.commands (lines input)) moves)
-  no_more : TakesInput (setting_of p no_files) (start p.commands (lines input)) (Some input) (Some less) one_ahead.look moves → ⊥
+      (after (setting_of p no_files) (start p.commands (split_lines input)) moves)
+  no_more : TakesInput (setting_of p no_files) (start p.commands (split_lines input)) (Some input) (Some less) one_ahead.look moves → ⊥
 
 -- between the first of six moves and the last
 between : (P : ℕ → Type 0) → P 1 → P 2 → P 3 → P 4 → P 5 → (k : ℕ) → 0 < k → k < 6 → P k
@@ -66,7 +66,7 @@ abbrev IsFirst : Program → Type 0
 IsFirst p = FirstCycle p (to_sink 0 (codes "a\na\n")) (codes "b\nc\n") (codes "\nc\n") (codes "c\n")
 
 first_cycle : Script (codes "p") Basic IsFirst
-unfolding verdict cutting walked item_at past function_at addresses_at address_at second_at text_from name_from lines after written next_move selects all_fit
+unfolding verdict cutting walked item_at past function_at addresses_at address_at second_at text_from name_from split_lines after written next_move selects all_fit
 first_cycle = is_script {text = codes "p"} {kind = Basic} {Fits = IsFirst} (record {
   moves = 6;
   cycled = record {
@@ -124,10 +124,10 @@ dropped_at l g s xs ys line (suc (suc n)) quiet writes is cause part = writes (f
 -- An engine that takes the first line and throws it away, since the read after it fails, is none that the contracts allow:
 -- the failure comes with the line gone and nothing written.
 abbrev KeepsItsLine : Program → Type 0
-KeepsItsLine p = (now : State) → Ending one_ahead (setting_of p no_files) (start p.commands (lines input)) []
+KeepsItsLine p = (now : State) → Ending one_ahead (setting_of p no_files) (start p.commands (split_lines input)) []
     (record { source = Some input; all = Some input }) (record { source = Some (codes "b\nc\n"); all = Some (codes "b\nc\n") }) now InputBroken → ⊥
 
 line_kept : Script (codes "p") Basic KeepsItsLine
-unfolding verdict cutting walked item_at past function_at addresses_at address_at second_at text_from name_from lines after written next_move selects all_fit
+unfolding verdict cutting walked item_at past function_at addresses_at address_at second_at text_from name_from split_lines after written next_move selects all_fit
 line_kept = is_script {text = codes "p"} {kind = Basic} {Fits = KeepsItsLine} (λ now e.
     dropped_at one_ahead _ _ input (codes "b\nc\n") (codes "a") e.t refl (λ none. cc) refl e.cause (e.broken refl))

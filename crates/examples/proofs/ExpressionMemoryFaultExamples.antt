@@ -4,10 +4,10 @@ use Rattle.std.proofs.Common.{◌≡◌, ℕ, List, Bool, true, false, None, ref
 use Rattle.std.specs.Prelude.{codes}
 use Rattle.sedre.specs.declared.types.Kind.{Kind}
 use Rattle.sedre.specs.declared.types.Kind.TheVariants.{Basic, Extended}
-use Rattle.sedre.specs.declared.types.Reason.TheVariants.{NoMemory}
+use Rattle.sedre.specs.declared.types.ExprReason.TheVariants.{NoMemory}
 use Rattle.sedre.specs.declared.types.TheConstants.{NO_MEMORY}
 use Rattle.sedre.specs.Grammar.{ExprFaulty}
-use Rattle.sedre.specs.Items.{item_at}
+use Rattle.sedre.specs.Tokens.{token_at}
 use Rattle.sedre.specs.Reasons.{number, name}
 use Rattle.examples.proofs.ComputedReading.{Outcome, outcome, rest_of, reads, faulty, unfinished, outcome_holds, Holds, no_fault_within}
 use Rattle.sedre.proofs.OneFault.{one_fault}
@@ -45,13 +45,13 @@ other : {kind : Kind} {text : List ℕ} {most : ℕ} → settled (outcome kind f
 other {kind = kind} {text = text} {most = most} e place = not_this kind text most place (outcome kind false None text most) (outcome_holds kind false None text most) e
 
 not_of_an_expression : Other Extended (codes "(a*)+") 65536
-unfolding outcome rest_of item_at
+unfolding outcome rest_of token_at
 not_of_an_expression = other refl
 
 not_of_an_open_group : Other Basic (codes "\\(") 65536
-unfolding outcome rest_of item_at
+unfolding outcome rest_of token_at
 not_of_an_open_group = other refl
 
 not_of_too_many_nodes : Other Extended (codes "ab") 2
-unfolding outcome rest_of item_at
+unfolding outcome rest_of token_at
 not_of_too_many_nodes = other refl

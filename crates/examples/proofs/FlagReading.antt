@@ -8,7 +8,7 @@ use Rattle.sedscript.specs.declared.types.ScriptFault.{ScriptFault}
 use Rattle.sedscript.specs.declared.types.Reason.TheVariants.{UnknownFlag, RepeatedFlag, BadNumber, MissingName, FlagOnEmpty}
 use Rattle.sedscript.specs.declared.items.Flags.{Flags}
 use Rattle.sedscript.specs.Bytes.{is_digit, bytes_between, with_digits, fault, ◌>>=◌}
-use Rattle.sedscript.specs.Arguments.{name_from, no_flags, numbered, with_number, with_flag, flags_from, ends_flags, with_file}
+use Rattle.sedscript.specs.Arguments.{name_from, no_flags, with_flag_number, with_number, with_flag, flags_from, ends_flags, with_file}
 use Rattle.sedscript.specs.Strings.{is_among}
 use Rattle.examples.specs.Numbers.{decimal_from, WritesNumber, NumberAmong}
 
@@ -84,7 +84,7 @@ none_is (Some n) e = absurd (cc)
 told_number : (f h : Flags) (at b : ℕ) (digits : List ℕ) → b ≤ 57 → with_number f at digits ≡ Ok h → Numbered f h b digits
 told_number f h at b digits low e = by_first (is_some f.number) refl e
   where
-    by_number : (o : Option ℕ) → with_digits (Some 0) digits ≡ o → f.number ≡ None → numbered f at o ≡ Ok h → Numbered f h b digits
+    by_number : (o : Option ℕ) → with_digits (Some 0) digits ≡ o → f.number ≡ None → with_flag_number f at o ≡ Ok h → Numbered f h b digits
     by_number None d none e = no_ok (record { place = at; reason = BadNumber }) h (Numbered f h b digits) e
     by_number (Some zero) d none e = no_ok (record { place = at; reason = BadNumber }) h (Numbered f h b digits) e
     by_number (Some (suc n)) d none e =
@@ -97,7 +97,7 @@ told_number f h at b digits low e = by_first (is_some f.number) refl e
           told = told_digit f h b low (ap (λ (x : Flags). x.global) (sym same)) (ap (λ (x : Flags). x.print) (sym same)) (ap (λ (x : Flags). x.folded) (sym same)) (ap (λ (x : Flags). x.file) (sym same));
         }
 
-    by_first : (t : Bool) → is_some f.number ≡ t → (if t then fault RepeatedFlag at else numbered f at (with_digits (Some 0) digits)) ≡ Ok h → Numbered f h b digits
+    by_first : (t : Bool) → is_some f.number ≡ t → (if t then fault RepeatedFlag at else with_flag_number f at (with_digits (Some 0) digits)) ≡ Ok h → Numbered f h b digits
     by_first true is e = no_ok (record { place = at; reason = RepeatedFlag }) h (Numbered f h b digits) e
     by_first false is e = by_number (with_digits (Some 0) digits) refl (none_is f.number is) e
 

@@ -7,7 +7,7 @@ use Rattle.sedscript.specs.declared.types.Reason.TheVariants as fault
 use Rattle.sedscript.specs.FirstFault.{Faulty}
 use Rattle.examples.proofs.ComputedScript.{verdict, cutting, walked, has_fault}
 use Rattle.examples.proofs.ScriptWords.{fault_at}
-use Rattle.sedre.specs.Items.{item_at as expression_item_at}
+use Rattle.sedre.specs.Tokens.{token_at}
 use Rattle.sedre.specs.Brackets.{delimiter_at}
 use Rattle.examples.proofs.ComputedReading.{outcome, rest_of}
 use Rattle.sedscript.specs.Bytes.{past}
@@ -34,19 +34,19 @@ unfolding verdict cutting walked item_at past function_at addresses_at address_a
 no_text_on_the_line = has_fault refl
 
 backslash_without_a_line : Faulty (codes "a\\") Basic 65536 (fault_at 0 fault.MissingText)
-unfolding verdict cutting walked item_at past function_at addresses_at address_at match_at substitute_at substituted delimiter_at outcome rest_of expression_item_at text_from
+unfolding verdict cutting walked item_at past function_at addresses_at address_at match_at substitute_at substituted delimiter_at outcome rest_of token_at text_from
 backslash_without_a_line = has_fault refl
 
 backslash_and_an_empty_rest : Faulty (codes "a\\\n") Basic 65536 (fault_at 0 fault.MissingText)
-unfolding verdict cutting walked item_at past function_at addresses_at address_at match_at substitute_at substituted delimiter_at outcome rest_of expression_item_at text_from
+unfolding verdict cutting walked item_at past function_at addresses_at address_at match_at substitute_at substituted delimiter_at outcome rest_of token_at text_from
 backslash_and_an_empty_rest = has_fault refl
 
 further_line_missing : Faulty (codes "a x\\") Basic 65536 (fault_at 0 fault.MissingText)
-unfolding verdict cutting walked item_at past function_at addresses_at address_at match_at substitute_at substituted delimiter_at outcome rest_of expression_item_at text_from
+unfolding verdict cutting walked item_at past function_at addresses_at address_at match_at substitute_at substituted delimiter_at outcome rest_of token_at text_from
 further_line_missing = has_fault refl
 
 further_line_empty : Faulty (codes "a x\\\n") Basic 65536 (fault_at 0 fault.MissingText)
-unfolding verdict cutting walked item_at past function_at addresses_at address_at match_at substitute_at substituted delimiter_at outcome rest_of expression_item_at text_from
+unfolding verdict cutting walked item_at past function_at addresses_at address_at match_at substitute_at substituted delimiter_at outcome rest_of token_at text_from
 further_line_empty = has_fault refl
 
 -- A file's name is missing: the letter.

@@ -13,7 +13,7 @@ use Rattle.sedscript.specs.Items.{address_at, second_at, addresses_at, function_
 use Rattle.sedscript.specs.Bytes.{past}
 use Rattle.sedscript.specs.Arguments.{name_from, text_from}
 use Rattle.sedscript.specs.Program.{Program}
-use Rattle.sedspace.specs.Lines.{is_newline, lines}
+use Rattle.sedspace.specs.Lines.{is_newline, split_lines}
 use Rattle.sedengine.specs.Ends.{Whole, WithinLimits}
 use Rattle.sedengine.specs.Move.{line_to, next_move, start, to_sink}
 use Rattle.sedengine.specs.State.{setting_of, begin, do_at, flush, join, rebegin, Setting, State, Task}
@@ -55,8 +55,8 @@ text_of (line ∷ lines) = line ++ 10 ∷ text_of lines
 
 -- ---- lines and newlines
 
-lines_are : (ls : List (List ℕ)) → AreLines ls → lines (text_of ls) ≡ ls
-unfolding lines
+lines_are : (ls : List (List ℕ)) → AreLines ls → split_lines (text_of ls) ≡ ls
+unfolding split_lines
 lines_are [] are = refl
 lines_are (line ∷ ls) are = line_again line (text_of ls) are.0 ∙ ap (λ (rest : List (List ℕ)). line ∷ rest) (lines_are ls are.2)
 

@@ -2,7 +2,7 @@
 use Rattle.std.proofs.Common.{◌≡◌, ℕ, zero, suc, ◌+◌, ◌<◌, ◌||◌, Bool, true, false, List, [], ◌∷◌, ◌++◌, length, take, drop, refl, ap, take_all, arith}
 use Rattle.std.specs.Prelude.{slice_index_or}
 use Rattle.std.specs.List.{after_first, before_first, list_any, position_or_len}
-use Rattle.sedspace.specs.Lines.{is_newline, lines}
+use Rattle.sedspace.specs.Lines.{is_newline, split_lines}
 use Rattle.sedspace.proofs.LineLemmas.{lines_at}
 
 by_place : (line : List ℕ) → list_any is_newline line ≡ false → (k d : ℕ) → k < length line → is_newline (slice_index_or line k d) ≡ false
@@ -16,7 +16,7 @@ by_place (b ∷ bs) none k d below = by_test (is_newline b) refl none k below (b
     by_test false is none (suc k) below on = on none k d (omega arith)
 
 -- a line and its newline, and then others
-pub line_again : (line rest : List ℕ) → list_any is_newline line ≡ false → lines (line ++ 10 ∷ rest) ≡ line ∷ lines rest
+pub line_again : (line rest : List ℕ) → list_any is_newline line ≡ false → split_lines (line ++ 10 ∷ rest) ≡ line ∷ split_lines rest
 line_again line rest none = lines_at line rest (by_place line none)
 
 first_newline : (line rest : List ℕ) → list_any is_newline line ≡ false → position_or_len is_newline (line ++ 10 ∷ rest) ≡ length line

@@ -9,9 +9,9 @@ use Rattle.sedre.specs.declared.elements.Element.TheVariants.{Plain}
 use Rattle.sedre.specs.declared.types.ExprFault.{ExprFault}
 use Rattle.sedre.specs.declared.byte_set.ByteSet.{ByteSet}
 use Rattle.sedre.specs.Sets.{set_of, has, only, union, matching, complement}
-use Rattle.sedre.specs.Brackets.{front_element, elements, elements_from, is_delimiter, single, both, listed, judged, matched, begins, ListedBytes, list_at}
+use Rattle.sedre.specs.Brackets.{front_element, elements, elements_from, is_delimiter, single, both, all_listed, judged_list, matched_set, is_at_front, ListedBytes, list_at}
 use Rattle.sedscript.specs.Strings.{is_among}
-use Rattle.examples.specs.Lists.{ArePlain}
+use Rattle.examples.specs.Lists.{ArePlainMembers}
 
 abbrev Elements : Type 0
 Elements = List (ℕ × Element) × Option ℕ
@@ -41,19 +41,19 @@ elements_step : (t s : Bool) (place b : ℕ) (found : Element × ℕ) (next : �
     ◌≡◌ {A = Elements} (if t && s then ([], Some (place + 1)) else ((place, found.0) ∷ (next (found.1 - 1)).0, (next (found.1 - 1)).1)) ((place, Plain b) ∷ (next 0).0, (next 0).1)
 elements_step t s place b found next e f = rw e (rw f refl)
 
-front : (d : Option ℕ) (first : Bool) (place b : ℕ) (bs rest : List ℕ) → ArePlain d (b ∷ bs) →
+front : (d : Option ℕ) (first : Bool) (place b : ℕ) (bs rest : List ℕ) → ArePlainMembers d (b ∷ bs) →
     ◌≡◌ {A = Elements} (elements d first 0 place (b ∷ (bs ++ 93 ∷ rest))) ((place, Plain b) ∷ (elements d false 0 (place + 1) (bs ++ 93 ∷ rest)).0, (elements d false 0 (place + 1) (bs ++ 93 ∷ rest)).1)
 front d first place b bs rest p =
     elements_step (b == 93) (not first) place b (front_element d (b ∷ (bs ++ 93 ∷ rest))) (λ n. elements d false n (place + 1) (bs ++ 93 ∷ rest)) (ne_eqb b 93 p.1) (element_front d b bs rest p.0 p.4)
 
-later : (d : Option ℕ) (place : ℕ) (bs rest : List ℕ) → ArePlain d bs → ◌≡◌ {A = Elements} (elements d false 0 place (bs ++ 93 ∷ rest)) (placed place bs, Some (place + length bs + 1))
+later : (d : Option ℕ) (place : ℕ) (bs rest : List ℕ) → ArePlainMembers d bs → ◌≡◌ {A = Elements} (elements d false 0 place (bs ++ 93 ∷ rest)) (placed place bs, Some (place + length bs + 1))
 later d place [] rest p = let e : place + 1 ≡ place + 0 + 1 = omega arith in ap (λ (n : ℕ). let x : Elements = ([], Some n) in x) e
 later d place (b ∷ bs) rest p =
     front d false place b bs rest p
     ∙ (ap (λ (r : Elements). let x : Elements = ((place, Plain b) ∷ r.0, r.1) in x) (later d (place + 1) bs rest p.5)
     ∙ (let e : place + 1 + length bs + 1 ≡ place + suc (length bs) + 1 = omega arith in ap (λ (n : ℕ). let x : Elements = (placed place (b ∷ bs), Some n) in x) e))
 
-all_elements : (d : Option ℕ) (place : ℕ) (bs rest : List ℕ) → 0 < length bs → ArePlain d bs → ◌≡◌ {A = Elements} (elements d true 0 place (bs ++ 93 ∷ rest)) (placed place bs, Some (place + length bs + 1))
+all_elements : (d : Option ℕ) (place : ℕ) (bs rest : List ℕ) → 0 < length bs → ArePlainMembers d bs → ◌≡◌ {A = Elements} (elements d true 0 place (bs ++ 93 ∷ rest)) (placed place bs, Some (place + length bs + 1))
 all_elements d place [] rest h p = absurd (omega (arith, h))
 all_elements d place (b ∷ bs) rest h p =
     front d true place b bs rest p
@@ -62,7 +62,7 @@ all_elements d place (b ∷ bs) rest h p =
 
 -- ---- what they list
 
-one_by_one : (d : Option ℕ) (place b : ℕ) (bs : List ℕ) → ArePlain d bs → listed ((place, Plain b) ∷ placed (place + 1) bs) ≡ both (single (place, Plain b)) (listed (placed (place + 1) bs))
+one_by_one : (d : Option ℕ) (place b : ℕ) (bs : List ℕ) → ArePlainMembers d bs → all_listed ((place, Plain b) ∷ placed (place + 1) bs) ≡ both (single (place, Plain b)) (all_listed (placed (place + 1) bs))
 one_by_one d place b [] p = refl
 one_by_one d place b (c ∷ []) p = refl
 one_by_one d place b (c ∷ x ∷ bs) p = rw (ne_eqb c 45 p.2) refl
@@ -75,11 +75,11 @@ one_more b bs =
     set_of-same (λ c. has (only b) c || has (set_of (λ c. is_among bs c)) c) (λ c. is_among (b ∷ bs) c)
     (λ c low. rw (has-set_of (λ c. c == b) c low) (rw (has-set_of (λ c. is_among bs c) c low) (rw (same_test c b) refl)))
 
-all_listed : (d : Option ℕ) (place : ℕ) (bs : List ℕ) → ArePlain d bs → listed (placed place bs) ≡ Ok (set_of (λ c. is_among bs c))
-all_listed d place [] p = refl
-all_listed d place (b ∷ bs) p =
+lists_all : (d : Option ℕ) (place : ℕ) (bs : List ℕ) → ArePlainMembers d bs → all_listed (placed place bs) ≡ Ok (set_of (λ c. is_among bs c))
+lists_all d place [] p = refl
+lists_all d place (b ∷ bs) p =
     one_by_one d place b bs p.5
-    ∙ (ap (both (single (place, Plain b))) (all_listed d (place + 1) bs p.5)
+    ∙ (ap (both (single (place, Plain b))) (lists_all d (place + 1) bs p.5)
     ∙ ap (λ (s : List Bool). let x : ListedBytes = Ok s in x) (one_more b bs))
 
 -- ---- the whole list
@@ -92,17 +92,17 @@ abbrev Found : Type 0
 Found = Result (ByteSet × ℕ) ExprFault
 
 abbrev whole : Bool → Option ℕ → ℕ → List ℕ → Found
-whole folded d at bytes = judged folded (begins bytes 94) at (listed (elements_from d (at + 1) bytes).0) (elements_from d (at + 1) bytes).1
+whole folded d at bytes = judged_list folded (is_at_front bytes 94) at (all_listed (elements_from d (at + 1) bytes).0) (elements_from d (at + 1) bytes).1
 
 of_text : (folded : Bool) (d : Option ℕ) (before xs : List ℕ) → list_at folded d (before ++ 91 ∷ xs) (length before) ≡ whole folded d (length before) xs
 unfolding list_at
 of_text folded d before xs = ap (whole folded d (length before)) (drop_past before xs 91)
 
-judged_by : (folded negated : Bool) (d : Option ℕ) (at place : ℕ) (bs : List ℕ) (found : Elements) → ArePlain d bs → found ≡ (placed place bs, Some (place + length bs + 1)) →
-    judged folded negated at (listed found.0) found.1 ≡ Ok (matched folded negated (set_of (λ c. is_among bs c)), place + length bs + 1)
-judged_by folded negated d at place bs found p e = rw e (rw (all_listed d place bs p) refl)
+judged_by : (folded negated : Bool) (d : Option ℕ) (at place : ℕ) (bs : List ℕ) (found : Elements) → ArePlainMembers d bs → found ≡ (placed place bs, Some (place + length bs + 1)) →
+    judged_list folded negated at (all_listed found.0) found.1 ≡ Ok (matched_set folded negated (set_of (λ c. is_among bs c)), place + length bs + 1)
+judged_by folded negated d at place bs found p e = rw e (rw (lists_all d place bs p) refl)
 
-plain_front : (folded : Bool) (d : Option ℕ) (at : ℕ) (bs rest : List ℕ) → 0 < length bs → ArePlain d bs → whole folded d at (bs ++ 93 ∷ rest) ≡ Ok (matching folded (set_of (λ c. is_among bs c)), at + 1 + length bs + 1)
+plain_front : (folded : Bool) (d : Option ℕ) (at : ℕ) (bs rest : List ℕ) → 0 < length bs → ArePlainMembers d bs → whole folded d at (bs ++ 93 ∷ rest) ≡ Ok (matching folded (set_of (λ c. is_among bs c)), at + 1 + length bs + 1)
 plain_front folded d at [] rest h p = absurd (omega (arith, h))
 plain_front folded d at (b ∷ bs) rest h p =
     rw (ne_eqb b 94 p.3) (judged_by folded false d at (at + 1) (b ∷ bs) (elements d true 0 (at + 1) (b ∷ bs ++ 93 ∷ rest)) p (all_elements d (at + 1) (b ∷ bs) rest h p))
@@ -110,7 +110,7 @@ plain_front folded d at (b ∷ bs) rest h p =
 abbrev answer : List Bool → ℕ → Found
 answer set next = Ok (set, next)
 
-pub list_matches : (folded : Bool) (delimiter : Option ℕ) (before bytes after : List ℕ) → 0 < length bytes → ArePlain delimiter bytes →
+pub list_matches : (folded : Bool) (delimiter : Option ℕ) (before bytes after : List ℕ) → 0 < length bytes → ArePlainMembers delimiter bytes →
     list_at folded delimiter (before ++ 91 ∷ (bytes ++ 93 ∷ after)) (length before)
     ≡ Ok (matching folded (set_of (λ c. is_among bytes c)), length before + length bytes + 2)
 list_matches folded delimiter before bytes after some p =
@@ -118,7 +118,7 @@ list_matches folded delimiter before bytes after some p =
     ∙ (plain_front folded delimiter (length before) bytes after some p
     ∙ (let e : length before + 1 + length bytes + 1 ≡ length before + length bytes + 2 = omega arith in ap (answer (matching folded (set_of (λ c. is_among bytes c)))) e))
 
-pub others_match : (folded : Bool) (delimiter : Option ℕ) (before bytes after : List ℕ) → 0 < length bytes → ArePlain delimiter bytes →
+pub others_match : (folded : Bool) (delimiter : Option ℕ) (before bytes after : List ℕ) → 0 < length bytes → ArePlainMembers delimiter bytes →
     list_at folded delimiter (before ++ 91 ∷ 94 ∷ (bytes ++ 93 ∷ after)) (length before)
     ≡ Ok (complement (matching folded (set_of (λ c. is_among bytes c))), length before + length bytes + 3)
 others_match folded delimiter before bytes after some p =

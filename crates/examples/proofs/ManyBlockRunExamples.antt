@@ -6,7 +6,7 @@ use Rattle.std.proofs.lemmas.Bool.{le-leb}
 use Rattle.sedre.specs.declared.types.Kind.TheVariants.{Basic}
 use Rattle.sedscript.specs.declared.types.Action.TheVariants.{Block}
 use Rattle.sedscript.specs.declared.types.Command.{Command}
-use Rattle.sedspace.specs.Lines.{lines}
+use Rattle.sedspace.specs.Lines.{split_lines}
 use Rattle.sedengine.specs.Ends.{Whole, WithinLimits}
 use Rattle.sedengine.specs.Move.{after, next_move, start, to_sink, written}
 use Rattle.sedengine.specs.State.{setting_of, do_at, State, Move, Setting}
@@ -97,10 +97,10 @@ spent n k taken ranges below =
     record { within = within_so (turns taken) (setting n) 0 (before ranges k taken) (rw so refl); wrote = refl; cause = (refl, (λ none. cc), one_more n k taken ranges below) }
 
 abbrev begins_at : ℕ → State
-begins_at n = start (program 65536 n).commands (lines input)
+begins_at n = start (program 65536 n).commands (split_lines input)
 
 begins_first : (n : ℕ) → next_move (setting n) (begins_at n) ≡ Some (record { next = before (map (λ _. false) (program 65536 n).commands) 0 1; writes = [] })
-unfolding next_move lines
+unfolding next_move split_lines
 begins_first n = refl
 
 fits_first : (most n : ℕ) → WithinLimits (turns most) (begins_at n)

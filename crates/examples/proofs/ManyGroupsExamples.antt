@@ -4,19 +4,19 @@ use Rattle.std.specs.Prelude.{replicate}
 use Rattle.std.proofs.lemmas.List.{length-replicate}
 use Rattle.std.specs.List.{last_or}
 use Rattle.sedre.specs.declared.types.Kind.TheVariants.{Extended}
-use Rattle.sedre.specs.declared.types.Reason.TheVariants.{OpenGroup}
-use Rattle.sedre.specs.declared.syntax.Item.{Item}
-use Rattle.sedre.specs.declared.syntax.Item.TheVariants.{Open}
+use Rattle.sedre.specs.declared.types.ExprReason.TheVariants.{OpenGroup}
+use Rattle.sedre.specs.declared.syntax.Token.{Token}
+use Rattle.sedre.specs.declared.syntax.Token.TheVariants.{Open}
 use Rattle.sedre.specs.declared.syntax.Symbol.TheVariants.{Opening}
-use Rattle.sedre.specs.declared.syntax.NextItem.TheVariants.{Is, Ends}
+use Rattle.sedre.specs.declared.syntax.NextToken.TheVariants.{Is, Ends}
 use Rattle.sedre.specs.Grammar.{CutExpression, done, item, open_groups, unclosed, ExprFaulty}
-use Rattle.sedre.specs.Items.{item_at, front_symbol}
+use Rattle.sedre.specs.Tokens.{token_at, front_symbol}
 
 -- so many openings, as bytes and as items
 abbrev openings : ℕ → List ℕ
 openings n = replicate n 40
 
-abbrev items_of : ℕ → List Item
+abbrev items_of : ℕ → List Token
 items_of n = replicate n Open
 
 each_opening : (n k : ℕ) → k < n → (rest : List ℕ) × (drop k (openings n) ≡ 40 ∷ rest)
@@ -32,16 +32,16 @@ opening_first : (rest : List ℕ) → front_symbol Extended None (40 ∷ rest) �
 opening_first [] = refl
 opening_first (b ∷ bs) = refl
 
-opens_at : (text : List ℕ) (before : Option Item) (at : ℕ) (rest : List ℕ) → drop at text ≡ 40 ∷ rest → item_at Extended false None text before at ≡ Is Open (at + 1)
-unfolding item_at
+opens_at : (text : List ℕ) (before : Option Token) (at : ℕ) (rest : List ℕ) → drop at text ≡ 40 ∷ rest → token_at Extended false None text before at ≡ Is Open (at + 1)
+unfolding token_at
 opens_at text before at rest there = rw (there, opening_first rest) refl
 
-ends_at : (text : List ℕ) (before : Option Item) (at : ℕ) → drop at text ≡ [] → item_at Extended false None text before at ≡ Ends
-unfolding item_at
+ends_at : (text : List ℕ) (before : Option Token) (at : ℕ) → drop at text ≡ [] → token_at Extended false None text before at ≡ Ends
+unfolding token_at
 ends_at text before at there = rw there refl
 
 -- the text from a place on is cut into openings
-cut_at : (text : List ℕ) (n at to : ℕ) (before : Option Item) → at + n ≡ to → ((k : ℕ) → k < to → (rest : List ℕ) × (drop k text ≡ 40 ∷ rest)) → CutExpression Extended false None text before at (items_of n) to
+cut_at : (text : List ℕ) (n at to : ℕ) (before : Option Token) → at + n ≡ to → ((k : ℕ) → k < to → (rest : List ℕ) × (drop k text ≡ 40 ∷ rest)) → CutExpression Extended false None text before at (items_of n) to
 cut_at text zero at to before e each = subst (CutExpression Extended false None text before at []) (omega (arith, e)) done
 cut_at text (suc n) at to before e each =
     let here = each at (omega (arith, e)) in
@@ -56,7 +56,7 @@ many_open : (n most : ℕ) → ExprFaulty Extended None (openings (suc n)) most 
 many_open n most =
     let text = openings (suc n) in
     subst (λ (place : ℕ). ExprFaulty Extended None text most place OpenGroup) (length-replicate {A = ℕ} (suc n) 40) (record {
-      items = items_of (suc n);
+      tokens = items_of (suc n);
       to = suc n;
       cut = cut_at text (suc n) 0 (suc n) None (omega arith) (each_opening (suc n));
       opened = suc n;

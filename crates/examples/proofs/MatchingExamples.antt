@@ -2,7 +2,7 @@
 use Rattle.std.proofs.Common.{◌≡◌, true, [], ◌∷◌, Some, None, refl}
 use Rattle.sedre.specs.Sets.{set_of}
 use Rattle.sedre.specs.Tree.{seq, alt, group, star}
-use Rattle.sedmatch.specs.Matching.{any, greatest, copies, spans, longest, found_from, leftmost_longest, cut, first_copy, last_start, groups_after, report}
+use Rattle.sedmatch.specs.Matching.{any, greatest, copies, spans, longest, found_from, leftmost_longest, greatest_cut, first_copy, last_start, groups_after, reported_groups}
 use Rattle.examples.proofs.ExampleWords.{byte}
 
 -- aa* at xaab
@@ -15,7 +15,7 @@ unfolding any greatest copies spans longest found_from leftmost_longest set_of
 example_none = refl
 
 -- \(a\|ab\)\(c\|bcd\)\(d*\) on abcd
-example_groups : report (seq (group 1 (alt (byte 97) (seq (byte 97) (byte 98)))) (seq (group 2 (alt (byte 99) (seq (byte 98) (seq (byte 99) (byte 100))))) (group 3 (star (byte 100) true)))) (97 ∷ 98 ∷ 99 ∷ 100 ∷ []) 0 4
+example_groups : reported_groups (seq (group 1 (alt (byte 97) (seq (byte 97) (byte 98)))) (seq (group 2 (alt (byte 99) (seq (byte 98) (seq (byte 99) (byte 100))))) (group 3 (star (byte 100) true)))) (97 ∷ 98 ∷ 99 ∷ 100 ∷ []) 0 4
     ≡ Some (0, 4) ∷ Some (0, 2) ∷ Some (2, 3) ∷ Some (3, 4) ∷ None ∷ None ∷ None ∷ None ∷ None ∷ None ∷ []
-unfolding any greatest copies spans cut first_copy last_start groups_after report set_of
+unfolding any greatest copies spans greatest_cut first_copy last_start groups_after reported_groups set_of
 example_groups = refl

@@ -5,7 +5,7 @@ use Rattle.std.proofs.lemmas.Option.{slice_get_within}
 use Rattle.sedre.specs.declared.types.Kind.TheVariants.{Extended}
 use Rattle.sedre.specs.Tree.{Tree, set, group}
 use Rattle.sedre.specs.Sets.{set_of, only}
-use Rattle.sedre.specs.Items.{item_at}
+use Rattle.sedre.specs.Tokens.{token_at}
 use Rattle.sedre.specs.Grammar.{ReadsAs}
 use Rattle.examples.proofs.ComputedReading.{outcome, rest_of, reads_as}
 use Rattle.examples.proofs.ExampleWords.{times}
@@ -92,7 +92,7 @@ reports_nine n =
 -- 600 of them, the greatest depth.
 
 six_hundred_read : ReadsAs Extended false None (times 600 (codes "(") ++ codes "a" ++ times 600 (codes ")")) (in_groups 1 600) 600
-unfolding outcome rest_of item_at
+unfolding outcome rest_of token_at
 six_hundred_read = reads_as refl
 
 six_hundred_groups : Finds Extended (times 600 (codes "(") ++ codes "a" ++ times 600 (codes ")")) (codes "a") 0 (0, 1) (replicate 9 (Some (0, 1)))

@@ -7,7 +7,7 @@ use Rattle.std.proofs.lemmas.List.{length-replicate, get_or-replicate}
 use Rattle.sedre.specs.declared.types.Kind.TheVariants.{Extended}
 use Rattle.sedre.specs.Tree.{Tree, set, seq, group, star}
 use Rattle.sedre.specs.Sets.{set_of, only}
-use Rattle.sedre.specs.Items.{item_at}
+use Rattle.sedre.specs.Tokens.{token_at}
 use Rattle.sedre.specs.Grammar.{ReadsAs}
 use Rattle.examples.proofs.ComputedReading.{outcome, rest_of, reads_as}
 use Rattle.sedmatch.specs.Spans.{Matches, IsIn, CopiesLead, no_copy, one_more, IsLeftmostLongest}
@@ -26,7 +26,7 @@ abbrev nested : Tree
 nested = seq (star (group 1 (star a true)) true) b
 
 nested_reads : ReadsAs Extended false None (codes "(a*)*b") nested 1
-unfolding outcome rest_of item_at
+unfolding outcome rest_of token_at
 nested_reads = reads_as refl
 
 -- Nothing is found where no b stands.
@@ -140,7 +140,7 @@ all_of_many n some = record {
 -- A b alone is found after them, however many they are.
 
 b_reads : ReadsAs Extended false None (codes "b") b 0
-unfolding outcome rest_of item_at
+unfolding outcome rest_of token_at
 b_reads = reads_as refl
 
 not_before : (n h k : ℕ) → h < n → Matches b (with_b n) h k → ⊥
@@ -170,7 +170,7 @@ abbrev pub twice_nested : Tree
 twice_nested = seq (star (group 1 (star (group 2 (star a true)) true)) true) b
 
 twice_nested_reads : ReadsAs Extended false None (codes "((a*)*)*b") twice_nested 2
-unfolding outcome rest_of item_at
+unfolding outcome rest_of token_at
 twice_nested_reads = reads_as refl
 
 nothing_twice_nested : (n p : ℕ) → FindsNothing Extended (codes "((a*)*)*b") (replicate n 97) p

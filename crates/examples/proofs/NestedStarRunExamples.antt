@@ -4,7 +4,7 @@ use Rattle.std.specs.Prelude.{codes, is_some, replicate, option_map}
 use Rattle.sedre.specs.declared.types.Kind.TheVariants.{Extended}
 use Rattle.sedre.specs.Tree.{WrittenExpression, expression_tree, Tree}
 use Rattle.sedre.specs.Brackets.{delimiter_at}
-use Rattle.sedre.specs.Items.{item_at as expression_item_at}
+use Rattle.sedre.specs.Tokens.{token_at}
 use Rattle.sedmatch.specs.Matching.{leftmost_longest}
 use Rattle.sedmatch.proofs.MatchingLemmas.{not_found-iff}
 use Rattle.sedscript.specs.declared.substitution.Piece.TheVariants.{Literal}
@@ -16,7 +16,7 @@ use Rattle.sedscript.specs.Items.{match_at, address_at, second_at, addresses_at,
 use Rattle.sedscript.specs.Letters.{substituted}
 use Rattle.sedscript.specs.Bytes.{past}
 use Rattle.sedscript.specs.Arguments.{name_from, text_from}
-use Rattle.sedspace.specs.Lines.{lines}
+use Rattle.sedspace.specs.Lines.{split_lines}
 use Rattle.sedengine.specs.Move.{next_move, start, to_sink}
 use Rattle.sedengine.specs.State.{finds_in, occurrence_at_span, search_in, Setting}
 use Rattle.sedengine.specs.Select.{selects}
@@ -66,7 +66,7 @@ abbrev expressions : List WrittenExpression
 expressions = written twice_nested 2 ∷ []
 
 sixty_unchanged : StopsBy own Extended plain no_files (codes "/((a*)*)*b/d;s//x/") (replicate 60 97 ++ 10 ∷ []) Done (to_sink 0 (replicate 60 97 ++ 10 ∷ []))
-unfolding verdict cutting walked item_at past function_at addresses_at address_at second_at text_from name_from lines match_at substitute_at substituted delimiter_at outcome rest_of expression_item_at
+unfolding verdict cutting walked item_at past function_at addresses_at address_at second_at text_from name_from split_lines match_at substitute_at substituted delimiter_at outcome rest_of token_at
 sixty_unchanged =
     is_script (unchanged_where_nothing_is_found (finds_in expressions) (search_in expressions) (ap is_some (none_in 60))
     (ap (option_map (occurrence_at_span (written twice_nested 2) sixty)) (none_in 60)))

@@ -5,7 +5,7 @@ use Rattle.sedscript.specs.Bytes.{is_digit}
 use Rattle.sedscript.specs.declared.substitution.Piece.{Piece}
 use Rattle.sedscript.specs.declared.substitution.Piece.TheVariants.{Literal as literal, Whole as whole, Group as group}
 use Rattle.sedscript.specs.Strings.{escaped_piece, pieces_from, pieces_of, is_letter}
-use Rattle.sedscript.specs.Pieces.{GroupsWithin}
+use Rattle.sedscript.specs.Pieces.{PieceGroupsWithin}
 use Rattle.examples.specs.WrittenReplacements.{written_pieces}
 
 no_escape : (t : Bool) → (t && false) ≡ false
@@ -57,7 +57,7 @@ group_escape d k low high other =
     (rw (ne_eqb (48 + k) 48 (λ e. omega (arith, e, low)))
     (rw (le-leb 48 (48 + k) (omega arith)) (rw (le-leb (48 + k) 57 (omega (arith, high))) (ap (λ (n : ℕ). Some (group n)) back))))
 
-pub replacement_read : (d : ℕ) (ps : List Piece) → (48 ≤ d → d ≤ 57 → ⊥) → GroupsWithin 9 ps → pieces_of d (written_pieces d ps) ≡ ps
+pub replacement_read : (d : ℕ) (ps : List Piece) → (48 ≤ d → d ≤ 57 → ⊥) → PieceGroupsWithin 9 ps → pieces_of d (written_pieces d ps) ≡ ps
 replacement_read d [] other fit = refl
 replacement_read d (literal b ∷ ps) other fit =
     literal_read (b == d || b == 92 || b == 38 || b == 10) d b (written_pieces d ps) ps refl (replacement_read d ps other fit)

@@ -10,8 +10,8 @@ use Rattle.sedscript.specs.Program.{Program}
 use Rattle.sedscript.specs.Items.{match_at, address_at, second_at, addresses_at, function_at, item_at}
 use Rattle.sedscript.specs.Bytes.{past}
 use Rattle.sedscript.specs.Arguments.{name_from, text_from}
-use Rattle.sedspace.specs.Lines.{HasNoNewline, lines}
-use Rattle.sedengine.specs.Ends.{part, GainedWithin, SourceAtEnd, IsCause, BreaksInLine, LosesPartAfter, SinkAtEnd}
+use Rattle.sedspace.specs.Lines.{HasNoNewline, split_lines}
+use Rattle.sedengine.specs.Ends.{bytes_of_sink, GainedWithin, SourceAtEnd, IsCause, BreaksInLine, LosesPartAfter, SinkAtEnd}
 use Rattle.sedengine.specs.Move.{after, next_move, to_sink}
 use Rattle.sedengine.specs.State.{setting_of}
 use Rattle.sedengine.specs.Select.{selects}
@@ -79,7 +79,7 @@ pub record Answers (kind : Kind) (asked : Program → Program) (files : ℕ → 
 
 -- `sed -e 'i\' -e '  X'`, with a on the standard input
 text_over_two_parts : (heap : Global) → Answers Basic plain no_files (text heap (codes "i\\") refl ∷ text heap (codes "  X") refl ∷ []) (codes "a\n") [] (codes "  X\na\n")
-unfolding verdict cutting walked item_at past function_at addresses_at address_at second_at text_from name_from lines course next_move selects
+unfolding verdict cutting walked item_at past function_at addresses_at address_at second_at text_from name_from split_lines course next_move selects
 text_over_two_parts heap = record {
   whole = codes "i\\\n  X\n";
   made = refl;
@@ -90,7 +90,7 @@ text_over_two_parts heap = record {
 
 -- `sed -f s a`
 script_of_a_file : (heap : Global) → Answers Basic plain no_files (file heap (codes "s") refl ∷ []) [] (codes "a" ∷ []) (codes "x\n")
-unfolding verdict cutting walked item_at past function_at addresses_at address_at second_at text_from name_from lines course next_move selects
+unfolding verdict cutting walked item_at past function_at addresses_at address_at second_at text_from name_from split_lines course next_move selects
 script_of_a_file heap = record {
   whole = codes "#n\np\n";
   made = (codes "#n\np", refl, refl);
@@ -101,7 +101,7 @@ script_of_a_file heap = record {
 
 -- `sed -e p -f s a`: `#n` is not in the first line.
 script_before_a_file : (heap : Global) → Answers Basic plain no_files (text heap (codes "p") refl ∷ file heap (codes "s") refl ∷ []) [] (codes "a" ∷ []) (codes "x\nx\nx\n")
-unfolding verdict cutting walked item_at past function_at addresses_at address_at second_at text_from name_from lines course next_move selects
+unfolding verdict cutting walked item_at past function_at addresses_at address_at second_at text_from name_from split_lines course next_move selects
 script_before_a_file heap = record {
   whole = codes "p\n#n\np\n";
   made = (codes "#n\np", refl, refl);
@@ -112,7 +112,7 @@ script_before_a_file heap = record {
 
 -- `sed p - -`
 standard_input_named_twice : (heap : Global) → Answers Basic plain no_files (text heap (codes "p") refl ∷ []) (codes "x\n") (codes "-" ∷ codes "-" ∷ []) (codes "x\nx\n")
-unfolding verdict cutting walked item_at past function_at addresses_at address_at second_at text_from name_from lines course next_move selects
+unfolding verdict cutting walked item_at past function_at addresses_at address_at second_at text_from name_from split_lines course next_move selects
 standard_input_named_twice heap = record {
   whole = codes "p\n";
   made = refl;
@@ -123,7 +123,7 @@ standard_input_named_twice heap = record {
 
 -- `sed -n '$p' a nofile`
 last_line_before_a_missed_file : (heap : Global) → Answers Basic quiet no_files (text heap (codes "$p") refl ∷ []) [] (codes "a" ∷ codes "nofile" ∷ []) (codes "x\n")
-unfolding verdict cutting walked item_at past function_at addresses_at address_at second_at text_from name_from lines course next_move selects
+unfolding verdict cutting walked item_at past function_at addresses_at address_at second_at text_from name_from split_lines course next_move selects
 last_line_before_a_missed_file heap = record {
   whole = codes "$p\n";
   made = refl;
@@ -134,7 +134,7 @@ last_line_before_a_missed_file heap = record {
 
 -- `sed 1q a nofile`
 quit_before_a_file : (heap : Global) → Answers Basic plain no_files (text heap (codes "1q") refl ∷ []) [] (codes "a" ∷ codes "nofile" ∷ []) (codes "x\n")
-unfolding verdict cutting walked item_at past function_at addresses_at address_at second_at text_from name_from lines course next_move selects
+unfolding verdict cutting walked item_at past function_at addresses_at address_at second_at text_from name_from split_lines course next_move selects
 quit_before_a_file heap = record {
   whole = codes "1q\n";
   made = refl;
@@ -145,7 +145,7 @@ quit_before_a_file heap = record {
 
 -- `sed p nofile a`
 missed_file_first : (heap : Global) → Answers Basic plain no_files (text heap (codes "p") refl ∷ []) [] (codes "nofile" ∷ codes "a" ∷ []) (codes "x\nx\n")
-unfolding verdict cutting walked item_at past function_at addresses_at address_at second_at text_from name_from lines course next_move selects
+unfolding verdict cutting walked item_at past function_at addresses_at address_at second_at text_from name_from split_lines course next_move selects
 missed_file_first heap = record {
   whole = codes "p\n";
   made = refl;
@@ -156,7 +156,7 @@ missed_file_first heap = record {
 
 -- `sed 'r f' a`, where f is y and a newline
 file_of_the_script : (heap : Global) → Answers Basic plain (λ k. codes "y\n") (text heap (codes "r f") refl ∷ []) [] (codes "a" ∷ []) (codes "x\ny\n")
-unfolding verdict cutting walked item_at past function_at addresses_at address_at second_at text_from name_from lines course next_move selects
+unfolding verdict cutting walked item_at past function_at addresses_at address_at second_at text_from name_from split_lines course next_move selects
 file_of_the_script heap = record {
   whole = codes "r f\n";
   made = refl;
@@ -169,7 +169,7 @@ file_of_the_script heap = record {
 
 -- what is observed where reads of the input have failed so often, and each sink so often, and the standard output holds this
 abbrev observed : ℕ → ℕ → List ℕ → Observed
-observed reads failures output = record { refusals = 0; reads = reads; contents = λ k. Some (part k (to_sink 0 output)); failures = λ k. failures }
+observed reads failures output = record { refusals = 0; reads = reads; contents = λ k. Some (bytes_of_sink k (to_sink 0 output)); failures = λ k. failures }
 
 -- The script of a text, over this input, stops early, when these bytes were written and the input has these still to give: so
 -- many of its reads have failed, and each sink so often.
@@ -190,7 +190,7 @@ over_any : {p : Program} {bytes rest output : List ℕ} {end : Ended} →
 over_any each breaks = record { each = each; breaks = breaks }
 
 -- all of it is within the limits that set none on the output, where the end names no sink as full
-gains_all : (output : List ℕ) (end : Ended) → ((k : ℕ) → end ≢ OutputFull k) → GainedWithin None nothing_before (λ k. Some []) (λ k. Some (part k (to_sink 0 output))) (Err end) (to_sink 0 output)
+gains_all : (output : List ℕ) (end : Ended) → ((k : ℕ) → end ≢ OutputFull k) → GainedWithin None nothing_before (λ k. Some []) (λ k. Some (bytes_of_sink k (to_sink 0 output))) (Err end) (to_sink 0 output)
 gains_all output (OutputFull k) other = absurd (other k refl)
 gains_all output end other = record { gained = record { each = λ k. refl }; within = tt; full = tt }
 
@@ -225,7 +225,7 @@ part_gone = (codes "a\nb", refl, part_only, omega arith)
 
 -- The second line cannot be read to its end: its first byte is gone.
 input_broke_run : Script (codes "p\n") Basic (λ p. OverAnyFiles p (codes "a\nbc\n") (codes "c\n") (codes "a\na\n") InputBroken)
-unfolding verdict cutting walked item_at past function_at addresses_at address_at second_at text_from name_from lines after course next_move selects all_fit
+unfolding verdict cutting walked item_at past function_at addresses_at address_at second_at text_from name_from split_lines after course next_move selects all_fit
 input_broke_run = is_script (over_any {bytes = codes "a\nbc\n"} {rest = codes "c\n"} {output = codes "a\na\n"} {end = InputBroken} (λ files. stops_after 6 refl refl refl refl) (λ files is. (codes "a" ∷ [], refl, part_gone)))
 
 input_broke : Stopped (codes "p\n") (codes "a\nbc\n") (codes "c\n") 1 0 (codes "a\na\n")
@@ -233,7 +233,7 @@ input_broke = stopped (codes "p\n") (codes "a\nbc\n") (codes "c\n") 1 0 (codes "
 
 -- The standard output takes three bytes.
 output_broke_run : Script (codes "p\n") Basic (λ p. OverAnyFiles p (codes "ab\n") [] (codes "ab\n") (OutputBroken 0))
-unfolding verdict cutting walked item_at past function_at addresses_at address_at second_at text_from name_from lines course next_move selects all_fit
+unfolding verdict cutting walked item_at past function_at addresses_at address_at second_at text_from name_from split_lines course next_move selects all_fit
 output_broke_run = is_script (over_any (λ files. stops_within 3 0 97 refl refl refl refl refl) (λ files is. absurd cc))
 
 output_broke : Stopped (codes "p\n") (codes "ab\n") [] 0 1 (codes "ab\n")
@@ -241,7 +241,7 @@ output_broke = stopped (codes "p\n") (codes "ab\n") [] 0 1 (codes "ab\n") (Outpu
 
 -- `sed //p nofile a`: no device has failed.
 no_previous_expression_run : Script (codes "//p\n") Basic (λ p. OverAnyFiles p (codes "x\n") [] (codes "") (NoPrevious 1))
-unfolding verdict cutting walked item_at past function_at addresses_at address_at second_at text_from name_from lines course next_move selects all_fit match_at delimiter_at
+unfolding verdict cutting walked item_at past function_at addresses_at address_at second_at text_from name_from split_lines course next_move selects all_fit match_at delimiter_at
 no_previous_expression_run = is_script (over_any (λ files. stops_after 1 refl refl refl refl) (λ files is. absurd cc))
 
 no_previous_expression : Stopped (codes "//p\n") (codes "x\n") [] 0 0 (codes "")

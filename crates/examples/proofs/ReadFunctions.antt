@@ -26,8 +26,8 @@ use Rattle.sedscript.specs.declared.letters.Verb.{Verb}
 use Rattle.sedscript.specs.declared.letters.Verb.TheVariants.{Branch, Close, Comment, File, Label, Open, Substitute, Text, Transliterate}
 use Rattle.sedscript.specs.Bytes.{past, bytes_between, is_digit, is_byte, with_digits, or_fault, ◌>>=◌ as ◌then◌, fault_if}
 use Rattle.sedscript.specs.Strings.{string_end, exceeds, replacement_fault, is_letter, chars_of, repeated_in, string_fault, strings_fault, repeated_fault}
-use Rattle.sedscript.specs.Items.{Reading, plainly, expression, ◌>>=◌, Addressed, line_of, folds_at, match_at, own_match, address_of, address_at, with_second, second_at, after_first, addresses_at, with_bang, substitute_with, substitute_at, argument_with, function_at, item_from, item_at, match_to, function_after, item_with, item_of}
-use Rattle.sedscript.specs.Arguments.{to_command_end, may_end, text_from, name_from, spanned, no_flags, numbered, with_number, with_flag, flags_from, own_delimiter, strings_after, substitute_strings, transliterate_strings, unless_fault, flags_after, with_file, ends_flags, folds}
+use Rattle.sedscript.specs.Items.{Reading, plainly, expression, ◌>>=◌, Addressed, line_address, folds_at, match_at, own_match, address_of, address_at, with_second, second_at, after_first, addresses_at, with_bang, substitute_with, substitute_at, argument_with, function_at, item_from, item_at, match_to, function_after, item_with, item_of}
+use Rattle.sedscript.specs.Arguments.{to_command_end, may_end, text_from, name_from, spanned, no_flags, with_flag_number, with_number, with_flag, flags_from, own_delimiter, strings_after, substitute_strings, transliterate_strings, unless_fault, flags_after, with_file, ends_flags, folds}
 use Rattle.sedscript.specs.Letters.{argument_of, allowed, verb_of, most_addresses, transliterate_at, substituted}
 use Rattle.sedscript.specs.Script.{written_in, branch_in, label_in, block_end, depth_after, target_fault_at, target_fault_in, target_fault, Gives, value, after_expression, IsRead, CutScript, done, item, Means, IsEnd}
 use Rattle.sedscript.specs.FirstFault.{Fails, Faulty, own, no_expression, later, early, afterwards}
@@ -186,7 +186,7 @@ module _ (kind : Kind) (max_nodes : ℕ) (text : List ℕ) where
 
   -- ---- addresses
 
-  line_walk : (count from to : ℕ) (o : Option ℕ) → Walk Any (line_of count from to o)
+  line_walk : (count from to : ℕ) (o : Option ℕ) → Walk Any (line_address count from to o)
   line_walk count from to None = tt
   line_walk count from to (Some zero) = tt
   line_walk count from to (Some (suc n)) = tt
@@ -236,7 +236,7 @@ module _ (kind : Kind) (max_nodes : ℕ) (text : List ℕ) where
   number_walk : (f : Flags) (at : ℕ) (digits : List ℕ) → Walk Any (with_number f at digits)
   number_walk f at digits = walk_if Any (is_some f.number) _ _ tt (by_number (with_digits (Some 0) digits))
     where
-      by_number : (o : Option ℕ) → Walk Any (numbered f at o)
+      by_number : (o : Option ℕ) → Walk Any (with_flag_number f at o)
       by_number None = tt
       by_number (Some zero) = tt
       by_number (Some (suc n)) = tt

@@ -11,7 +11,7 @@ use Rattle.sedscript.specs.declared.types.Address.TheVariants as address
 use Rattle.examples.proofs.ComputedScript.{verdict, cutting, walked, Script, is_script}
 use Rattle.examples.proofs.ScriptWords.{always, at, from_to, unless}
 use Rattle.examples.proofs.ExampleWords.{byte}
-use Rattle.sedre.specs.Items.{item_at as expression_item_at, front_interval}
+use Rattle.sedre.specs.Tokens.{token_at, front_interval}
 use Rattle.sedre.specs.Brackets.{delimiter_at}
 use Rattle.examples.proofs.ComputedReading.{outcome, rest_of, written as written_out}
 use Rattle.sedscript.specs.Bytes.{past}
@@ -122,47 +122,47 @@ number_of_a_line = is_script refl
 -- Regular expressions of addresses. An empty one has no number; they are numbered from 0.
 
 expression_to_the_last_line : Script (codes "/b/,$d") Basic (λ s. s.commands ≡ from_to (address.Match (Some 0)) address.Last (action.Plain simple.Delete) ∷ [])
-unfolding verdict cutting walked item_at past function_at addresses_at address_at second_at match_at substitute_at substituted delimiter_at outcome rest_of expression_item_at
+unfolding verdict cutting walked item_at past function_at addresses_at address_at second_at match_at substitute_at substituted delimiter_at outcome rest_of token_at
 expression_to_the_last_line = is_script refl
 
 two_expressions : Script (codes "/a/,/a/p") Basic (λ s. s.commands ≡ from_to (address.Match (Some 0)) (address.Match (Some 1)) (action.Plain simple.Print) ∷ [])
-unfolding verdict cutting walked item_at past function_at addresses_at address_at second_at match_at substitute_at substituted delimiter_at outcome rest_of expression_item_at text_from
+unfolding verdict cutting walked item_at past function_at addresses_at address_at second_at match_at substitute_at substituted delimiter_at outcome rest_of token_at text_from
 two_expressions = is_script refl
 
 own_delimiter : Script (codes "\\%a%p") Basic (λ s. s.commands ≡ at (address.Match (Some 0)) (action.Plain simple.Print) ∷ [])
-unfolding verdict cutting walked item_at past function_at addresses_at address_at match_at substitute_at substituted delimiter_at outcome rest_of expression_item_at text_from
+unfolding verdict cutting walked item_at past function_at addresses_at address_at match_at substitute_at substituted delimiter_at outcome rest_of token_at text_from
 own_delimiter = is_script refl
 
 empty_expression : Script (codes "//p") Basic (λ s. s.commands ≡ at (address.Match None) (action.Plain simple.Print) ∷ [])
-unfolding verdict cutting walked item_at past function_at addresses_at address_at match_at substitute_at substituted delimiter_at outcome rest_of expression_item_at
+unfolding verdict cutting walked item_at past function_at addresses_at address_at match_at substitute_at substituted delimiter_at outcome rest_of token_at
 empty_expression = is_script refl
 
 line_to_an_expression : Script (codes "1,/a/p") Basic (λ s. s.commands ≡ from_to (address.Line 1) (address.Match (Some 0)) (action.Plain simple.Print) ∷ [])
-unfolding verdict cutting walked item_at past function_at addresses_at address_at second_at match_at substitute_at substituted delimiter_at outcome rest_of expression_item_at text_from
+unfolding verdict cutting walked item_at past function_at addresses_at address_at second_at match_at substitute_at substituted delimiter_at outcome rest_of token_at text_from
 line_to_an_expression = is_script refl
 
 expression_of_an_address : Script (codes "/a/p") Basic (λ s. s.expressions ≡ written_out (byte 97) 0 ∷ [])
-unfolding verdict cutting walked item_at past function_at addresses_at address_at match_at substitute_at substituted delimiter_at outcome rest_of expression_item_at text_from
+unfolding verdict cutting walked item_at past function_at addresses_at address_at match_at substitute_at substituted delimiter_at outcome rest_of token_at text_from
 expression_of_an_address = is_script refl
 
 expression_with_its_own_delimiter : Script (codes "\\%a%p") Basic (λ s. s.expressions ≡ written_out (byte 97) 0 ∷ [])
-unfolding verdict cutting walked item_at past function_at addresses_at address_at match_at substitute_at substituted delimiter_at outcome rest_of expression_item_at text_from
+unfolding verdict cutting walked item_at past function_at addresses_at address_at match_at substitute_at substituted delimiter_at outcome rest_of token_at text_from
 expression_with_its_own_delimiter = is_script refl
 
 escaped_own_delimiter : Script (codes "\\%a\\%%p") Basic (λ s. s.expressions ≡ written_out (seq (byte 97) (byte 37)) 0 ∷ [])
-unfolding verdict cutting walked item_at past function_at addresses_at address_at match_at substitute_at substituted delimiter_at outcome rest_of expression_item_at text_from
+unfolding verdict cutting walked item_at past function_at addresses_at address_at match_at substitute_at substituted delimiter_at outcome rest_of token_at text_from
 escaped_own_delimiter = is_script refl
 
 folded_expression : Script (codes "/A/Id") Basic (λ s. s.expressions ≡ written_out (set (folded_set (only 65))) 0 ∷ [])
-unfolding verdict cutting walked item_at past function_at addresses_at address_at match_at substitute_at substituted delimiter_at outcome rest_of expression_item_at
+unfolding verdict cutting walked item_at past function_at addresses_at address_at match_at substitute_at substituted delimiter_at outcome rest_of token_at
 folded_expression = is_script refl
 
 extended_expression : Script (codes "/(a|b)/p") Extended (λ s. s.expressions ≡ written_out (group 1 (alt (byte 97) (byte 98))) 1 ∷ [])
-unfolding verdict cutting walked item_at past function_at addresses_at address_at match_at substitute_at substituted delimiter_at outcome rest_of expression_item_at text_from
+unfolding verdict cutting walked item_at past function_at addresses_at address_at match_at substitute_at substituted delimiter_at outcome rest_of token_at text_from
 extended_expression = is_script refl
 
 two_folded_expressions : Script (codes "/a/I,/b/Ip") Basic (λ s. s.expressions ≡ written_out (set (folded_set (only 97))) 0 ∷ written_out (set (folded_set (only 98))) 0 ∷ [])
-unfolding verdict cutting walked item_at past function_at addresses_at address_at second_at match_at substitute_at substituted delimiter_at outcome rest_of expression_item_at text_from
+unfolding verdict cutting walked item_at past function_at addresses_at address_at second_at match_at substitute_at substituted delimiter_at outcome rest_of token_at text_from
 two_folded_expressions = is_script refl
 
 -- Blocks and labels stand for the number of commands before them.
@@ -172,7 +172,7 @@ unfolding verdict cutting walked item_at past function_at addresses_at address_a
 block = is_script refl
 
 block_and_closing_semicolon : Script (codes "/a/{//p;}") Basic (λ s. s.commands ≡ at (address.Match (Some 0)) (action.Block 2) ∷ at (address.Match None) (action.Plain simple.Print) ∷ [])
-unfolding verdict cutting walked item_at past function_at addresses_at address_at match_at substitute_at substituted delimiter_at outcome rest_of expression_item_at front_interval text_from
+unfolding verdict cutting walked item_at past function_at addresses_at address_at match_at substitute_at substituted delimiter_at outcome rest_of token_at front_interval text_from
 block_and_closing_semicolon = is_script refl
 
 empty_block : Script (codes "{};p") Basic (λ s. s.commands ≡ always (action.Block 1) ∷ always (action.Plain simple.Print) ∷ [])

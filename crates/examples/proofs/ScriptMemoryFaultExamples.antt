@@ -3,7 +3,7 @@
 use Rattle.std.proofs.Common.{◌≡◌, false, ℕ, List, refl, ap}
 use Rattle.std.specs.Prelude.{codes}
 use Rattle.sedre.specs.declared.types.Kind.TheVariants.{Basic}
-use Rattle.sedre.specs.declared.types.Reason.TheVariants as expression
+use Rattle.sedre.specs.declared.types.ExprReason.TheVariants as expression
 use Rattle.sedre.specs.declared.types.TheConstants as expressions
 use Rattle.sedre.proofs.Exclusive.{reads_one, reads_groups}
 use Rattle.sedre.proofs.OneFault.{one_fault as one_expression_fault}

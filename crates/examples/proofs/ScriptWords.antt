@@ -1,6 +1,6 @@
 -- Words of the examples.
 use Rattle.std.proofs.Common.{ℕ, List, false, true, Option, Some, None}
-use Rattle.sedre.specs.declared.types.Reason.{Reason as ExprReason}
+use Rattle.sedre.specs.declared.types.ExprReason.{ExprReason}
 use Rattle.sedscript.specs.declared.types.Action.{Action}
 use Rattle.sedscript.specs.declared.types.Address.{Address}
 use Rattle.sedscript.specs.declared.types.Command.{Command}

@@ -4,7 +4,7 @@ use Rattle.std.proofs.lemmas.Bool.{ne_eqb, eqb-true, eq-eqb}
 use Rattle.std.proofs.lemmas.Option.{slice_get-map}
 use Rattle.std.specs.List.{range_with_len}
 use Rattle.sedscript.specs.Strings.{counterpart, table_of, escaped_byte, chars_from, bytes_of}
-use Rattle.examples.specs.Strings.{NoneTwice, written}
+use Rattle.examples.specs.Strings.{NoneTwice, written_string}
 
 -- ---- the table
 
@@ -79,6 +79,6 @@ byte_read true t d at b rest bs other is same h =
 byte_read false true d at b rest bs other is same h = escaped_read d (suc at) b b rest bs (escaped_self d b same) h
 byte_read false false d at b rest bs other is same h = plain_read d at b rest bs (right_false (b == d) (b == 92) same) h
 
-pub string_read : (d : ℕ) (bytes : List ℕ) (at : ℕ) → (d ≡ 110 → ⊥) → bytes_of (chars_from d false at (written d bytes)) ≡ bytes
+pub string_read : (d : ℕ) (bytes : List ℕ) (at : ℕ) → (d ≡ 110 → ⊥) → bytes_of (chars_from d false at (written_string d bytes)) ≡ bytes
 string_read d [] at other = refl
-string_read d (b ∷ bs) at other = byte_read (b == 10) (b == d || b == 92) d at b (written d bs) bs other refl refl (λ n. string_read d bs n other)
+string_read d (b ∷ bs) at other = byte_read (b == 10) (b == d || b == 92) d at b (written_string d bs) bs other refl refl (λ n. string_read d bs n other)

@@ -4,7 +4,7 @@ use Rattle.std.proofs.lemmas.Bool.{eqb-true, eqb-false, and_parts}
 use Rattle.std.proofs.lemmas.Option.{slice_get_within, some_pair_parts}
 use Rattle.sedscript.specs.declared.texts.Inside.{Inside}
 use Rattle.sedscript.specs.declared.texts.Inside.TheVariants.{InLine, Escape, Due}
-use Rattle.sedscript.specs.Arguments.{text_from, text_end, stops, inside_after}
+use Rattle.sedscript.specs.Arguments.{text_from, text_end, ends_text, inside_after}
 use Rattle.sedscript.specs.Bytes.{is_byte}
 use Rattle.examples.specs.Backslashes.{IsUnescaped, NoneUnescaped}
 use Rattle.examples.proofs.BackslashLemmas.{Reaches, reaches_end, reaches_here, reaches_later, next, none_before, stands_last, odd_more, even_more}
@@ -34,17 +34,17 @@ fits_after Due n b h = by_test (b == 92)
     by_test true = odd_more n h
     by_test false = refl
 
-stop_here : (how : Inside) (n b : ℕ) → Fits how n → stops how b ≡ true → (b ≡ 10) × (n % 2 ≡ 0)
+stop_here : (how : Inside) (n b : ℕ) → Fits how n → ends_text how b ≡ true → (b ≡ 10) × (n % 2 ≡ 0)
 stop_here Escape n b f e = cc
 stop_here InLine n b f e = (eqb-true b 10 e, f)
 stop_here Due n b f e = (eqb-true b 10 e, f)
 
-go_on : (how : Inside) (n b : ℕ) → Fits how n → stops how b ≡ false → b ≡ 10 → n % 2 ≡ 0 → ⊥
+go_on : (how : Inside) (n b : ℕ) → Fits how n → ends_text how b ≡ false → b ≡ 10 → n % 2 ≡ 0 → ⊥
 go_on Escape n b f e is even = let no : ◌≡◌ {A = ℕ} 1 0 = sym f ∙ even in cc
 go_on InLine n b f e is even = eqb-false b 10 e is
 go_on Due n b f e is even = eqb-false b 10 e is
 
-by_stop : (how : Inside) (at n to b : ℕ) (bs : List ℕ) (rest : Option ℕ) (s : Bool) → stops how b ≡ s → Fits how n → (if s then Some at else rest) ≡ Some to →
+by_stop : (how : Inside) (at n to b : ℕ) (bs : List ℕ) (rest : Option ℕ) (s : Bool) → ends_text how b ≡ s → Fits how n → (if s then Some at else rest) ≡ Some to →
     (rest ≡ Some to → Reaches true 10 (next n b) bs (suc at) to) → Reaches true 10 n (b ∷ bs) at to
 by_stop how at n to b bs rest true s f e h = let x = stop_here how n b f s in reaches_here true 10 n at to b bs (cc) x.0 x.1
 by_stop how at n to b bs rest false s f e h = reaches_later true 10 n at to b bs (go_on how n b f s) (h e)
@@ -54,11 +54,11 @@ text_reaches InLine at n to [] f e = reaches_end 10 n at to cc
 text_reaches Escape at n to [] f e = let x : ◌≡◌ {A = Option ℕ} None (Some to) = e in cc
 text_reaches Due at n to [] f e = let x : ◌≡◌ {A = Option ℕ} None (Some to) = e in cc
 text_reaches InLine at n to (b ∷ bs) f e =
-    by_stop InLine at n to b bs (text_end (inside_after InLine b) (suc at) bs) (stops InLine b) refl f e (λ r. text_reaches (inside_after InLine b) (suc at) (next n b) to bs (fits_after InLine n b f) r)
+    by_stop InLine at n to b bs (text_end (inside_after InLine b) (suc at) bs) (ends_text InLine b) refl f e (λ r. text_reaches (inside_after InLine b) (suc at) (next n b) to bs (fits_after InLine n b f) r)
 text_reaches Escape at n to (b ∷ bs) f e =
-    by_stop Escape at n to b bs (text_end (inside_after Escape b) (suc at) bs) (stops Escape b) refl f e (λ r. text_reaches (inside_after Escape b) (suc at) (next n b) to bs (fits_after Escape n b f) r)
+    by_stop Escape at n to b bs (text_end (inside_after Escape b) (suc at) bs) (ends_text Escape b) refl f e (λ r. text_reaches (inside_after Escape b) (suc at) (next n b) to bs (fits_after Escape n b f) r)
 text_reaches Due at n to (b ∷ bs) f e =
-    by_stop Due at n to b bs (text_end (inside_after Due b) (suc at) bs) (stops Due b) refl f e (λ r. text_reaches (inside_after Due b) (suc at) (next n b) to bs (fits_after Due n b f) r)
+    by_stop Due at n to b bs (text_end (inside_after Due b) (suc at) bs) (ends_text Due b) refl f e (λ r. text_reaches (inside_after Due b) (suc at) (next n b) to bs (fits_after Due n b f) r)
 
 -- what the law says of a span
 abbrev Ends : List ℕ → ℕ → ℕ → Type 0

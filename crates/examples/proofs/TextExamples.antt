@@ -16,7 +16,7 @@ use Rattle.sedscript.specs.Strings.{table_of}
 use Rattle.examples.proofs.ComputedScript.{verdict, cutting, walked, Script, is_script}
 use Rattle.examples.proofs.ScriptWords.{always, at, from_to, substitution}
 use Rattle.examples.proofs.ExampleWords.{byte}
-use Rattle.sedre.specs.Items.{item_at as expression_item_at, front_interval}
+use Rattle.sedre.specs.Tokens.{token_at, front_interval}
 use Rattle.sedre.specs.Brackets.{list_at, list_end, delimiter_at}
 use Rattle.examples.proofs.ComputedReading.{outcome, rest_of, written as written_out}
 use Rattle.sedscript.specs.Bytes.{past}
@@ -39,15 +39,15 @@ unfolding verdict cutting walked item_at past function_at addresses_at address_a
 text_at_once = is_script refl
 
 changed_range : Script (codes "2,3c\\\nT") Basic (λ s. s.commands ≡ from_to (address.Line 2) (address.Line 3) (action.Text Change 0) ∷ [])
-unfolding verdict cutting walked item_at past function_at addresses_at address_at second_at match_at substitute_at substituted delimiter_at outcome rest_of expression_item_at text_from
+unfolding verdict cutting walked item_at past function_at addresses_at address_at second_at match_at substitute_at substituted delimiter_at outcome rest_of token_at text_from
 changed_range = is_script refl
 
 text_of_a_changed_range : Script (codes "2,3c\\\nT") Basic (λ s. s.texts ≡ codes "T" ∷ [])
-unfolding verdict cutting walked item_at past function_at addresses_at address_at second_at match_at substitute_at substituted delimiter_at outcome rest_of expression_item_at text_from
+unfolding verdict cutting walked item_at past function_at addresses_at address_at second_at match_at substitute_at substituted delimiter_at outcome rest_of token_at text_from
 text_of_a_changed_range = is_script refl
 
 leading_blanks_of_a_line_stay : Script (codes "i\\\n  T\\\nU") Basic (λ s. s.texts ≡ codes "  T\nU" ∷ [])
-unfolding verdict cutting walked item_at past function_at addresses_at address_at match_at substitute_at substituted delimiter_at outcome rest_of expression_item_at text_from
+unfolding verdict cutting walked item_at past function_at addresses_at address_at match_at substitute_at substituted delimiter_at outcome rest_of token_at text_from
 leading_blanks_of_a_line_stay = is_script refl
 
 leading_blanks_of_one_line_go : Script (codes "a  T") Basic (λ s. s.texts ≡ codes "T" ∷ [])
@@ -55,19 +55,19 @@ unfolding verdict cutting walked item_at past function_at addresses_at address_a
 leading_blanks_of_one_line_go = is_script refl
 
 empty_text : Script (codes "a\\\n\np") Basic (λ s. s.texts ≡ [] ∷ [])
-unfolding verdict cutting walked item_at past function_at addresses_at address_at match_at substitute_at substituted delimiter_at outcome rest_of expression_item_at text_from
+unfolding verdict cutting walked item_at past function_at addresses_at address_at match_at substitute_at substituted delimiter_at outcome rest_of token_at text_from
 empty_text = is_script refl
 
 backslashes_of_a_text_go : Script (codes "a x\\y\\\\z") Basic (λ s. s.texts ≡ codes "xy\\z" ∷ [])
-unfolding verdict cutting walked item_at past function_at addresses_at address_at match_at substitute_at substituted delimiter_at outcome rest_of expression_item_at transliterate_at text_from
+unfolding verdict cutting walked item_at past function_at addresses_at address_at match_at substitute_at substituted delimiter_at outcome rest_of token_at transliterate_at text_from
 backslashes_of_a_text_go = is_script refl
 
 backslash_keeps_a_blank : Script (codes "a\\ ") Basic (λ s. s.texts ≡ codes " " ∷ [])
-unfolding verdict cutting walked item_at past function_at addresses_at address_at match_at substitute_at substituted delimiter_at outcome rest_of expression_item_at text_from
+unfolding verdict cutting walked item_at past function_at addresses_at address_at match_at substitute_at substituted delimiter_at outcome rest_of token_at text_from
 backslash_keeps_a_blank = is_script refl
 
 backslash_before_a_text : Script (codes "a\\text") Basic (λ s. s.texts ≡ codes "text" ∷ [])
-unfolding verdict cutting walked item_at past function_at addresses_at address_at match_at substitute_at substituted delimiter_at outcome rest_of expression_item_at text_from
+unfolding verdict cutting walked item_at past function_at addresses_at address_at match_at substitute_at substituted delimiter_at outcome rest_of token_at text_from
 backslash_before_a_text = is_script refl
 
 text_takes_separators : Script (codes "a p;p}") Basic (λ s. s.texts ≡ codes "p;p}" ∷ [])
@@ -110,11 +110,11 @@ unfolding verdict cutting walked item_at past function_at addresses_at address_a
 one_sink_for_equal_names = is_script refl
 
 standard_output : Script (codes "w /dev/stdout") Basic (λ s. s.commands ≡ always (action.File Write 0) ∷ [])
-unfolding verdict cutting walked item_at past function_at addresses_at address_at match_at substitute_at substituted delimiter_at outcome rest_of expression_item_at name_from
+unfolding verdict cutting walked item_at past function_at addresses_at address_at match_at substitute_at substituted delimiter_at outcome rest_of token_at name_from
 standard_output = is_script refl
 
 no_file_for_the_standard_output : Script (codes "w /dev/stdout") Basic (λ s. s.wfiles ≡ [])
-unfolding verdict cutting walked item_at past function_at addresses_at address_at match_at substitute_at substituted delimiter_at outcome rest_of expression_item_at name_from
+unfolding verdict cutting walked item_at past function_at addresses_at address_at match_at substitute_at substituted delimiter_at outcome rest_of token_at name_from
 no_file_for_the_standard_output = is_script refl
 
 file_of_a_range : Script (codes "1,2r f") Basic (λ s. s.commands ≡ from_to (address.Line 1) (address.Line 2) (action.File Read 0) ∷ [])
@@ -146,131 +146,131 @@ unfolding verdict cutting walked item_at past function_at addresses_at address_a
 name_with_separators = is_script refl
 
 file_of_a_flag : Script (codes "s/a/b/pw out") Basic (λ s. s.wfiles ≡ codes "out" ∷ [])
-unfolding verdict cutting walked item_at past function_at addresses_at address_at match_at substitute_at substituted delimiter_at outcome rest_of expression_item_at text_from name_from
+unfolding verdict cutting walked item_at past function_at addresses_at address_at match_at substitute_at substituted delimiter_at outcome rest_of token_at text_from name_from
 file_of_a_flag = is_script refl
 
 -- Substitutions: the expression's number, the pieces of the replacement, and the flags.
 
 substitute : Script (codes "s/a/b/") Basic (λ s. s.commands ≡ always (action.Substitute 0) ∷ [])
-unfolding verdict cutting walked item_at past function_at addresses_at address_at match_at substitute_at substituted delimiter_at outcome rest_of expression_item_at text_from
+unfolding verdict cutting walked item_at past function_at addresses_at address_at match_at substitute_at substituted delimiter_at outcome rest_of token_at text_from
 substitute = is_script refl
 
 replacement : Script (codes "s/a/b/") Basic (λ s. s.substitutions ≡ substitution (Some 0) (literal 98 ∷ []) ∷ [])
-unfolding verdict cutting walked item_at past function_at addresses_at address_at match_at substitute_at substituted delimiter_at outcome rest_of expression_item_at text_from
+unfolding verdict cutting walked item_at past function_at addresses_at address_at match_at substitute_at substituted delimiter_at outcome rest_of token_at text_from
 replacement = is_script refl
 
 deleted_match : Script (codes "s/a//") Basic (λ s. s.substitutions ≡ substitution (Some 0) [] ∷ [])
-unfolding verdict cutting walked item_at past function_at addresses_at address_at match_at substitute_at substituted delimiter_at outcome rest_of expression_item_at text_from
+unfolding verdict cutting walked item_at past function_at addresses_at address_at match_at substitute_at substituted delimiter_at outcome rest_of token_at text_from
 deleted_match = is_script refl
 
 whole_match : Script (codes "s/b/[&]/") Basic (λ s. s.substitutions ≡ substitution (Some 0) (literal 91 ∷ whole ∷ literal 93 ∷ []) ∷ [])
-unfolding verdict cutting walked item_at past function_at addresses_at address_at match_at substitute_at substituted delimiter_at outcome rest_of expression_item_at list_at list_end
+unfolding verdict cutting walked item_at past function_at addresses_at address_at match_at substitute_at substituted delimiter_at outcome rest_of token_at list_at list_end
 whole_match = is_script refl
 
 whole_match_by_a_digit : Script (codes "s/b/\\0/") Basic (λ s. s.substitutions ≡ substitution (Some 0) (whole ∷ []) ∷ [])
-unfolding verdict cutting walked item_at past function_at addresses_at address_at match_at substitute_at substituted delimiter_at outcome rest_of expression_item_at
+unfolding verdict cutting walked item_at past function_at addresses_at address_at match_at substitute_at substituted delimiter_at outcome rest_of token_at
 whole_match_by_a_digit = is_script refl
 
 escaped_ampersand : Script (codes "s/b/\\&/") Basic (λ s. s.substitutions ≡ substitution (Some 0) (literal 38 ∷ []) ∷ [])
-unfolding verdict cutting walked item_at past function_at addresses_at address_at match_at substitute_at substituted delimiter_at outcome rest_of expression_item_at
+unfolding verdict cutting walked item_at past function_at addresses_at address_at match_at substitute_at substituted delimiter_at outcome rest_of token_at
 escaped_ampersand = is_script refl
 
 first_group : Script (codes "s/\\(a\\)/\\1/") Basic (λ s. s.substitutions ≡ substitution (Some 0) (part 1 ∷ []) ∷ [])
-unfolding verdict cutting walked item_at past function_at addresses_at address_at match_at substitute_at substituted delimiter_at outcome rest_of expression_item_at text_from
+unfolding verdict cutting walked item_at past function_at addresses_at address_at match_at substitute_at substituted delimiter_at outcome rest_of token_at text_from
 first_group = is_script refl
 
 newline_and_tab : Script (codes "s/a/\\n\\t/") Basic (λ s. s.substitutions ≡ substitution (Some 0) (literal 10 ∷ literal 9 ∷ []) ∷ [])
-unfolding verdict cutting walked item_at past function_at addresses_at address_at match_at substitute_at substituted delimiter_at outcome rest_of expression_item_at text_from
+unfolding verdict cutting walked item_at past function_at addresses_at address_at match_at substitute_at substituted delimiter_at outcome rest_of token_at text_from
 newline_and_tab = is_script refl
 
 broken_line : Script (codes "s/a/b\\\nc/") Basic (λ s. s.substitutions ≡ substitution (Some 0) (literal 98 ∷ literal 10 ∷ literal 99 ∷ []) ∷ [])
-unfolding verdict cutting walked item_at past function_at addresses_at address_at match_at substitute_at substituted delimiter_at outcome rest_of expression_item_at text_from
+unfolding verdict cutting walked item_at past function_at addresses_at address_at match_at substitute_at substituted delimiter_at outcome rest_of token_at text_from
 broken_line = is_script refl
 
 escaped_delimiter : Script (codes "s/x/\\//") Basic (λ s. s.substitutions ≡ substitution (Some 0) (literal 47 ∷ []) ∷ [])
-unfolding verdict cutting walked item_at past function_at addresses_at address_at match_at substitute_at substituted delimiter_at outcome rest_of expression_item_at
+unfolding verdict cutting walked item_at past function_at addresses_at address_at match_at substitute_at substituted delimiter_at outcome rest_of token_at
 escaped_delimiter = is_script refl
 
 digit_as_delimiter : Script (codes "s1a1\\11") Basic (λ s. s.substitutions ≡ substitution (Some 0) (literal 49 ∷ []) ∷ [])
-unfolding verdict cutting walked item_at past function_at addresses_at address_at match_at substitute_at substituted delimiter_at outcome rest_of expression_item_at text_from
+unfolding verdict cutting walked item_at past function_at addresses_at address_at match_at substitute_at substituted delimiter_at outcome rest_of token_at text_from
 digit_as_delimiter = is_script refl
 
 group_of_the_last_expression : Script (codes "s//\\1/") Basic (λ s. s.substitutions ≡ substitution None (part 1 ∷ []) ∷ [])
-unfolding verdict cutting walked item_at past function_at addresses_at address_at match_at substitute_at substituted delimiter_at outcome rest_of expression_item_at
+unfolding verdict cutting walked item_at past function_at addresses_at address_at match_at substitute_at substituted delimiter_at outcome rest_of token_at
 group_of_the_last_expression = is_script refl
 
 all_occurrences : Script (codes "s/a/b/g") Basic (λ s. s.substitutions ≡ record (substitution (Some 0) (literal 98 ∷ [])) { global = true } ∷ [])
-unfolding verdict cutting walked item_at past function_at addresses_at address_at match_at substitute_at substituted delimiter_at outcome rest_of expression_item_at text_from
+unfolding verdict cutting walked item_at past function_at addresses_at address_at match_at substitute_at substituted delimiter_at outcome rest_of token_at text_from
 all_occurrences = is_script refl
 
 second_occurrence : Script (codes "s/a/b/2") Basic (λ s. s.substitutions ≡ record (substitution (Some 0) (literal 98 ∷ [])) { number = 2 } ∷ [])
-unfolding verdict cutting walked item_at past function_at addresses_at address_at match_at substitute_at substituted delimiter_at outcome rest_of expression_item_at text_from
+unfolding verdict cutting walked item_at past function_at addresses_at address_at match_at substitute_at substituted delimiter_at outcome rest_of token_at text_from
 second_occurrence = is_script refl
 
 greatest_occurrence : Script (codes "s/a/b/18446744073709551615") Basic (λ s. s.substitutions ≡ record (substitution (Some 0) (literal 98 ∷ [])) { number = 18446744073709551615 } ∷ [])
-unfolding verdict cutting walked item_at past function_at addresses_at address_at match_at substitute_at substituted delimiter_at outcome rest_of expression_item_at text_from
+unfolding verdict cutting walked item_at past function_at addresses_at address_at match_at substitute_at substituted delimiter_at outcome rest_of token_at text_from
 greatest_occurrence = is_script refl
 
 second_with_a_zero : Script (codes "s/a/b/02") Basic (λ s. s.substitutions ≡ record (substitution (Some 0) (literal 98 ∷ [])) { number = 2 } ∷ [])
-unfolding verdict cutting walked item_at past function_at addresses_at address_at match_at substitute_at substituted delimiter_at outcome rest_of expression_item_at text_from
+unfolding verdict cutting walked item_at past function_at addresses_at address_at match_at substitute_at substituted delimiter_at outcome rest_of token_at text_from
 second_with_a_zero = is_script refl
 
 second_and_later : Script (codes "s/a/x/2g") Basic (λ s. s.substitutions ≡ record (substitution (Some 0) (literal 120 ∷ [])) { number = 2; global = true } ∷ [])
-unfolding verdict cutting walked item_at past function_at addresses_at address_at match_at substitute_at substituted delimiter_at outcome rest_of expression_item_at text_from
+unfolding verdict cutting walked item_at past function_at addresses_at address_at match_at substitute_at substituted delimiter_at outcome rest_of token_at text_from
 second_and_later = is_script refl
 
 printed : Script (codes "s/a/b/p") Basic (λ s. s.substitutions ≡ record (substitution (Some 0) (literal 98 ∷ [])) { print = true } ∷ [])
-unfolding verdict cutting walked item_at past function_at addresses_at address_at match_at substitute_at substituted delimiter_at outcome rest_of expression_item_at text_from
+unfolding verdict cutting walked item_at past function_at addresses_at address_at match_at substitute_at substituted delimiter_at outcome rest_of token_at text_from
 printed = is_script refl
 
 written : Script (codes "s/a/b/pw out") Basic (λ s. s.substitutions ≡ record (substitution (Some 0) (literal 98 ∷ [])) { print = true; file = Some 1 } ∷ [])
-unfolding verdict cutting walked item_at past function_at addresses_at address_at match_at substitute_at substituted delimiter_at outcome rest_of expression_item_at text_from name_from
+unfolding verdict cutting walked item_at past function_at addresses_at address_at match_at substitute_at substituted delimiter_at outcome rest_of token_at text_from name_from
 written = is_script refl
 
 slash_in_a_list : Script (codes "s/[/]/x/") Basic (λ s. s.substitutions ≡ substitution (Some 0) (literal 120 ∷ []) ∷ [])
-unfolding verdict cutting walked item_at past function_at addresses_at address_at match_at substitute_at substituted delimiter_at outcome rest_of expression_item_at list_at list_end
+unfolding verdict cutting walked item_at past function_at addresses_at address_at match_at substitute_at substituted delimiter_at outcome rest_of token_at list_at list_end
 slash_in_a_list = is_script refl
 
 escaped_bar_as_delimiter : Script (codes "s|a\\|b|x|") Basic (λ s. s.expressions ≡ written_out (seq (byte 97) (seq (byte 124) (byte 98))) 0 ∷ [])
-unfolding verdict cutting walked item_at past function_at addresses_at address_at match_at substitute_at substituted delimiter_at outcome rest_of expression_item_at text_from
+unfolding verdict cutting walked item_at past function_at addresses_at address_at match_at substitute_at substituted delimiter_at outcome rest_of token_at text_from
 escaped_bar_as_delimiter = is_script refl
 
 folded_expression : Script (codes "s/a/x/gI") Basic (λ s. s.expressions ≡ written_out (set (folded_set (only 97))) 0 ∷ [])
-unfolding verdict cutting walked item_at past function_at addresses_at address_at match_at substitute_at substituted delimiter_at outcome rest_of expression_item_at text_from
+unfolding verdict cutting walked item_at past function_at addresses_at address_at match_at substitute_at substituted delimiter_at outcome rest_of token_at text_from
 folded_expression = is_script refl
 
 flags_before_a_closing : Script (codes "{s/a/b/g}") Basic (λ s. s.commands ≡ always (action.Block 2) ∷ always (action.Substitute 0) ∷ [])
-unfolding verdict cutting walked item_at past function_at addresses_at address_at match_at substitute_at substituted delimiter_at outcome rest_of expression_item_at front_interval text_from
+unfolding verdict cutting walked item_at past function_at addresses_at address_at match_at substitute_at substituted delimiter_at outcome rest_of token_at front_interval text_from
 flags_before_a_closing = is_script refl
 
 -- Tables of `y`.
 
 transliterate : Script (codes "N;y/\\n/,/") Basic (λ s. s.commands ≡ always (action.Plain simple.AppendNext) ∷ always (action.Transliterate 0) ∷ [])
-unfolding verdict cutting walked item_at past function_at addresses_at address_at second_at match_at substitute_at substituted delimiter_at outcome rest_of expression_item_at transliterate_at
+unfolding verdict cutting walked item_at past function_at addresses_at address_at second_at match_at substitute_at substituted delimiter_at outcome rest_of token_at transliterate_at
 transliterate = is_script refl
 
 newline_to_comma : Script (codes "y/\\n/,/") Basic (λ s. s.tables ≡ table_of (10 ∷ []) (44 ∷ []) ∷ [])
-unfolding verdict cutting walked item_at past function_at addresses_at address_at second_at match_at substitute_at substituted delimiter_at outcome rest_of expression_item_at transliterate_at
+unfolding verdict cutting walked item_at past function_at addresses_at address_at second_at match_at substitute_at substituted delimiter_at outcome rest_of token_at transliterate_at
 newline_to_comma = is_script refl
 
 escaped_bytes : Script (codes "y/a\\/\\n/x:y/") Basic (λ s. s.tables ≡ table_of (97 ∷ 47 ∷ 10 ∷ []) (codes "x:y") ∷ [])
-unfolding verdict cutting walked item_at past function_at addresses_at address_at match_at substitute_at substituted delimiter_at outcome rest_of expression_item_at transliterate_at text_from
+unfolding verdict cutting walked item_at past function_at addresses_at address_at match_at substitute_at substituted delimiter_at outcome rest_of token_at transliterate_at text_from
 escaped_bytes = is_script refl
 
 escaped_backslash : Script (codes "y/\\\\/b/") Basic (λ s. s.tables ≡ table_of (92 ∷ []) (98 ∷ []) ∷ [])
-unfolding verdict cutting walked item_at past function_at addresses_at address_at match_at substitute_at substituted delimiter_at outcome rest_of expression_item_at transliterate_at
+unfolding verdict cutting walked item_at past function_at addresses_at address_at match_at substitute_at substituted delimiter_at outcome rest_of token_at transliterate_at
 escaped_backslash = is_script refl
 
 tab_to_blank : Script (codes "y/\\t/ /") Basic (λ s. s.tables ≡ table_of (9 ∷ []) (32 ∷ []) ∷ [])
-unfolding verdict cutting walked item_at past function_at addresses_at address_at match_at substitute_at substituted delimiter_at outcome rest_of expression_item_at transliterate_at
+unfolding verdict cutting walked item_at past function_at addresses_at address_at match_at substitute_at substituted delimiter_at outcome rest_of token_at transliterate_at
 tab_to_blank = is_script refl
 
 empty_strings : Script (codes "y///") Basic (λ s. s.tables ≡ table_of [] [] ∷ [])
-unfolding verdict cutting walked item_at past function_at addresses_at address_at match_at substitute_at substituted delimiter_at outcome rest_of expression_item_at transliterate_at
+unfolding verdict cutting walked item_at past function_at addresses_at address_at match_at substitute_at substituted delimiter_at outcome rest_of token_at transliterate_at
 empty_strings = is_script refl
 
 y_before_a_closing : Script (codes "{y/a/b/}") Basic (λ s. s.commands ≡ always (action.Block 2) ∷ always (action.Transliterate 0) ∷ [])
-unfolding verdict cutting walked item_at past function_at addresses_at address_at match_at substitute_at substituted delimiter_at outcome rest_of expression_item_at front_interval transliterate_at text_from
+unfolding verdict cutting walked item_at past function_at addresses_at address_at match_at substitute_at substituted delimiter_at outcome rest_of token_at front_interval transliterate_at text_from
 y_before_a_closing = is_script refl
 
 -- The text of a script that is put together from parts: each ends with a newline (this project's own).

@@ -3,9 +3,9 @@ use Rattle.std.proofs.Common.{◌≡◌, ℕ, false, List, [], ◌∷◌, ◌++�
 use Rattle.std.specs.Prelude.{All}
 use Rattle.std.proofs.lemmas.Bool.{ne_eqb}
 use Rattle.sedscript.specs.Script.{unescaped_from}
-use Rattle.examples.specs.Texts.{backslashed}
+use Rattle.examples.specs.Texts.{each_backslashed}
 
-pub escaped_bytes : (bytes rest : List ℕ) → unescaped_from false (backslashed bytes ++ rest) ≡ bytes ++ unescaped_from false rest
+pub escaped_bytes : (bytes rest : List ℕ) → unescaped_from false (each_backslashed bytes ++ rest) ≡ bytes ++ unescaped_from false rest
 escaped_bytes [] rest = refl
 escaped_bytes (b ∷ bs) rest = ap (λ (x : List ℕ). b ∷ x) (escaped_bytes bs rest)
 

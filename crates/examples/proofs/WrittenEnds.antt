@@ -4,7 +4,7 @@ use Rattle.std.proofs.lemmas.Bool.{ne_eqb, eq-eqb}
 use Rattle.sedscript.specs.Strings.{string_end}
 use Rattle.sedscript.specs.declared.substitution.Piece.{Piece}
 use Rattle.sedscript.specs.declared.substitution.Piece.TheVariants.{Literal as literal, Whole as whole, Group as group}
-use Rattle.examples.specs.Strings.{written}
+use Rattle.examples.specs.Strings.{written_string}
 use Rattle.examples.specs.WrittenReplacements.{written_pieces}
 
 no_break : (t : Bool) → (t && false) ≡ false
@@ -46,10 +46,10 @@ past_byte false false d at b ys zs other e f h =
     let p = parts_false (b == d) (b == 92) f in
     past_plain false d at b (ys ++ zs) e p.0 p.1 ∙ (h (suc at) ∙ some_place (suc at + length ys) (at + suc (length ys)) (omega arith))
 
-pub string_whole : (d : ℕ) (bytes after : List ℕ) (at : ℕ) → (d ≡ 92 → ⊥) → (d ≡ 10 → ⊥) → string_end false d false at (written d bytes ++ d ∷ after) ≡ Some (at + length (written d bytes))
+pub string_whole : (d : ℕ) (bytes after : List ℕ) (at : ℕ) → (d ≡ 92 → ⊥) → (d ≡ 10 → ⊥) → string_end false d false at (written_string d bytes ++ d ∷ after) ≡ Some (at + length (written_string d bytes))
 string_whole d [] after at other line = at_end false d at after line ∙ some_place at (at + 0) (omega arith)
 string_whole d (b ∷ bs) after at other line =
-    past_byte (b == 10) (b == d || b == 92) d at b (written d bs) (d ∷ after) other refl refl (λ n. string_whole d bs after n other line)
+    past_byte (b == 10) (b == d || b == 92) d at b (written_string d bs) (d ∷ after) other refl refl (λ n. string_whole d bs after n other line)
 
 past_literal : (t : Bool) (d at b : ℕ) (ys zs : List ℕ) → (d ≡ 92 → ⊥) → (b == d || b == 92 || b == 38 || b == 10) ≡ t →
     ((n : ℕ) → string_end true d false n (ys ++ zs) ≡ Some (n + length ys)) →

@@ -7,8 +7,8 @@ use Rattle.sedscript.specs.declared.types.ScriptFault.{ScriptFault}
 use Rattle.sedscript.specs.declared.substitution.Piece.{Piece}
 use Rattle.sedscript.specs.declared.substitution.Piece.TheVariants.{Literal as literal, Whole as whole, Group as group}
 use Rattle.sedscript.specs.Strings.{escaped_byte, string_fault, escaped_piece, piece_fault, replacement_fault}
-use Rattle.sedscript.specs.Pieces.{GroupsWithin}
-use Rattle.examples.specs.Strings.{written}
+use Rattle.sedscript.specs.Pieces.{PieceGroupsWithin}
+use Rattle.examples.specs.Strings.{written_string}
 use Rattle.examples.specs.WrittenReplacements.{written_pieces}
 use Rattle.examples.proofs.PieceReading.{special, group_escape}
 
@@ -45,9 +45,9 @@ past_byte true t d at b rest f h = let n = newline_taken (110 == d) d refl in pa
 past_byte false true d at b rest f h = past_escape d at b b rest (self_taken d b f) h
 past_byte false false d at b rest f h = past_plain d at b rest (right_false (b == d) (b == 92) f) h
 
-pub string_faultless : (d : ℕ) (bytes : List ℕ) (at : ℕ) → string_fault d false at (written d bytes) ≡ None
+pub string_faultless : (d : ℕ) (bytes : List ℕ) (at : ℕ) → string_fault d false at (written_string d bytes) ≡ None
 string_faultless d [] at = refl
-string_faultless d (b ∷ bs) at = past_byte (b == 10) (b == d || b == 92) d at b (written d bs) refl (λ n. string_faultless d bs n)
+string_faultless d (b ∷ bs) at = past_byte (b == 10) (b == d || b == 92) d at b (written_string d bs) refl (λ n. string_faultless d bs n)
 
 -- ---- replacements
 
@@ -77,7 +77,7 @@ group_faultless : (t : Bool) (d n k at : ℕ) → (48 + k == d) ≡ t → 1 ≤ 
 group_faultless true d n k at e low high there = rw e refl
 group_faultless false d n k at e low high there = rw (group_escape d k low high e) (group_there n at k there)
 
-pub replacement_faultless : (d groups : ℕ) (ps : List Piece) (at : ℕ) → GroupsWithin 9 ps → GroupsWithin groups ps → replacement_fault d (Some groups) false at (written_pieces d ps) ≡ None
+pub replacement_faultless : (d groups : ℕ) (ps : List Piece) (at : ℕ) → PieceGroupsWithin 9 ps → PieceGroupsWithin groups ps → replacement_fault d (Some groups) false at (written_pieces d ps) ≡ None
 replacement_faultless d groups [] at fit there = refl
 replacement_faultless d groups (literal b ∷ ps) at fit there =
     past_literal (b == d || b == 92 || b == 38 || b == 10) d (Some groups) at b (written_pieces d ps) refl (λ n. replacement_faultless d groups ps n fit there)

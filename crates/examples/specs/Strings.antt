@@ -34,6 +34,6 @@ written_byte delimiter b =
     else b ∷ []
 
 -- bytes in a string between these delimiters
-abbrev pub written : ℕ → List ℕ → List ℕ
-written delimiter [] = []
-written delimiter (b ∷ bs) = written_byte delimiter b ++ written delimiter bs
+abbrev pub written_string : ℕ → List ℕ → List ℕ
+written_string delimiter [] = []
+written_string delimiter (b ∷ bs) = written_byte delimiter b ++ written_string delimiter bs

@@ -11,9 +11,9 @@ letter_of Insert = 105
 letter_of Change = 99
 
 -- each byte with a backslash before it
-abbrev pub backslashed : List ℕ → List ℕ
-backslashed [] = []
-backslashed (b ∷ bs) = 92 ∷ b ∷ backslashed bs
+abbrev pub each_backslashed : List ℕ → List ℕ
+each_backslashed [] = []
+each_backslashed (b ∷ bs) = 92 ∷ b ∷ each_backslashed bs
 
 -- the script ends in a backslash that none escapes, or in such a backslash and a newline
 pub record EndsInBackslash (script : List ℕ) (from : ℕ) : Type 0 where

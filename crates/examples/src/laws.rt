@@ -21,7 +21,7 @@ ghost use Rattle.sedscript.specs.Arguments.{flags_from, no_flags, name_from, tex
 ghost use Rattle.sedscript.specs.Letters.{argument_of};
 ghost use Rattle.sedscript.specs.declared.substitution.Piece.{Piece};
 ghost use Rattle.sedscript.specs.Strings.{pieces_of, replacement_fault, string_end, table_of, escaped_byte, chars_from, chars_of, bytes_of, is_among, string_fault};
-ghost use Rattle.sedscript.specs.Pieces.{GroupsWithin};
+ghost use Rattle.sedscript.specs.Pieces.{PieceGroupsWithin};
 ghost use Rattle.sedscript.specs.Script.{unescaped_from, CutScript, IsEnd, Means, block_end, commands_in};
 ghost use Rattle.sedscript.specs.Program.{Program};
 ghost use Rattle.sedscript.specs.FirstFault.{Faulty};
@@ -29,11 +29,11 @@ ghost use Rattle.examples.specs.Backslashes.{IsUnescaped, NoneUnescaped};
 ghost use Rattle.examples.specs.Escapes.{FirstWrong, IsEscape, HasGroups, IsWrongEscape, wrong_in_string, wrong_in_replacement};
 ghost use Rattle.examples.specs.Blocks.{BracesMatch, IsStray, IsUnclosed};
 ghost use Rattle.examples.specs.Labels.{EndsLabel};
-ghost use Rattle.examples.specs.Texts.{HasNoText, letter_of, backslashed};
-ghost use Rattle.examples.specs.Strings.{NoneTwice, IsTransliterate, RepeatsFirst, written};
+ghost use Rattle.examples.specs.Texts.{HasNoText, letter_of, each_backslashed};
+ghost use Rattle.examples.specs.Strings.{NoneTwice, IsTransliterate, RepeatsFirst, written_string};
 ghost use Rattle.examples.specs.Names.{EachOnce, names_of};
 ghost use Rattle.examples.specs.Numbers.{NumberAmong};
-ghost use Rattle.examples.specs.Lists.{ArePlain};
+ghost use Rattle.examples.specs.Lists.{ArePlainMembers};
 ghost use Rattle.examples.specs.WrittenReplacements.{written_pieces};
 
 /// A text of `a`, `i` or `c` ends at the first newline with an even number of backslashes directly before it, or at the
@@ -83,7 +83,7 @@ pub fn string_ends()
 /// In a text, bytes each with a backslash before it stand for these bytes, whatever follows them.
 pub fn escaped_bytes()
     ensures { (bytes rest : List ℕ) →
-        unescaped_from false (backslashed bytes ++ rest) ≡ bytes ++ unescaped_from false rest }
+        unescaped_from false (each_backslashed bytes ++ rest) ≡ bytes ++ unescaped_from false rest }
 {}
 
 /// In a text, bytes that are no backslashes stand for themselves, whatever follows them.
@@ -136,21 +136,21 @@ pub fn repeated_byte()
 /// A string of a `y` that is written out is read as its bytes, unless its delimiter is an `n`.
 pub fn string_read()
     ensures { (delimiter : ℕ) (bytes : List ℕ) (at : ℕ) → (delimiter ≡ 110 → ⊥) →
-        bytes_of (chars_from delimiter false at (written delimiter bytes)) ≡ bytes }
+        bytes_of (chars_from delimiter false at (written_string delimiter bytes)) ≡ bytes }
 {}
 
 /// A string of a `y` that is written out ends where the delimiter after it stands, unless that is a backslash or a
 /// newline.
 pub fn string_whole()
     ensures { (delimiter : ℕ) (bytes after : List ℕ) (at : ℕ) → (delimiter ≡ 92 → ⊥) → (delimiter ≡ 10 → ⊥) →
-        string_end false delimiter false at (written delimiter bytes ++ delimiter ∷ after)
-        ≡ Some (at + length (written delimiter bytes)) }
+        string_end false delimiter false at (written_string delimiter bytes ++ delimiter ∷ after)
+        ≡ Some (at + length (written_string delimiter bytes)) }
 {}
 
 /// A string of a `y` that is written out has no fault.
 pub fn string_faultless()
     ensures { (delimiter : ℕ) (bytes : List ℕ) (at : ℕ) →
-        string_fault delimiter false at (written delimiter bytes) ≡ None }
+        string_fault delimiter false at (written_string delimiter bytes) ≡ None }
 {}
 
 /// The fault of a string of a `y` is that of the first backslash, escaped by none, before a byte which is none of the
@@ -182,7 +182,7 @@ pub fn escapes_accepted()
 
 /// A replacement that is written out is read as its pieces, unless its delimiter is a digit.
 pub fn replacement_read()
-    ensures { (delimiter : ℕ) (pieces : List Piece) → (48 ≤ delimiter → delimiter ≤ 57 → ⊥) → GroupsWithin 9 pieces →
+    ensures { (delimiter : ℕ) (pieces : List Piece) → (48 ≤ delimiter → delimiter ≤ 57 → ⊥) → PieceGroupsWithin 9 pieces →
         pieces_of delimiter (written_pieces delimiter pieces) ≡ pieces }
 {}
 
@@ -197,8 +197,8 @@ pub fn replacement_whole()
 
 /// A replacement that is written out has no fault where the expression has its groups.
 pub fn replacement_faultless()
-    ensures { (delimiter groups : ℕ) (pieces : List Piece) (at : ℕ) → GroupsWithin 9 pieces →
-        GroupsWithin groups pieces →
+    ensures { (delimiter groups : ℕ) (pieces : List Piece) (at : ℕ) → PieceGroupsWithin 9 pieces →
+        PieceGroupsWithin groups pieces →
         replacement_fault delimiter (Some groups) false at (written_pieces delimiter pieces) ≡ None }
 {}
 
@@ -246,7 +246,7 @@ pub fn flags_before_file()
 /// matches exactly these bytes, in either case where case is folded, and ends after its `]`.
 pub fn list_matches()
     ensures { (folded : Bool) (delimiter : Option ℕ) (before bytes after : List ℕ) → 0 < length bytes →
-        ArePlain delimiter bytes →
+        ArePlainMembers delimiter bytes →
         list_at folded delimiter (before ++ 91 ∷ (bytes ++ 93 ∷ after)) (length before)
         ≡ Ok (matching folded (set_of (λ c. is_among bytes c)), length before + length bytes + 2) }
 {}
@@ -255,7 +255,7 @@ pub fn list_matches()
 /// `]`.
 pub fn others_match()
     ensures { (folded : Bool) (delimiter : Option ℕ) (before bytes after : List ℕ) → 0 < length bytes →
-        ArePlain delimiter bytes →
+        ArePlainMembers delimiter bytes →
         list_at folded delimiter (before ++ 91 ∷ 94 ∷ (bytes ++ 93 ∷ after)) (length before)
         ≡ Ok (complement (matching folded (set_of (λ c. is_among bytes c))), length before + length bytes + 3) }
 {}

@@ -6,11 +6,11 @@
 
 ghost use Rattle.std.specs.Prelude.{◌≡◌, ◌<◌, [], IfSome};
 
-use crate::devices::Way;
+use crate::devices::Behaviour;
 use crate::job::limits_of;
 use crate::options::Options;
-use crate::report::{NO_MEMORY, Report};
-use crate::table::Row;
+use crate::report::{NO_MEMORY, Differences};
+use crate::table::SheetRow;
 use sededit::{MemoryFile, MemoryInputs, MemoryNames, MemorySinks, command};
 use sedengine::Limits;
 use sedspace::Outputs;
@@ -19,7 +19,7 @@ use std::str;
 
 /// The devices of a call.
 #[derive(Drop)]
-struct Devices {
+struct EditDevices {
     inputs: MemoryInputs,
     sinks: MemorySinks,
     names: MemoryNames,
@@ -30,26 +30,26 @@ struct Devices {
 const READS: [usize; 4] = [usize::MAX, 1, 2, 3];
 
 /// Runs a row, to the first difference.
-pub(crate) fn run(row: &Row, report: &mut Report) {
+pub(crate) fn run(row: &SheetRow, report: &mut Differences) {
     let options = row.options(4);
-    let way = Way::of(options);
+    let way = Behaviour::of(options);
     if !options.has(b"fails") && !options.has(b"refuses") {
         for read in READS {
-            run_read(row, Way { read, ..way }, report);
+            run_read(row, Behaviour { read, ..way }, report);
         }
     }
     run_way(row, way, report);
 }
 
 /// Runs it with writes of one byte, and one byte ahead or as many as the program.
-fn run_read(row: &Row, way: Way, report: &mut Report) {
-    let way = Way { write: 1, ..way };
-    run_way(row, Way { look: 1, ..way }, report);
+fn run_read(row: &SheetRow, way: Behaviour, report: &mut Differences) {
+    let way = Behaviour { write: 1, ..way };
+    run_way(row, Behaviour { look: 1, ..way }, report);
     run_way(row, way, report);
 }
 
 /// Runs it so, where nothing was told before.
-fn run_way(row: &Row, way: Way, report: &mut Report) {
+fn run_way(row: &SheetRow, way: Behaviour, report: &mut Differences) {
     if !report.is_empty() {
         return;
     }
@@ -69,16 +69,16 @@ fn run_way(row: &Row, way: Way, report: &mut Report) {
 
 /// Calls the program with these words over these devices.
 fn run_words(
-    row: &Row,
+    row: &SheetRow,
     words: &[String],
     limits: Limits,
-    devices: &mut Devices,
-    report: &mut Report,
+    devices: &mut EditDevices,
+    report: &mut Differences,
 )
     requires created { devices.old.sinks.created ≡ 0 }
     requires named { devices.old.names.named ≡ [] }
 {
-    let Devices {
+    let EditDevices {
         inputs,
         sinks,
         names,
@@ -113,11 +113,11 @@ fn words_of(alloc: Global, written: &[u8]) -> Option<Vec<String>> {
 }
 
 /// The devices of a row.
-fn devices_of(row: &Row, way: Way) -> Option<Devices>
+fn devices_of(row: &SheetRow, way: Behaviour) -> Option<EditDevices>
     ensures created { IfSome result (λ d. d.sinks.created ≡ 0) }
     ensures named { IfSome result (λ d. d.names.named ≡ []) }
 {
-    Some(Devices {
+    Some(EditDevices {
         inputs: inputs_of(row, way)?,
         sinks: sinks_of(row, way)?,
         names: MemoryNames::new(row.alloc, files_of(row)?),
@@ -126,7 +126,7 @@ fn devices_of(row: &Row, way: Way) -> Option<Devices>
 }
 
 /// The inputs.
-fn inputs_of(row: &Row, way: Way) -> Option<MemoryInputs> {
+fn inputs_of(row: &SheetRow, way: Behaviour) -> Option<MemoryInputs> {
     let standard = row.field(1).to_vec(row.alloc).ok()?;
     let mut inputs = MemoryInputs::new(standard, files_of(row)?);
     inputs.give_at_most(way.read.max(1));
@@ -135,7 +135,7 @@ fn inputs_of(row: &Row, way: Way) -> Option<MemoryInputs> {
 }
 
 /// The files of the options `f:NAME=TEXT`.
-fn files_of(row: &Row) -> Option<Vec<MemoryFile>> {
+fn files_of(row: &SheetRow) -> Option<Vec<MemoryFile>> {
     let options = row.options(4);
     let mut files = Vec::new(row.alloc);
     for k in 0..options.files(b"f:") {
@@ -148,7 +148,7 @@ fn files_of(row: &Row) -> Option<Vec<MemoryFile>> {
 }
 
 /// The sinks. None where no sink of that number can be told to fail, and for want of memory.
-fn sinks_of(row: &Row, way: Way) -> Option<MemorySinks>
+fn sinks_of(row: &SheetRow, way: Behaviour) -> Option<MemorySinks>
     ensures { IfSome result (λ s. s.created ≡ 0) }
 {
     let names = names_of(row)?;
@@ -164,7 +164,7 @@ fn sinks_of(row: &Row, way: Way) -> Option<MemorySinks>
 }
 
 /// The names of the options `w:NAME=TEXT`.
-fn names_of(row: &Row) -> Option<Vec<Vec<u8>>> {
+fn names_of(row: &SheetRow) -> Option<Vec<Vec<u8>>> {
     let options = row.options(4);
     let mut names = Vec::new(row.alloc);
     for k in 0..options.files(b"w:") {
@@ -175,7 +175,7 @@ fn names_of(row: &Row) -> Option<Vec<Vec<u8>>> {
 }
 
 /// Whether all files are created, and have what they should.
-fn compare_files(sinks: &MemorySinks, options: Options<'_>, report: &mut Report) {
+fn compare_files(sinks: &MemorySinks, options: Options<'_>, report: &mut Differences) {
     let count = options.files(b"w:");
     for k in 0..count {
         if let Some((_, wanted)) = options.file(b"w:", k) {
@@ -191,7 +191,7 @@ fn compare_stream(
     written: &[u8],
     wanted: &[u8],
     beginning: Option<&[u8]>,
-    report: &mut Report,
+    report: &mut Differences,
 ) {
     match beginning {
         Some(begun) if written.starts_with(begun) => {}

@@ -7,8 +7,8 @@
 ghost use Rattle.std.specs.Prelude.{◌<◌, length, None, IfOk};
 
 use crate::options::Options;
-use crate::report::{Message, NO_MEMORY, Report};
-use crate::table::Row;
+use crate::report::{Message, NO_MEMORY, Differences};
+use crate::table::SheetRow;
 use sedengine::Ended;
 use sedscript::Script;
 use sedspace::{MemoryOutputs, MemorySource, MemoryTexts, Outputs, Texts};
@@ -16,7 +16,7 @@ use std::alloc::Global;
 
 /// How devices give and take bytes, and which of their calls fails. Calls are counted from 1, and 0 is none.
 #[derive(Clone, Copy)]
-pub(crate) struct Way {
+pub(crate) struct Behaviour {
     /// The most bytes of a read of the input, where the row doesn't say.
     pub read: usize,
     /// The most bytes of a write, and of a read of a file.
@@ -30,11 +30,11 @@ pub(crate) struct Way {
     pub failing_write: usize,
 }
 
-impl Way {
+impl Behaviour {
     /// Reads and writes of any length, as far ahead as the program reads; the calls fail of which the options say so.
-    pub(crate) fn of(options: Options<'_>) -> Way {
+    pub(crate) fn of(options: Options<'_>) -> Behaviour {
         let is_refused = options.has(b"refuses");
-        Way {
+        Behaviour {
             read: usize::MAX,
             write: usize::MAX,
             look: 65536,
@@ -46,7 +46,7 @@ impl Way {
     }
 
     /// Adds to what is told, where anything is, the way by which it came.
-    pub(crate) fn note(self, report: &mut Report) {
+    pub(crate) fn note(self, report: &mut Differences) {
         report.note("; bytes of a read: ", self.read);
         report.note(", of a write: ", self.write);
         report.note(", ahead: ", self.look);
@@ -105,7 +105,7 @@ impl Texts for PiecedTexts {
 }
 
 /// The devices of a script: with a sink for the standard output and for each file that it writes.
-pub(crate) fn devices_of(row: &Row, script: &Script, way: Way) -> Result<Devices, Message>
+pub(crate) fn devices_of(row: &SheetRow, script: &Script, way: Behaviour) -> Result<Devices, Message>
     ensures { IfOk result (λ d. length script.now.wfiles < length d.outputs.held) }
 {
     let options = row.options(3);
@@ -125,7 +125,7 @@ pub(crate) fn devices_of(row: &Row, script: &Script, way: Way) -> Result<Devices
 }
 
 /// The input.
-fn source_of(row: &Row, way: Way) -> Result<MemorySource, Message> {
+fn source_of(row: &SheetRow, way: Behaviour) -> Result<MemorySource, Message> {
     let most = row.options(3).number_or(b"read", way.read);
     if most == 0 {
         return Err("no input comes in reads of no byte");
@@ -140,7 +140,7 @@ fn source_of(row: &Row, way: Way) -> Result<MemorySource, Message> {
 }
 
 /// The places where the input is cut. None for want of memory.
-fn cuts_of(row: &Row, way: Way) -> Option<Vec<usize>> {
+fn cuts_of(row: &SheetRow, way: Behaviour) -> Option<Vec<usize>> {
     if row.options(3).has(b"lines") {
         return line_ends(row.alloc, row.field(1));
     }
@@ -171,7 +171,7 @@ fn texts_of(alloc: Global, names: &[Vec<u8>], options: Options<'_>) -> Option<Me
 }
 
 /// The sinks.
-fn outputs_of(row: &Row, script: &Script, way: Way) -> Result<MemoryOutputs, Message>
+fn outputs_of(row: &SheetRow, script: &Script, way: Behaviour) -> Result<MemoryOutputs, Message>
     ensures { IfOk result (λ o. length script.now.wfiles < length o.held) }
 {
     let options = row.options(3);

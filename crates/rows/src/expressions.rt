@@ -7,9 +7,9 @@
 
 use crate::faults::put_expression_fault;
 use crate::options::delimiter_in;
-use crate::report::Report;
+use crate::report::Differences;
 use crate::sheet::Sheet;
-use crate::table::Row;
+use crate::table::SheetRow;
 use sedre::{Expr, ExprFault, Kind, Node, Steps, delimited, read};
 
 /// The kind of a name.
@@ -22,7 +22,7 @@ pub(crate) fn kind_named(name: &[u8]) -> Kind {
 }
 
 /// Runs a row.
-pub(crate) fn run(row: &Row, report: &mut Report) {
+pub(crate) fn run(row: &SheetRow, report: &mut Differences) {
     let options = row.options(4);
     let (kind, nodes) = (kind_named(row.field(0)), options.nodes_or(65536));
     match read(row.alloc, kind, row.field(1), options.delimiter(), nodes) {
@@ -32,7 +32,7 @@ pub(crate) fn run(row: &Row, report: &mut Report) {
 }
 
 /// Whether the expression is the wanted one.
-fn compare_expression(row: &Row, expr: &Expr, report: &mut Report) {
+fn compare_expression(row: &SheetRow, expr: &Expr, report: &mut Differences) {
     let mut came = Sheet::new(row.alloc);
     put_nodes(&mut came, expr, row.field(2).ends_with(b" nodes"));
     report.compare_sheet("the nodes", &came, row.field(2));
@@ -40,7 +40,7 @@ fn compare_expression(row: &Row, expr: &Expr, report: &mut Report) {
 }
 
 /// Whether the fault is the wanted one.
-fn compare_fault(row: &Row, fault: &ExprFault, report: &mut Report) {
+fn compare_fault(row: &SheetRow, fault: &ExprFault, report: &mut Differences) {
     let mut came = Sheet::new(row.alloc);
     put_expression_fault(&mut came, fault);
     report.compare_faults(&came, row.field(2));
@@ -74,7 +74,7 @@ fn put_node(sheet: &mut Sheet, node: Node) {
 }
 
 /// Runs a row of lists: a bracket expression is read as a basic and as an extended expression, alone and with what follows.
-pub(crate) fn run_list(row: &Row, report: &mut Report) {
+pub(crate) fn run_list(row: &SheetRow, report: &mut Differences) {
     let text = row.field(0);
     let end = row.number(1);
     if end > text.len() {
@@ -87,7 +87,7 @@ pub(crate) fn run_list(row: &Row, report: &mut Report) {
 }
 
 /// Whether the list that the text begins with, and is where `is_alone`, has the wanted bytes.
-fn compare_list(row: &Row, kind: Kind, text: &[u8], is_alone: bool, report: &mut Report) {
+fn compare_list(row: &SheetRow, kind: Kind, text: &[u8], is_alone: bool, report: &mut Differences) {
     match read(row.alloc, kind, text, row.options(4).delimiter(), 100) {
         Ok(expr) if expr.nodes() > 0 && (expr.nodes() == 1) == is_alone => {
             compare_set(row, expr.look(expr.id(0), &mut Steps::new()), report);
@@ -98,7 +98,7 @@ fn compare_list(row: &Row, kind: Kind, text: &[u8], is_alone: bool, report: &mut
 }
 
 /// Whether the set has the bytes that are listed, or those that are not.
-fn compare_set(row: &Row, node: Node, report: &mut Report) {
+fn compare_set(row: &SheetRow, node: Node, report: &mut Differences) {
     let Node::Set(set) = node else {
         return report.tell("the expression doesn't begin with a set");
     };
@@ -112,7 +112,7 @@ fn compare_set(row: &Row, node: Node, report: &mut Report) {
 }
 
 /// Runs a row of delimiters.
-pub(crate) fn run_delimited(row: &Row, report: &mut Report) {
+pub(crate) fn run_delimited(row: &SheetRow, report: &mut Differences) {
     let mut came = Sheet::new(row.alloc);
     if let Some(delimiter) = delimiter_in(row.field(2)) {
         match delimited(row.field(0), row.number(1), delimiter) {

@@ -2,14 +2,14 @@
 ghost use Rattle.std.specs.Prelude.{◌≤◌, IfOk};
 
 use crate::options::Options;
-use crate::report::{Message, Report};
-use crate::table::Row;
+use crate::report::{Message, Differences};
+use crate::table::SheetRow;
 use sededit::script;
 use sedengine::Limits;
 use sedscript::Script;
 
 /// Runs a row of limits: those on spaces, queue, read-ahead, turns and nodes are accepted or refused.
-pub(crate) fn run_limits(row: &Row, report: &mut Report) {
+pub(crate) fn run_limits(row: &SheetRow, report: &mut Differences) {
     let (space, queue, look) = (row.number(0), row.number(1), row.number(2));
     let came = match Limits::new(space, queue, look, row.number(3) as u64, row.number(4)) {
         Some(_) => b"accepted",
@@ -36,7 +36,7 @@ pub(crate) fn limits_of(options: Options<'_>, look: usize) -> Result<Limits, Mes
 }
 
 /// The script, which keeps to the limits.
-pub(crate) fn script_of(row: &Row, limits: &Limits) -> Result<Script, Message>
+pub(crate) fn script_of(row: &SheetRow, limits: &Limits) -> Result<Script, Message>
     ensures { IfOk result (λ s. s.max_nodes ≤ limits.now.nodes) }
 {
     let options = row.options(3);
@@ -55,7 +55,7 @@ pub(crate) fn script_of(row: &Row, limits: &Limits) -> Result<Script, Message>
 
 /// Sees that the script is accepted, and that the options name its files, each once and in its order: all that it writes,
 /// and some that it reads.
-pub(crate) fn check_script(row: &Row, report: &mut Report) {
+pub(crate) fn check_script(row: &SheetRow, report: &mut Differences) {
     let options = row.options(3);
     match script(
         row.alloc,

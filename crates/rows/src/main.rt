@@ -24,26 +24,26 @@ mod subject;
 mod table;
 
 use anyhow::{Context, Result, ensure};
-use report::Report;
+use report::Differences;
 use std::{fs, str};
 use subject::{run, shape_of};
-use table::{Row, rows_of};
+use table::{SheetRow, rows_of};
 
 /// The rows of the table in a file.
-fn table_in(rt: &HostRuntime, name: &str) -> Result<Vec<Row>> {
+fn table_in(rt: &HostRuntime, name: &str) -> Result<Vec<SheetRow>> {
     let text = fs::read_to_string(rt, name).context("the table can't be read")?;
     rows_of(rt.alloc(), text.as_str())
 }
 
 /// Runs a row of a table, and names it where it fails. Says whether it holds.
-fn run_row(rt: &HostRuntime, subject: &str, name: &str, row: &Row) -> Result<bool> {
+fn run_row(rt: &HostRuntime, subject: &str, name: &str, row: &SheetRow) -> Result<bool> {
     let line = row.line;
     let (rules, options) = shape_of(subject, row).context("no rows are of this kind")?;
     ensure!(
         row.keeps(rules, options),
         "line {line}: a field or an option isn't as it has to be"
     );
-    let mut report = Report::new(rt.alloc());
+    let mut report = Differences::new(rt.alloc());
     run(subject, row, &mut report);
     if report.is_empty() {
         return Ok(true);

@@ -10,9 +10,9 @@ ghost use Rattle.sedmatch.specs.SearchRoom.{FitInto};
 
 use crate::expressions::kind_named;
 use crate::options::Options;
-use crate::report::{NO_MEMORY, Report};
+use crate::report::{NO_MEMORY, Differences};
 use crate::sheet::Sheet;
-use crate::table::Row;
+use crate::table::SheetRow;
 use sedmatch::{Occurrences, Scratch, TableMatcher, TableRoom, Text, find};
 use sedre::{Expr, Steps, read};
 use std::alloc::{AllocError, Global};
@@ -27,17 +27,17 @@ struct Occurred {
 }
 
 /// Runs a row of matches.
-pub(crate) fn run(row: &Row, report: &mut Report) {
+pub(crate) fn run(row: &SheetRow, report: &mut Differences) {
     run_from(row, Some(row.number(3)), report);
 }
 
 /// Runs a row of occurrences.
-pub(crate) fn run_all(row: &Row, report: &mut Report) {
+pub(crate) fn run_all(row: &SheetRow, report: &mut Differences) {
     run_from(row, None, report);
 }
 
 /// Reads the expression, and seeks the match from a place on, or all occurrences where none is given.
-fn run_from(row: &Row, from: Option<usize>, report: &mut Report) {
+fn run_from(row: &SheetRow, from: Option<usize>, report: &mut Differences) {
     let kind = kind_named(row.field(0));
     match read(row.alloc, kind, row.field(1), None, 65536) {
         Ok(expr) => run_over(row, &expr, row.field(2), from, report),
@@ -46,7 +46,7 @@ fn run_from(row: &Row, from: Option<usize>, report: &mut Report) {
 }
 
 /// Searches the text by an expression that is used once, where there is a place, and by tables of each size.
-fn run_over(row: &Row, expr: &Expr, text: &[u8], from: Option<usize>, report: &mut Report) {
+fn run_over(row: &SheetRow, expr: &Expr, text: &[u8], from: Option<usize>, report: &mut Differences) {
     let nodes = expr.nodes();
     let place = from.unwrap_or(0);
     if nodes < 1 || nodes > 65536 || text.len() > 1 << 20 || place > text.len() {
@@ -68,12 +68,12 @@ fn run_over(row: &Row, expr: &Expr, text: &[u8], from: Option<usize>, report: &m
 
 /// Whether the search for an expression that is used once tells what the row says.
 fn run_once(
-    row: &Row,
+    row: &SheetRow,
     expr: &Expr,
     text: &Text,
     from: usize,
     scratch: &mut Scratch,
-    report: &mut Report,
+    report: &mut Differences,
 )
     requires from { from ≤ length text.now }
     requires fits { FitInto (length text.now) (length expr.now.nodes) scratch.old }
@@ -92,13 +92,13 @@ fn run_once(
 
 /// Searches by tables of at most so many states, where nothing was told before.
 fn run_table(
-    row: &Row,
+    row: &SheetRow,
     expr: &Expr,
     states: usize,
     text: &[u8],
     from: Option<usize>,
     scratch: &mut Scratch,
-    report: &mut Report,
+    report: &mut Differences,
 )
     requires from { IfSome from (λ place. place ≤ length text.now) }
     requires fits { FitInto (length text.now) (length expr.now.nodes) scratch.old }
@@ -145,13 +145,13 @@ fn room_to_seek(
 
 /// Seeks the first occurrence, or all where no place is given.
 fn seek(
-    row: &Row,
+    row: &SheetRow,
     expr: &Expr,
     matcher: &mut TableMatcher,
     text: &[u8],
     from: Option<usize>,
     scratch: &mut Scratch,
-    report: &mut Report,
+    report: &mut Differences,
 )
     requires matcher { matcher.old ≡ expr.now }
     requires fits { FitInto (length text.now) (length matcher.old.nodes) scratch.old }
@@ -218,7 +218,7 @@ fn all_of(
 }
 
 /// Whether the first occurrence, where a place is given, or all of them are what the row says.
-fn compare(row: &Row, from: Option<usize>, mut came: Sheet, all: &Occurred, report: &mut Report) {
+fn compare(row: &SheetRow, from: Option<usize>, mut came: Sheet, all: &Occurred, report: &mut Differences) {
     let (steps, group_steps) = (all.steps, all.group_steps);
     if from.is_some() {
         let steps = steps.saturating_add(group_steps);
@@ -239,7 +239,7 @@ fn compare(row: &Row, from: Option<usize>, mut came: Sheet, all: &Occurred, repo
 }
 
 /// Whether there are as many steps as the options of these names say.
-fn compare_steps(most: &str, least: &str, steps: u128, options: Options<'_>, report: &mut Report) {
+fn compare_steps(most: &str, least: &str, steps: u128, options: Options<'_>, report: &mut Differences) {
     let least = options.number_or(least.as_bytes(), 0);
     let most = options.number_or(most.as_bytes(), usize::MAX);
     if steps < least as u128 || (most as u128) < steps {

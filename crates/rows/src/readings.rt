@@ -2,9 +2,9 @@
 
 ghost use Rattle.std.specs.Prelude.{◌<◌, length};
 
-use crate::report::Report;
+use crate::report::Differences;
 use crate::sheet::Sheet;
-use crate::table::Row;
+use crate::table::SheetRow;
 use sededit::script;
 use sedscript::types::{BranchUse, FileUse, Simple, TextUse};
 use sedscript::{Action, Address, Command, ReplacementPart, Script, Substitution};
@@ -13,7 +13,7 @@ use sedscript::{Action, Address, Command, ReplacementPart, Script, Substitution}
 const MOST_NODES: usize = 65536;
 
 /// Runs a row.
-pub(crate) fn run(row: &Row, report: &mut Report) {
+pub(crate) fn run(row: &SheetRow, report: &mut Differences) {
     match script(row.alloc, row.field(0), row.options(2).kind(), MOST_NODES) {
         Ok(script) => compare(row, &script, report),
         Err(_) => report.tell("the script isn't accepted"),
@@ -21,7 +21,7 @@ pub(crate) fn run(row: &Row, report: &mut Report) {
 }
 
 /// Whether the script is read as the row says.
-fn compare(row: &Row, script: &Script, report: &mut Report) {
+fn compare(row: &SheetRow, script: &Script, report: &mut Differences) {
     if script.quiet() != row.options(2).has(b"-n") {
         report.tell("-n isn't as expected");
     }
@@ -32,7 +32,7 @@ fn compare(row: &Row, script: &Script, report: &mut Report) {
 }
 
 /// Whether the files of the script are those that the options name.
-fn compare_files(row: &Row, script: &Script, report: &mut Report) {
+fn compare_files(row: &SheetRow, script: &Script, report: &mut Differences) {
     let mut wanted = Sheet::new(row.alloc);
     for option in row.options(2).written {
         if !option.starts_with(b"-") {

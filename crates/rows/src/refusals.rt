@@ -1,14 +1,14 @@
 //! Scripts with a fault, and scripts without one. The heads of the tables tell their fields.
 
 use crate::faults::put_script_fault;
-use crate::report::Report;
+use crate::report::Differences;
 use crate::sheet::Sheet;
-use crate::table::Row;
+use crate::table::SheetRow;
 use sededit::script;
 use sedscript::{Reason, ScriptFault};
 
 /// The rules for the fields and the options of a row.
-pub(crate) fn shape_of(row: &Row) -> (&'static str, &'static str) {
+pub(crate) fn shape_of(row: &SheetRow) -> (&'static str, &'static str) {
     if row.field(1) == b"none".as_slice() {
         ("* none", "-E nodes=+")
     } else {
@@ -17,7 +17,7 @@ pub(crate) fn shape_of(row: &Row) -> (&'static str, &'static str) {
 }
 
 /// Runs a row.
-pub(crate) fn run(row: &Row, report: &mut Report) {
+pub(crate) fn run(row: &SheetRow, report: &mut Differences) {
     let options = row.options(2);
     // the program's most nodes, where the row doesn't say
     match script(
@@ -32,7 +32,7 @@ pub(crate) fn run(row: &Row, report: &mut Report) {
 }
 
 /// Whether the fault is the wanted one, and at its place.
-fn compare_fault(row: &Row, fault: &ScriptFault, report: &mut Report) {
+fn compare_fault(row: &SheetRow, fault: &ScriptFault, report: &mut Differences) {
     let mut came = Sheet::new(row.alloc);
     put_script_fault(&mut came, fault);
     report.compare_faults(&came, row.field(1));

@@ -15,14 +15,14 @@ pub(crate) const NO_MEMORY: Message = "no memory";
 
 /// What running a row comes to: nothing where the row holds, else the first thing that came in place of what it says.
 #[derive(Drop)]
-pub(crate) struct Report {
+pub(crate) struct Differences {
     pub sheet: Sheet,
 }
 
-impl Report {
+impl Differences {
     /// Nothing is told yet.
-    pub(crate) fn new(alloc: Global) -> Report {
-        Report {
+    pub(crate) fn new(alloc: Global) -> Differences {
+        Differences {
             sheet: Sheet::new(alloc),
         }
     }

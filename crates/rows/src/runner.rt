@@ -1,17 +1,17 @@
 //! The run of a row's script, by `edit` or by an engine.
 ghost use Rattle.std.specs.Prelude.{◌≡◌, ◌<◌, length};
 
-use crate::devices::{Devices, PiecedTexts, Way, devices_of};
+use crate::devices::{Devices, PiecedTexts, Behaviour, devices_of};
 use crate::job::{limits_of, script_of};
 use crate::report::{Message, NO_MEMORY};
-use crate::table::Row;
+use crate::table::SheetRow;
 use sededit::edit;
 use sedengine::{Ended, Engine, Progress};
 use sedspace::{Lines, MemoryOutputs, MemorySource, Outputs};
 
 /// What a run came to.
 #[derive(Drop)]
-pub(crate) struct Outcome {
+pub(crate) struct RunOutcome {
     pub end: Ended,
     pub devices: Devices,
     /// Whether the engine answers its end again, and calls no device.
@@ -32,7 +32,7 @@ pub(crate) struct Cycle {
 }
 
 /// Runs it by `edit`. An error tells why the row can't be run.
-pub(crate) fn run_edit(row: &Row, way: Way) -> Result<Outcome, Message> {
+pub(crate) fn run_edit(row: &SheetRow, way: Behaviour) -> Result<RunOutcome, Message> {
     let limits = limits_of(row.options(3), way.look)?;
     let script = script_of(row, &limits)?;
     let mut devices = devices_of(row, &script, way)?;
@@ -44,7 +44,7 @@ pub(crate) fn run_edit(row: &Row, way: Way) -> Result<Outcome, Message> {
     let Ok(end) = edit(row.alloc, script, limits, source, outputs, texts) else {
         return Err(NO_MEMORY);
     };
-    Ok(Outcome {
+    Ok(RunOutcome {
         end,
         devices,
         stays: true,
@@ -54,7 +54,7 @@ pub(crate) fn run_edit(row: &Row, way: Way) -> Result<Outcome, Message> {
 
 /// Runs it by an engine, which is made last: each way out that lets go of one is dear to prove. An error tells why the row
 /// can't be run.
-pub(crate) fn run_engine(row: &Row, way: Way) -> Result<Outcome, Message> {
+pub(crate) fn run_engine(row: &SheetRow, way: Behaviour) -> Result<RunOutcome, Message> {
     let limits = limits_of(row.options(3), way.look)?;
     let script = script_of(row, &limits)?;
     let Devices {
@@ -77,7 +77,7 @@ fn run_to_end(
     mut lines: Lines<MemorySource>,
     mut outputs: MemoryOutputs,
     mut texts: PiecedTexts,
-) -> Outcome
+) -> RunOutcome
     requires look { lines.read_ahead ≡ engine.limits.look }
     requires sinks { length engine.script.wfiles < length outputs.held }
 {
@@ -97,7 +97,7 @@ fn run_to_end(
     // by a call: at the end of its scope all its fields would be proved to be let go of
     engine.close();
     let source = lines.into_source();
-    Outcome {
+    RunOutcome {
         end,
         devices: Devices {
             source,

@@ -10,14 +10,14 @@
 //!   has to stay at its end and to call no device, though these work again.
 //! * A row of cycles tells what one cycle writes, takes from the input and holds.
 
-use crate::devices::Way;
+use crate::devices::Behaviour;
 use crate::faults::put_end;
 use crate::job::check_script;
 use crate::options::Options;
-use crate::report::{Message, Report};
-use crate::runner::{Outcome, run_edit, run_engine};
+use crate::report::{Message, Differences};
+use crate::runner::{RunOutcome, run_edit, run_engine};
 use crate::sheet::Sheet;
-use crate::table::Row;
+use crate::table::SheetRow;
 use sedengine::Ended;
 use sedspace::{MemoryOutputs, Outputs};
 
@@ -31,13 +31,13 @@ const LOOKS: [usize; 4] = [1, 2, 7, 65536];
 const MOST_CALLS: usize = 1000;
 
 /// Runs a row of runs, to the first difference.
-pub(crate) fn run(row: &Row, report: &mut Report) {
+pub(crate) fn run(row: &SheetRow, report: &mut Differences) {
     check_script(row, report);
-    let way = Way::of(row.options(3));
-    let piecemeal = Way { write: 1, ..way };
+    let way = Behaviour::of(row.options(3));
+    let piecemeal = Behaviour { write: 1, ..way };
     for read in READS {
-        run_looks(row, Way { read, ..way }, report);
-        run_looks(row, Way { read, ..piecemeal }, report);
+        run_looks(row, Behaviour { read, ..way }, report);
+        run_looks(row, Behaviour { read, ..piecemeal }, report);
     }
     if row.options(3).has(b"cuts") {
         run_cuts(row, way, report);
@@ -48,19 +48,19 @@ pub(crate) fn run(row: &Row, report: &mut Report) {
 }
 
 /// Runs it over the input cut at each two places.
-fn run_cuts(row: &Row, way: Way, report: &mut Report) {
+fn run_cuts(row: &SheetRow, way: Behaviour, report: &mut Differences) {
     for start in 0..row.field(1).len() {
         for end in start..row.field(1).len() {
             let cuts = (start, end);
-            run_looks(row, Way { cuts, ..way }, report);
+            run_looks(row, Behaviour { cuts, ..way }, report);
         }
     }
 }
 
 /// Runs it with each number of bytes ahead, to the first difference, where the row asks for it.
-fn run_looks(row: &Row, way: Way, report: &mut Report) {
+fn run_looks(row: &SheetRow, way: Behaviour, report: &mut Differences) {
     for look in LOOKS {
-        let way = Way { look, ..way };
+        let way = Behaviour { look, ..way };
         if report.is_empty() && is_asked(row.options(3), way) {
             compare(row, run_edit(row, way), false, report);
             way.note(report);
@@ -69,7 +69,7 @@ fn run_looks(row: &Row, way: Way, report: &mut Report) {
 }
 
 /// Whether a row is run so.
-fn is_asked(options: Options<'_>, way: Way) -> bool {
+fn is_asked(options: Options<'_>, way: Behaviour) -> bool {
     let is_whole = way.read == usize::MAX;
     let is_far = way.look == 65536;
     if options.has(b"fails") {
@@ -82,7 +82,7 @@ fn is_asked(options: Options<'_>, way: Way) -> bool {
 }
 
 /// Runs a row of failing, to the first difference.
-pub(crate) fn run_failing(row: &Row, report: &mut Report) {
+pub(crate) fn run_failing(row: &SheetRow, report: &mut Differences) {
     check_script(row, report);
     fail_device(row, None, report);
     for sink in 0..=row.options(3).files(b"w:") {
@@ -91,17 +91,17 @@ pub(crate) fn run_failing(row: &Row, report: &mut Report) {
 }
 
 /// Has each call of a device fail in turn, of this sink or else of the input, until a run meets no failure.
-fn fail_device(row: &Row, sink: Option<usize>, report: &mut Report) {
+fn fail_device(row: &SheetRow, sink: Option<usize>, report: &mut Differences) {
     for call in 1..MOST_CALLS {
         if !report.is_empty() {
             return;
         }
-        let way = Way {
+        let way = Behaviour {
             read: 1,
             failing_read: if sink.is_none() { call } else { 0 },
             failing_sink: sink.unwrap_or(0),
             failing_write: if sink.is_some() { call } else { 0 },
-            ..Way::of(row.options(3))
+            ..Behaviour::of(row.options(3))
         };
         let is_met = compare(row, run_engine(row, way), true, report);
         way.note(report);
@@ -114,7 +114,7 @@ fn fail_device(row: &Row, sink: Option<usize>, report: &mut Report) {
 
 /// Whether the run came to its end, and the sinks have what they should; or where a device may fail, whether it ended by the
 /// failure and wrote a beginning. Says whether that failure was met.
-fn compare(row: &Row, came: Result<Outcome, Message>, may_fail: bool, report: &mut Report) -> bool {
+fn compare(row: &SheetRow, came: Result<RunOutcome, Message>, may_fail: bool, report: &mut Differences) -> bool {
     let outcome = match came {
         Ok(outcome) => outcome,
         Err(message) => {
@@ -131,14 +131,14 @@ fn compare(row: &Row, came: Result<Outcome, Message>, may_fail: bool, report: &m
 }
 
 /// Whether the engine stayed at its end.
-fn compare_stays(outcome: &Outcome, report: &mut Report) {
+fn compare_stays(outcome: &RunOutcome, report: &mut Differences) {
     if !outcome.stays {
         report.tell("the engine goes on after its end");
     }
 }
 
 /// Whether each sink has what the row says, or a beginning of it where that is enough.
-fn compare_sinks(row: &Row, outputs: &MemoryOutputs, is_enough: bool, report: &mut Report) {
+fn compare_sinks(row: &SheetRow, outputs: &MemoryOutputs, is_enough: bool, report: &mut Differences) {
     for sink in 0..outputs.sinks() {
         let written = outputs.bytes(sink);
         let wanted = wanted_of(row, sink);
@@ -150,7 +150,7 @@ fn compare_sinks(row: &Row, outputs: &MemoryOutputs, is_enough: bool, report: &m
 }
 
 /// What a sink should have: the standard output, or else a file.
-fn wanted_of(row: &Row, sink: usize) -> &[u8] {
+fn wanted_of(row: &SheetRow, sink: usize) -> &[u8] {
     if sink == 0 {
         return row.field(2);
     }
@@ -161,7 +161,7 @@ fn wanted_of(row: &Row, sink: usize) -> &[u8] {
 }
 
 /// Whether the run ended by the device that failed, where one is given, and else as the row says.
-fn compare_end(row: &Row, end: Ended, failed: Option<Ended>, report: &mut Report) {
+fn compare_end(row: &SheetRow, end: Ended, failed: Option<Ended>, report: &mut Differences) {
     let mut came = Sheet::new(row.alloc);
     put_end(&mut came, end);
     let mut wanted = Sheet::new(row.alloc);
@@ -173,16 +173,16 @@ fn compare_end(row: &Row, end: Ended, failed: Option<Ended>, report: &mut Report
 }
 
 /// Runs a row of cycles.
-pub(crate) fn run_cycle(row: &Row, report: &mut Report) {
+pub(crate) fn run_cycle(row: &SheetRow, report: &mut Differences) {
     check_script(row, report);
-    match run_engine(row, Way::of(row.options(3))) {
+    match run_engine(row, Behaviour::of(row.options(3))) {
         Ok(outcome) => compare_cycle(row, &outcome, report),
         Err(message) => report.tell(message),
     }
 }
 
 /// Whether the cycle wrote what the row says, and the counts are those of the options.
-fn compare_cycle(row: &Row, outcome: &Outcome, report: &mut Report) {
+fn compare_cycle(row: &SheetRow, outcome: &RunOutcome, report: &mut Differences) {
     let cycle = outcome.cycle;
     if outcome.devices.outputs.sinks() > 0 {
         let bytes = outcome.devices.outputs.bytes(0);
@@ -198,7 +198,7 @@ fn compare_cycle(row: &Row, outcome: &Outcome, report: &mut Report) {
 }
 
 /// Whether a count is that of the options, where they have one.
-fn compare_count(row: &Row, name: &str, came: u128, report: &mut Report) {
+fn compare_count(row: &SheetRow, name: &str, came: u128, report: &mut Differences) {
     if let Some(wanted) = row.options(3).number(name.as_bytes()) {
         report.compare_numbers(name, came, wanted);
     }

@@ -1,7 +1,7 @@
 //! What the rows of a table are: the subject that the file `tables` names.
 
-use crate::report::Report;
-use crate::table::Row;
+use crate::report::Differences;
+use crate::table::SheetRow;
 use crate::{calls, expressions, job, matches, readings, refusals, runs};
 
 const OCCURRENCES: &str = "most=# least=# groups_most=# groups_least=#";
@@ -18,7 +18,7 @@ const CALLS: &str =
     "errors=* errors_begin=* output_begins=* f:* w:* space=# queue=# turns=# nodes=+ output=# fails=# room=# refuses=# write=#";
 
 /// The rules of `shape` for the fields of such a row, and for its options. None where there is no such subject.
-pub(crate) fn shape_of(subject: &str, row: &Row) -> Option<(&'static str, &'static str)> {
+pub(crate) fn shape_of(subject: &str, row: &SheetRow) -> Option<(&'static str, &'static str)> {
     match subject {
         "expressions" => Some(("basic|extended * * #", "delimiter=/ nodes=+")),
         "lists" => Some(("* # is|not *", "delimiter=/")),
@@ -37,7 +37,7 @@ pub(crate) fn shape_of(subject: &str, row: &Row) -> Option<(&'static str, &'stat
 }
 
 /// Runs a row.
-pub(crate) fn run(subject: &str, row: &Row, report: &mut Report) {
+pub(crate) fn run(subject: &str, row: &SheetRow, report: &mut Differences) {
     match subject {
         "expressions" => expressions::run(row, report),
         "lists" => expressions::run_list(row, report),

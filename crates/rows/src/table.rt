@@ -12,7 +12,7 @@ use std::alloc::Global;
 
 /// A row of a table.
 #[derive(Drop)]
-pub(crate) struct Row {
+pub(crate) struct SheetRow {
     /// Its line in the file, counted from 1.
     pub line: usize,
     /// Where its run takes memory from.
@@ -20,7 +20,7 @@ pub(crate) struct Row {
     fields: Vec<Vec<u8>>,
 }
 
-impl Row {
+impl SheetRow {
     /// Whether its fields and options keep to the rules. What follows tells of a field that doesn't, or is missing, that
     /// it is empty or 0.
     pub(crate) fn keeps(&self, rules: &str, options: &str) -> bool {
@@ -49,14 +49,14 @@ impl Row {
 }
 
 /// The rows of a table's text.
-pub(crate) fn rows_of(alloc: Global, text: &str) -> Result<Vec<Row>> {
+pub(crate) fn rows_of(alloc: Global, text: &str) -> Result<Vec<SheetRow>> {
     let mut rows = Vec::new(alloc);
     let mut line = 0usize;
     for content in text.lines() {
         line = line.saturating_add(1);
         if !content.is_empty() && content != "#" && !content.starts_with("# ") {
             let fields = fields_of(alloc, content).context(format_args!("line {line}"))?;
-            rows.push(Row {
+            rows.push(SheetRow {
                 line,
                 alloc,
                 fields,

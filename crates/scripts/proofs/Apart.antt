@@ -16,7 +16,7 @@ use Rattle.sedscript.specs.declared.substitution.Substitution.{Substitution}
 use Rattle.sedengine.specs.State.{Entry, text_entry, file_entry, Task, begin, rebegin, do_at, print_pattern, empty_pattern, flush, copy, fetch, join, State, Move, Setting}
 use Rattle.sedengine.specs.Substitute.{Occurrence}
 use Rattle.sedengine.specs.Select.{Selection, selects, stands_for}
-use Rattle.sedengine.specs.Move.{acts, after, begins, copies, first_task, flushes, next_move, passes, reach, replaces, substitutes, start, written, quietly}
+use Rattle.sedengine.specs.Move.{acts, after, begun_cycle, copies_byte, first_task, flushes, next_move, goes_past, reach, replaces, substitutes, start, written, quietly}
 use Rattle.sedengine.proofs.Moves.{move_at, written_none}
 use Rattle.examples.proofs.ComputedRun.{after_first as after_next, written_first as written_next, stays_still}
 use Rattle.examples.proofs.ComputedEnds.{both}
@@ -130,7 +130,7 @@ module _ (more ls : List (List ℕ)) (n n' : ℕ) (h h' : List ℕ) (q : List En
   acts_both g tells p r u u' (action.Plain simple.Hold) h = absurd cc
   acts_both g tells p r u u' (action.Plain simple.HoldMore) h = absurd cc
 
-  passes_both : (p : List ℕ) (r : Bool) (u u' : Option ℕ) (a : Action) → Both more (passes (here p r u) a) (passes (there p r u') a)
+  passes_both : (p : List ℕ) (r : Bool) (u u' : Option ℕ) (a : Action) → Both more (goes_past (here p r u) a) (goes_past (there p r u') a)
   passes_both p r u u' (action.Block next) = (refl, record { lines = refl; queue = refl; tasks = refl; clean = refl; same = (refl, refl) })
   passes_both p r u u' other = goes_same [] p r u u'
 
@@ -195,7 +195,7 @@ module _ (g : Setting) (more ls : List (List ℕ)) (n n' : ℕ) (p h h' : List �
   flushes_both rest c ts (text_entry bytes ∷ q') = (refl, record { lines = refl; queue = refl; tasks = refl; clean = c; same = (refl, refl) })
   flushes_both rest c ts (file_entry k ∷ q') = (refl, record { lines = refl; queue = refl; tasks = refl; clean = c; same = (refl, refl) })
 
-  copies_both : (rest : List Task) → Clean rest q → (ts : List Task) (k o : ℕ) (b : Option ℕ) → Both more (copies (one ts) rest k o b) (copies (other ts) rest k o b)
+  copies_both : (rest : List Task) → Clean rest q → (ts : List Task) (k o : ℕ) (b : Option ℕ) → Both more (copies_byte (one ts) rest k o b) (copies_byte (other ts) rest k o b)
   copies_both rest c ts k o None = (refl, record { lines = refl; queue = refl; tasks = refl; clean = c; same = same_text rest _ _ refl refl })
   copies_both rest c ts k o (Some b) = (refl, record { lines = refl; queue = refl; tasks = refl; clean = c; same = (refl, refl) })
 
@@ -224,7 +224,7 @@ alone_at g (c ∷ cs) h (suc k) = alone_at g cs (both (looks_at_line g.substitut
 ends_at : (g : Setting) (s : State) → s.tasks ≡ begin ∷ [] → s.lines ≡ [] → IsOutput g s []
 unfolding after written
 ends_at g s e none =
-    let ends = move_at g s (begin ∷ []) e ∙ ap (begins s) none in
+    let ends = move_at g s (begin ∷ []) e ∙ ap (begun_cycle s) none in
     record { moves = 1; ended = ap (λ o. (next_or_stay s o).tasks) ends; wrote = ap writes_of ends }
 
 -- the state begins a cycle, and no line is left; or both move
@@ -247,10 +247,10 @@ module _ (g : Setting) (alone : AllAlone g) (more : List (List ℕ)) where
   begins_both : (ls : List (List ℕ)) (s t : State) → s.lines ≡ ls → Alike more s t → s.tasks ≡ begin ∷ [] → Steps more g s t
   begins_both [] s t e a b = inl (b, e)
   begins_both (line ∷ rest) s t e a b =
-      let here : next_move g s ≡ begins s (line ∷ rest) = move_at g s (begin ∷ []) b ∙ ap (begins s) e in
-      let there : next_move g t ≡ begins t (line ∷ rest ++ more) = move_at g t (begin ∷ []) (a.tasks ∙ b) ∙ ap (begins t) (a.lines ∙ ap (λ ls. ls ++ more) e) in
-      let both : Both more (begins s (line ∷ rest)) (begins t (line ∷ rest ++ more)) = (refl, record { lines = refl; queue = a.queue; tasks = refl; clean = refl; same = (refl, refl) }) in
-      inr (subst (λ x. Both more x (next_move g t)) (sym here) (subst (λ y. Both more (begins s (line ∷ rest)) y) (sym there) both))
+      let here : next_move g s ≡ begun_cycle s (line ∷ rest) = move_at g s (begin ∷ []) b ∙ ap (begun_cycle s) e in
+      let there : next_move g t ≡ begun_cycle t (line ∷ rest ++ more) = move_at g t (begin ∷ []) (a.tasks ∙ b) ∙ ap (begun_cycle t) (a.lines ∙ ap (λ ls. ls ++ more) e) in
+      let both : Both more (begun_cycle s (line ∷ rest)) (begun_cycle t (line ∷ rest ++ more)) = (refl, record { lines = refl; queue = a.queue; tasks = refl; clean = refl; same = (refl, refl) }) in
+      inr (subst (λ x. Both more x (next_move g t)) (sym here) (subst (λ y. Both more (begun_cycle s (line ∷ rest)) y) (sym there) both))
 
   goes_both : (s t : State) → Alike more s t → (task : Task) (rest : List Task) → s.tasks ≡ task ∷ rest → GoesOn task → Both more (next_move g s) (next_move g t)
   unfolding next_move
@@ -276,7 +276,7 @@ module _ (g : Setting) (alone : AllAlone g) (more : List (List ℕ)) where
   unfolding written
   nothing_more s zero e none = refl
   nothing_more s (suc n) e none =
-      let ends = move_at g s (begin ∷ []) e ∙ ap (begins s) none in
+      let ends = move_at g s (begin ∷ []) e ∙ ap (begun_cycle s) none in
       written_next g s _ n ends ∙ stays_still g (record s { tasks = [] }) n (move_at g (record s { tasks = [] }) [] refl)
 
   not_ended : (s t : State) → Alike more s t → s.tasks ≡ [] → ⊥

@@ -3,7 +3,7 @@ use Rattle.std.proofs.Common.{◌≡◌, inl, inr, ℕ, ◌<◌, Bool, true, fal
 use Rattle.std.specs.List.{slice_split, onto_first}
 use Rattle.std.proofs.lemmas.List.Splits.{slice_split-cons_yes, slice_split-cons_no, length-slice_split}
 use Rattle.sedscript.specs.Program.{Program}
-use Rattle.sedspace.specs.Lines.{lines, is_newline, without_empty_last}
+use Rattle.sedspace.specs.Lines.{split_lines, is_newline, without_empty_last}
 use Rattle.sedspace.specs.Stream.{AreWholeLines}
 use Rattle.sedspace.proofs.LineLemmas.{lines_nil, lines_none}
 use Rattle.sedengine.specs.Move.{start}
@@ -26,14 +26,14 @@ onto_kept x ([] ∷ (z ∷ zs)) h = refl
 onto_kept x ((b ∷ bs) ∷ (z ∷ zs)) h = refl
 
 -- a first byte that is a newline, and another one
-pub lines_yes : (x : ℕ) (xs : List ℕ) → is_newline x ≡ true → lines (x ∷ xs) ≡ [] ∷ lines xs
-unfolding lines
+pub lines_yes : (x : ℕ) (xs : List ℕ) → is_newline x ≡ true → split_lines (x ∷ xs) ≡ [] ∷ split_lines xs
+unfolding split_lines
 lines_yes x xs h =
     let pieces : 0 < length (slice_split is_newline xs) = omega (arith, length-slice_split is_newline xs) in
     ap without_empty_last (slice_split-cons_yes is_newline x xs h) ∙ first_kept [] (slice_split is_newline xs) pieces
 
-pub lines_no : (x : ℕ) (xs : List ℕ) → is_newline x ≡ false → lines (x ∷ xs) ≡ onto_first x (lines xs)
-unfolding lines
+pub lines_no : (x : ℕ) (xs : List ℕ) → is_newline x ≡ false → split_lines (x ∷ xs) ≡ onto_first x (split_lines xs)
+unfolding split_lines
 lines_no x xs h =
     let pieces : 0 < length (slice_split is_newline xs) = omega (arith, length-slice_split is_newline xs) in
     ap without_empty_last (slice_split-cons_no is_newline x xs h) ∙ onto_kept x (slice_split is_newline xs) pieces
@@ -42,8 +42,8 @@ some_of : (ys : List (List ℕ)) → (ys ≡ [] → ⊥) → 0 < length ys
 some_of [] h = absurd (h refl)
 some_of (y ∷ ys) h = omega arith
 
-some_lines : (p bs : List ℕ) → 0 < length (lines (p ++ 10 ∷ bs))
-some_lines p bs = some_of (lines (p ++ 10 ∷ bs)) (λ none. not_empty p (lines_none (p ++ 10 ∷ bs) none))
+some_lines : (p bs : List ℕ) → 0 < length (split_lines (p ++ 10 ∷ bs))
+some_lines p bs = some_of (split_lines (p ++ 10 ∷ bs)) (λ none. not_empty p (lines_none (p ++ 10 ∷ bs) none))
   where
     not_empty : (p : List ℕ) → p ++ 10 ∷ bs ≡ [] → ⊥
     not_empty [] h = cc
@@ -54,22 +54,22 @@ onto-append x [] zs h = absurd (omega arith)
 onto-append x (y ∷ ys) zs h = refl
 
 -- the lines of bytes behind a newline are those behind it
-lines_behind : (front behind : List ℕ) → lines (front ++ 10 ∷ behind) ≡ lines (front ++ 10 ∷ []) ++ lines behind
-lines_behind [] behind = lines_yes 10 behind refl ∙ sym (ap (λ ls. ls ++ lines behind) (lines_yes 10 [] refl ∙ ap (λ ls. [] ∷ ls) lines_nil))
+lines_behind : (front behind : List ℕ) → split_lines (front ++ 10 ∷ behind) ≡ split_lines (front ++ 10 ∷ []) ++ split_lines behind
+lines_behind [] behind = lines_yes 10 behind refl ∙ sym (ap (λ ls. ls ++ split_lines behind) (lines_yes 10 [] refl ∙ ap (λ ls. [] ∷ ls) lines_nil))
 lines_behind (x ∷ front) behind = by_test (is_newline x) refl (lines_behind front behind)
   where
-    by_test : (t : Bool) → is_newline x ≡ t → lines (front ++ 10 ∷ behind) ≡ lines (front ++ 10 ∷ []) ++ lines behind →
-        lines (x ∷ front ++ 10 ∷ behind) ≡ lines (x ∷ front ++ 10 ∷ []) ++ lines behind
-    by_test true e rest = lines_yes x (front ++ 10 ∷ behind) e ∙ ap (λ ls. [] ∷ ls) rest ∙ sym (ap (λ ls. ls ++ lines behind) (lines_yes x (front ++ 10 ∷ []) e))
+    by_test : (t : Bool) → is_newline x ≡ t → split_lines (front ++ 10 ∷ behind) ≡ split_lines (front ++ 10 ∷ []) ++ split_lines behind →
+        split_lines (x ∷ front ++ 10 ∷ behind) ≡ split_lines (x ∷ front ++ 10 ∷ []) ++ split_lines behind
+    by_test true e rest = lines_yes x (front ++ 10 ∷ behind) e ∙ ap (λ ls. [] ∷ ls) rest ∙ sym (ap (λ ls. ls ++ split_lines behind) (lines_yes x (front ++ 10 ∷ []) e))
     by_test false e rest =
-        lines_no x (front ++ 10 ∷ behind) e ∙ ap (onto_first x) rest ∙ onto-append x (lines (front ++ 10 ∷ [])) (lines behind) (some_lines front [])
-        ∙ sym (ap (λ ls. ls ++ lines behind) (lines_no x (front ++ 10 ∷ []) e))
+        lines_no x (front ++ 10 ∷ behind) e ∙ ap (onto_first x) rest ∙ onto-append x (split_lines (front ++ 10 ∷ [])) (split_lines behind) (some_lines front [])
+        ∙ sym (ap (λ ls. ls ++ split_lines behind) (lines_no x (front ++ 10 ∷ []) e))
 
-pub lines_apart : (a b : List ℕ) → AreWholeLines a → lines (a ++ b) ≡ lines a ++ lines b
-lines_apart a b (inl e) = rw e (sym (ap (λ ls. ls ++ lines b) lines_nil))
-lines_apart a b (inr h) = rw h.1 (ap lines (append_assoc h.0 (10 ∷ []) b) ∙ lines_behind h.0 b)
+pub lines_apart : (a b : List ℕ) → AreWholeLines a → split_lines (a ++ b) ≡ split_lines a ++ split_lines b
+lines_apart a b (inl e) = rw e (sym (ap (λ ls. ls ++ split_lines b) lines_nil))
+lines_apart a b (inr h) = rw h.1 (ap split_lines (append_assoc h.0 (10 ∷ []) b) ∙ lines_behind h.0 b)
 
 pub apart_law : (p : Program) (files : ℕ → List ℕ) (a b : List ℕ) (x y : List (ℕ × ℕ)) → EachLooksAtLine p → AreWholeLines a → RunsTo p files a x → RunsTo p files b y → RunsTo p files (a ++ b) (x ++ y)
 apart_law p files a b x y alone ends first second =
     subst (λ ls. IsOutput (setting_of p files) (start p.commands ls) (x ++ y)) (sym (lines_apart a b ends))
-    (one_after_other (setting_of p files) alone p.commands (lines a) (lines b) x y first second)
+    (one_after_other (setting_of p files) alone p.commands (split_lines a) (split_lines b) x y first second)

@@ -9,7 +9,7 @@ use Rattle.sedscript.specs.declared.substitution.Substitution.{Substitution}
 use Rattle.sedengine.specs.State.{State, Move, Setting}
 use Rattle.sedengine.specs.Substitute.{Occurrence, replaced_from}
 use Rattle.sedengine.specs.Select.{Selection, selects, stands_for}
-use Rattle.sedengine.specs.Move.{acts, in_table, none_left, writes_text_at, next_move, passes, reach, replaces, substitutes, writing}
+use Rattle.sedengine.specs.Move.{acts, in_table, none_left, writes_text_at, next_move, goes_past, reach, replaces, substitutes, writing}
 use Rattle.sedengine.specs.Choose.{performs}
 use Rattle.scripts.proofs.Cycles.{Goes, goes_one, between, within, deleted}
 use Rattle.sedengine.specs.SubstituteCalls.{to_replace_in}
@@ -138,7 +138,7 @@ module _ (g : Setting) (ls : List (List ℕ)) (n : ℕ) (h : List ℕ) (k : ℕ)
         (refl, subst (λ (v : List ℕ). Within n ls ra (k + 1) v (here (map (in_table (slice_get g.tables i)) w) r u)) (is w) (record { hold = h; replaced = r; used = u; turns = tu; is = refl }))
     acts_so tells a edit w r u is = absurd is
 
-    passes_so : (a : Action) (edit : Edit) (w : List ℕ) (r : Bool) (u : Option ℕ) → Makes g a edit → Does n ls ra (effect false edit k w) (passes (here w r u) a)
+    passes_so : (a : Action) (edit : Edit) (w : List ℕ) (r : Bool) (u : Option ℕ) → Makes g a edit → Does n ls ra (effect false edit k w) (goes_past (here w r u) a)
     passes_so (action.Block i) (block m) w r u is = (refl, record { hold = h; replaced = r; used = u; turns = tu; is = ap (λ j. within ls n w h r ra u j tu) is })
     passes_so (action.Plain simple.Delete) delete w r u is = (refl, record { hold = h; replaced = r; used = u; turns = tu; is = refl })
     passes_so (action.Substitute i) (change f) w r u is = (refl, record { hold = h; replaced = r; used = u; turns = tu; is = refl })

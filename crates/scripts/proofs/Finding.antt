@@ -8,7 +8,7 @@ use Rattle.sedscript.specs.declared.types.Address.TheVariants.{Match}
 use Rattle.sedscript.specs.declared.substitution.Piece.{Piece}
 use Rattle.sedscript.specs.declared.substitution.Substitution.{Substitution}
 use Rattle.sedengine.specs.State.{State, Setting}
-use Rattle.sedengine.specs.Substitute.{Occurrence, occurrences, replaced_from, to_replace}
+use Rattle.sedengine.specs.Substitute.{Occurrence, each_occurrence, replaced_from, to_replace}
 use Rattle.sedengine.specs.Select.{selects}
 use Rattle.sedengine.specs.Move.{next_move, after, written, to_sink, line_to, in_table}
 use Rattle.sededit.specs.Editing.{IsOutput}
@@ -111,14 +111,14 @@ module _ (finds : ℕ → List ℕ → Bool) (search : ℕ → List ℕ → ℕ 
 
   -- a line with what is replaced in it
   abbrev pub with_replaced : ℕ → Bool → List Piece → List ℕ → List ℕ
-  with_replaced n global pieces line = replaced_from line pieces 0 (to_replace n global (occurrences (search 0 line) (length line)))
+  with_replaced n global pieces line = replaced_from line pieces 0 (to_replace n global (each_occurrence (search 0 line) (length line)))
 
   abbrev any_replaced : List Occurrence → Bool
   any_replaced [] = false
   any_replaced (m ∷ ms) = true
 
   replaces_here : (n : ℕ) (global : Bool) (pieces : List Piece) (number : ℕ) (line : List ℕ) (rest : List (List ℕ)) (used : Option ℕ) (turns : ℕ) (ms : List Occurrence) →
-      to_replace n global (occurrences (search 0 line) (length line)) ≡ ms →
+      to_replace n global (each_occurrence (search 0 line) (length line)) ≡ ms →
       Goes (replaces_by n global pieces) (within rest number line [] false (false ∷ []) used 0 turns)
       (within rest number (replaced_from line pieces 0 ms) [] (any_replaced ms) (false ∷ []) (Some 0) 1 (turns + 1)) []
   unfolding next_move selects
@@ -126,7 +126,7 @@ module _ (finds : ℕ → List ℕ → Bool) (search : ℕ → List ℕ → ℕ 
   replaces_here n global pieces number line rest used turns (m ∷ ms) e = goes_one (rw e refl)
 
   replaces_cycle : (n : ℕ) (global : Bool) (pieces : List Piece) (number : ℕ) (line : List ℕ) (rest : List (List ℕ)) (x : Bool × Option ℕ × ℕ) (ms : List Occurrence) →
-      to_replace n global (occurrences (search 0 line) (length line)) ≡ ms →
+      to_replace n global (each_occurrence (search 0 line) (length line)) ≡ ms →
       Goes (replaces_by n global pieces) (seen_at (line ∷ rest) number x) (seen_at rest (number + 1) (any_replaced ms, Some 0, x.2 + 1 + 1)) (line_to 0 (replaced_from line pieces 0 ms))
   replaces_cycle n global pieces number line rest x ms e =
       goes_on (begins_line (replaces_by n global pieces) line rest number [] x.0 (false ∷ []) x.1 x.2) (goes_on (replaces_here n global pieces (number + 1) line rest x.1 (x.2 + 1) ms e)
@@ -136,7 +136,7 @@ module _ (finds : ℕ → List ℕ → Bool) (search : ℕ → List ℕ → ℕ 
       IsOutput (replaces_by n global pieces) (seen_at lines number x) (to_sink 0 (text_of (map (with_replaced n global pieces) lines)))
   replaces_run n global pieces = each_line (replaces_by n global pieces) seen_at (λ i ls. map (with_replaced n global pieces) ls) (λ i line rest. with_replaced n global pieces line ∷ []) (λ i. refl) (λ i line rest. refl)
       (λ i x. ends_there (replaces_by n global pieces) i [] x.0 (false ∷ []) x.1 x.2)
-      (λ i line rest x. let ms = to_replace n global (occurrences (search 0 line) (length line)) in ((any_replaced ms, Some 0, x.2 + 1 + 1), replaces_cycle n global pieces i line rest x ms refl))
+      (λ i line rest x. let ms = to_replace n global (each_occurrence (search 0 line) (length line)) in ((any_replaced ms, Some 0, x.2 + 1 + 1), replaces_cycle n global pieces i line rest x ms refl))
 
   -- ---- `y`
 

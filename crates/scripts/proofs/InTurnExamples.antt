@@ -3,7 +3,7 @@
 use Rattle.std.proofs.Common.{◌≡◌, ℕ, zero, suc, [], ◌∷◌, true, false, Some, refl}
 use Rattle.std.specs.Prelude.{codes, slice_get}
 use Rattle.sedre.specs.Brackets.{delimiter_at, list_at, list_end}
-use Rattle.sedre.specs.Items.{front_interval, item_at as expression_item_at}
+use Rattle.sedre.specs.Tokens.{front_interval, token_at}
 use Rattle.sedre.specs.Sets.{only, set_of}
 use Rattle.sedre.specs.Tree.{Tree, set, tree_at, tree_within}
 use Rattle.sedre.specs.declared.types.Kind.TheVariants.{Basic}
@@ -21,8 +21,8 @@ use Rattle.sedscript.specs.Script.{Means}
 use Rattle.sedscript.specs.FirstFault.{Faulty}
 use Rattle.sedscript.specs.Program.{Program}
 use Rattle.sedscript.specs.Strings.{table_of}
-use Rattle.sedmatch.specs.Matching.{any, groups_after, copies, cut, first_copy, leftmost_longest, found_from, greatest, last_start, longest, report, spans}
-use Rattle.sedspace.specs.Lines.{is_newline, lines}
+use Rattle.sedmatch.specs.Matching.{any, groups_after, copies, greatest_cut, first_copy, leftmost_longest, found_from, greatest, last_start, longest, reported_groups, spans}
+use Rattle.sedspace.specs.Lines.{is_newline, split_lines}
 use Rattle.sedengine.specs.Move.{in_table, next_move}
 use Rattle.sedengine.specs.Select.{selects}
 use Rattle.sedengine.specs.Substitute.{occurrences_from}
@@ -55,15 +55,15 @@ second = record (of_commands (always (action.Substitute 0) ∷ always (action.Tr
 }
 
 first_means : Means (codes "/x/d\ns/a/b/") Basic 65536 first
-unfolding verdict cutting walked item_at past function_at addresses_at address_at second_at text_from name_from match_at substitute_at substituted delimiter_at outcome rest_of expression_item_at front_interval set_of
+unfolding verdict cutting walked item_at past function_at addresses_at address_at second_at text_from name_from match_at substitute_at substituted delimiter_at outcome rest_of token_at front_interval set_of
 first_means = meant _ _ refl
 
 second_means : Means (codes "s/c/d/\ny/e/f/") Basic 65536 second
-unfolding verdict cutting walked item_at past function_at addresses_at address_at second_at text_from name_from match_at substitute_at substituted transliterate_at delimiter_at outcome rest_of expression_item_at front_interval set_of
+unfolding verdict cutting walked item_at past function_at addresses_at address_at second_at text_from name_from match_at substitute_at substituted transliterate_at delimiter_at outcome rest_of token_at front_interval set_of
 second_means = meant _ _ refl
 
 both_means : Means (codes "/x/d\ns/a/b/\ns/c/d/\ny/e/f/") Basic 65536 (in_turn first second)
-unfolding verdict cutting walked item_at past function_at addresses_at address_at second_at text_from name_from match_at substitute_at substituted transliterate_at delimiter_at outcome rest_of expression_item_at front_interval set_of
+unfolding verdict cutting walked item_at past function_at addresses_at address_at second_at text_from name_from match_at substitute_at substituted transliterate_at delimiter_at outcome rest_of token_at front_interval set_of
 both_means = meant _ _ refl
 
 -- the law is about this pair
@@ -95,37 +95,37 @@ pair = record {
 -- ---- a number, and `$`, in the second script
 
 first_number : Writes (codes "1d") (codes "a\nb\n") (codes "b\n")
-unfolding verdict cutting walked item_at past function_at addresses_at address_at second_at text_from name_from lines course next_move selects
+unfolding verdict cutting walked item_at past function_at addresses_at address_at second_at text_from name_from split_lines course next_move selects
 first_number = is_script (ends_after 60 refl refl)
 
 second_number : Writes (codes "1d") (codes "b\n") (codes "")
-unfolding verdict cutting walked item_at past function_at addresses_at address_at second_at text_from name_from lines course next_move selects
+unfolding verdict cutting walked item_at past function_at addresses_at address_at second_at text_from name_from split_lines course next_move selects
 second_number = is_script (ends_after 60 refl refl)
 
 both_numbers : Writes (codes "1d\n1d") (codes "a\nb\n") (codes "b\n")
-unfolding verdict cutting walked item_at past function_at addresses_at address_at second_at text_from name_from lines course next_move selects
+unfolding verdict cutting walked item_at past function_at addresses_at address_at second_at text_from name_from split_lines course next_move selects
 both_numbers = is_script (ends_after 60 refl refl)
 
 second_last : Writes (codes "$d") (codes "a\n") (codes "")
-unfolding verdict cutting walked item_at past function_at addresses_at address_at second_at text_from name_from lines course next_move selects
+unfolding verdict cutting walked item_at past function_at addresses_at address_at second_at text_from name_from split_lines course next_move selects
 second_last = is_script (ends_after 60 refl refl)
 
 both_last : Writes (codes "$d\n$d") (codes "a\nb\n") (codes "a\n")
-unfolding verdict cutting walked item_at past function_at addresses_at address_at second_at text_from name_from lines course next_move selects
+unfolding verdict cutting walked item_at past function_at addresses_at address_at second_at text_from name_from split_lines course next_move selects
 both_last = is_script (ends_after 60 refl refl)
 
 -- ---- an empty expression in the second script, and a newline that the first one makes
 
 both_empty : Writes (codes "s/b/c/\n//d") (codes "a\nb\n") (codes "a\nc\n")
-unfolding verdict cutting walked item_at past function_at addresses_at address_at second_at text_from name_from lines course next_move selects match_at substitute_at substituted delimiter_at outcome rest_of expression_item_at front_interval set_of tree_at tree_within list_at list_end leftmost_longest found_from longest greatest spans any copies report groups_after cut first_copy last_start occurrences_from
+unfolding verdict cutting walked item_at past function_at addresses_at address_at second_at text_from name_from split_lines course next_move selects match_at substitute_at substituted delimiter_at outcome rest_of token_at front_interval set_of tree_at tree_within list_at list_end leftmost_longest found_from longest greatest spans any copies reported_groups groups_after greatest_cut first_copy last_start occurrences_from
 both_empty = is_script (ends_after 100 refl refl)
 
 second_broken : Writes (codes "s/^y/z/") (codes "x\ny\nb\n") (codes "x\nz\nb\n")
-unfolding verdict cutting walked item_at past function_at addresses_at address_at second_at text_from name_from lines course next_move selects match_at substitute_at substituted delimiter_at outcome rest_of expression_item_at front_interval set_of tree_at tree_within list_at list_end leftmost_longest found_from longest greatest spans any copies report groups_after cut first_copy last_start occurrences_from
+unfolding verdict cutting walked item_at past function_at addresses_at address_at second_at text_from name_from split_lines course next_move selects match_at substitute_at substituted delimiter_at outcome rest_of token_at front_interval set_of tree_at tree_within list_at list_end leftmost_longest found_from longest greatest spans any copies reported_groups groups_after greatest_cut first_copy last_start occurrences_from
 second_broken = is_script (ends_after 100 refl refl)
 
 both_broken : Writes (codes "s/a/x\\ny/\ns/^y/z/") (codes "a\nb\n") (codes "x\ny\nb\n")
-unfolding verdict cutting walked item_at past function_at addresses_at address_at second_at text_from name_from lines course next_move selects match_at substitute_at substituted delimiter_at outcome rest_of expression_item_at front_interval set_of tree_at tree_within list_at list_end leftmost_longest found_from longest greatest spans any copies report groups_after cut first_copy last_start occurrences_from
+unfolding verdict cutting walked item_at past function_at addresses_at address_at second_at text_from name_from split_lines course next_move selects match_at substitute_at substituted delimiter_at outcome rest_of token_at front_interval set_of tree_at tree_within list_at list_end leftmost_longest found_from longest greatest spans any copies reported_groups groups_after greatest_cut first_copy last_start occurrences_from
 both_broken = is_script (ends_after 100 refl refl)
 
 -- ---- a name that is a label in both, and `#n`, which is a comment where it stands in a later line
@@ -135,11 +135,11 @@ unfolding verdict cutting walked item_at past function_at addresses_at address_a
 both_labels = has_fault refl
 
 second_quiet : Writes (codes "#n") (codes "b\nb\n") (codes "")
-unfolding verdict cutting walked item_at past function_at addresses_at address_at second_at text_from name_from lines course next_move selects
+unfolding verdict cutting walked item_at past function_at addresses_at address_at second_at text_from name_from split_lines course next_move selects
 second_quiet = is_script (ends_after 60 refl refl)
 
 both_quiet : Writes (codes "y/a/b/\n#n") (codes "a\nb\n") (codes "b\nb\n")
-unfolding verdict cutting walked item_at past function_at addresses_at address_at second_at text_from name_from lines course next_move selects transliterate_at table_of
+unfolding verdict cutting walked item_at past function_at addresses_at address_at second_at text_from name_from split_lines course next_move selects transliterate_at table_of
 both_quiet = is_script (ends_after 60 refl refl)
 
 -- ---- a file that both write: it has one number
@@ -151,9 +151,9 @@ both_files = meant _ _ refl
 -- ---- a branch to the end, and what the first one writes by itself
 
 both_branch : Writes (codes "b\nd") (codes "a\nb\n") (codes "a\nb\n")
-unfolding verdict cutting walked item_at past function_at addresses_at address_at second_at text_from name_from lines course next_move selects
+unfolding verdict cutting walked item_at past function_at addresses_at address_at second_at text_from name_from split_lines course next_move selects
 both_branch = is_script (ends_after 60 refl refl)
 
 both_print : Writes (codes "p\nd") (codes "a\nb\n") (codes "a\nb\n")
-unfolding verdict cutting walked item_at past function_at addresses_at address_at second_at text_from name_from lines course next_move selects
+unfolding verdict cutting walked item_at past function_at addresses_at address_at second_at text_from name_from split_lines course next_move selects
 both_print = is_script (ends_after 60 refl refl)

@@ -17,11 +17,11 @@ use Rattle.sedscript.specs.declared.items.Argument.TheVariants.{FlaggedPair}
 use Rattle.sedscript.specs.declared.letters.Verb.{Verb}
 use Rattle.sedscript.specs.declared.letters.Verb.TheVariants.{Open, Close, Label, Branch, File, Substitute}
 use Rattle.sedscript.specs.Bytes.{bytes_between, fault_if}
-use Rattle.sedscript.specs.Script.{written_in, counted, commands_in, is_label, label_in, branch_in, depth_after, close_in, number_in, target_fault_at, target_fault_in, substitution_in, substitutions_of, action_of, command_of, commands_of}
+use Rattle.sedscript.specs.Script.{written_in, count_with, commands_in, is_label, label_in, branch_in, depth_after, close_in, number_in, target_fault_at, target_fault_in, substitution_in, substitutions_of, action_of, command_of, commands_of}
 use Rattle.sedscript.specs.Letters.{becomes_command, is_close}
 use Rattle.sedscript.specs.Program.{Program}
 use Rattle.examples.proofs.ComputedEnds.{both}
-use Rattle.scripts.specs.InTurn.{edits, is_own, replaces_only}
+use Rattle.scripts.specs.InTurn.{edits_line, is_own, replaces_only}
 use Rattle.sedscript.proofs.Labels.{counted_in}
 use Rattle.sedscript.proofs.Places.{Follows}
 use Rattle.scripts.proofs.Truth.{neither}
@@ -51,10 +51,10 @@ is_right false reason place e = refl
 
 close_any : (depth n m : ℕ) (is : List Item) → is_none (close_in depth n is) ≡ is_none (close_in depth m is)
 close_any depth n m [] = refl
-close_any depth n m (i ∷ is) = by_test (is_close i.verb && depth == 0) (close_any (depth_after depth i.verb) (counted n i) (counted m i) is)
+close_any depth n m (i ∷ is) = by_test (is_close i.verb && depth == 0) (close_any (depth_after depth i.verb) (count_with n i) (count_with m i) is)
   where
-    by_test : (t : Bool) → is_none (close_in (depth_after depth i.verb) (counted n i) is) ≡ is_none (close_in (depth_after depth i.verb) (counted m i) is) →
-        is_none (if t then Some n else close_in (depth_after depth i.verb) (counted n i) is) ≡ is_none (if t then Some m else close_in (depth_after depth i.verb) (counted m i) is)
+    by_test : (t : Bool) → is_none (close_in (depth_after depth i.verb) (count_with n i) is) ≡ is_none (close_in (depth_after depth i.verb) (count_with m i) is) →
+        is_none (if t then Some n else close_in (depth_after depth i.verb) (count_with n i) is) ≡ is_none (if t then Some m else close_in (depth_after depth i.verb) (count_with m i) is)
     by_test true h = refl
     by_test false h = h
 
@@ -79,7 +79,7 @@ more_than_none k = grind (arith, nat_tests)
 -- a text leaves no more blocks open than were, and where it closes one of these, one less
 depths : (is : List Item) → AllClose is → ((d : ℕ) → depth_over d is ≤ d) × ((d k n : ℕ) → is_none (close_in k n is) ≡ false → depth_over (suc (k + d)) is ≤ d)
 depths [] h = (λ d. omega arith, λ d k n e. absurd cc)
-depths (i ∷ is) h = let rest = depths is h.1 in (λ d. open_low i.verb d h.0 rest.0 rest.1, λ d k n e. close_low i.verb d k n (counted n i) h.0 e rest.0 rest.1)
+depths (i ∷ is) h = let rest = depths is h.1 in (λ d. open_low i.verb d h.0 rest.0 rest.1, λ d k n e. close_low i.verb d k n (count_with n i) h.0 e rest.0 rest.1)
   where
     open_low : (f : Verb) (d : ℕ) → ClosesIn f is → ((d : ℕ) → depth_over d is ≤ d) → ((d k n : ℕ) → is_none (close_in k n is) ≡ false → depth_over (suc (k + d)) is ≤ d) → depth_over (depth_after d f) is ≤ d
     open_low Open d closes low closed = subst (λ (k : ℕ). depth_over (suc k) is ≤ d) (zero-add d) (closed d 0 0 (closes 0))
@@ -118,17 +118,17 @@ any_snoc f (y ∷ xs) x = ap (λ t. f y || t) (any_snoc f xs x) ∙ by_test (f y
 
 pub none_named : (text name : List ℕ) (n : ℕ) (is : List Item) → label_in text name n is ≡ None → list_any (names text name) is ≡ false
 none_named text name n [] e = refl
-none_named text name n (i ∷ is) e = by_test (is_label text name i.verb i.argument) e (λ e. none_named text name (counted n i) is e)
+none_named text name n (i ∷ is) e = by_test (is_label text name i.verb i.argument) e (λ e. none_named text name (count_with n i) is e)
   where
-    by_test : (t : Bool) → (if t then Some n else label_in text name (counted n i) is) ≡ None → (label_in text name (counted n i) is ≡ None → list_any (names text name) is ≡ false) → (t || list_any (names text name) is) ≡ false
+    by_test : (t : Bool) → (if t then Some n else label_in text name (count_with n i) is) ≡ None → (label_in text name (count_with n i) is ≡ None → list_any (names text name) is ≡ false) → (t || list_any (names text name) is) ≡ false
     by_test true e on = absurd cc
     by_test false e on = on e
 
 pub named_none : (text name : List ℕ) (n : ℕ) (is : List Item) → list_any (names text name) is ≡ false → label_in text name n is ≡ None
 named_none text name n [] e = refl
-named_none text name n (i ∷ is) e = by_test (is_label text name i.verb i.argument) e (λ e. named_none text name (counted n i) is e)
+named_none text name n (i ∷ is) e = by_test (is_label text name i.verb i.argument) e (λ e. named_none text name (count_with n i) is e)
   where
-    by_test : (t : Bool) → (t || list_any (names text name) is) ≡ false → (list_any (names text name) is ≡ false → label_in text name (counted n i) is ≡ None) → (if t then Some n else label_in text name (counted n i) is) ≡ None
+    by_test : (t : Bool) → (t || list_any (names text name) is) ≡ false → (list_any (names text name) is ≡ false → label_in text name (count_with n i) is ≡ None) → (if t then Some n else label_in text name (count_with n i) is) ≡ None
     by_test true e on = absurd cc
     by_test false e on = on e
 
@@ -160,7 +160,7 @@ module _ (t whole : List ℕ) (base count leap : ℕ) (between : (from to : ℕ)
   pub label_on : (name : List ℕ) (more n m : ℕ) (is rest : List Item) → ItemsIn (length t) is → m ≡ more + n → NextOn more (label_in t name n is) (label_in whole name m (map moved is ++ rest))
   label_on name more n m [] rest h e = tt
   label_on name more n m (i ∷ is) rest h e =
-      by_test (is_label t name i.verb i.argument) (is_label whole name i.verb (made i.argument)) (label_same name i.verb i.argument h.0) _ _ (label_on name more (counted n i) (counted m (moved i)) is rest h.1 (counted_same base count more n m i e))
+      by_test (is_label t name i.verb i.argument) (is_label whole name i.verb (made i.argument)) (label_same name i.verb i.argument h.0) _ _ (label_on name more (count_with n i) (count_with m (moved i)) is rest h.1 (counted_same base count more n m i e))
     where
       by_test : (s r : Bool) → r ≡ s → (x y : Option ℕ) → NextOn more x y → NextOn more (if s then Some n else x) (if r then Some m else y)
       by_test true true same x y h = ap (λ k. Some k) e
@@ -226,7 +226,7 @@ pub label_skip : (text name : List ℕ) (n : ℕ) (xs ys : List Item) → list_a
 label_skip text name n [] ys e = let same : n ≡ n + 0 = omega arith in ap (λ (k : ℕ). label_in text name k ys) same
 label_skip text name n (i ∷ xs) ys e =
     let parts = neither (names text name i) (list_any (names text name) xs) e in
-    ap (λ (t : Bool). if t then Some n else label_in text name (counted n i) (xs ++ ys)) parts.0 ∙ (label_skip text name (counted n i) xs ys parts.1 ∙ ap (λ (k : ℕ). label_in text name k ys) (counted_in n i xs))
+    ap (λ (t : Bool). if t then Some n else label_in text name (count_with n i) (xs ++ ys)) parts.0 ∙ (label_skip text name (count_with n i) xs ys parts.1 ∙ ap (λ (k : ℕ). label_in text name k ys) (counted_in n i xs))
 
 pub commands_moved : (base count : ℕ) (is rest : List Item) → commands_in (map (move_item base count) is ++ rest) ≡ commands_in is + commands_in rest
 commands_moved base count [] rest = omega arith
@@ -300,7 +300,7 @@ module _ (p : Program) (text : List ℕ) (all : List Item) where
       let one = both (is_own p x.expression) (not x.print && is_none x.file) h in
       ap (λ (x : Substitution). is_none x.file) (sym same) ∙ (both (not x.print) (is_none x.file) one.1).1
 
-  no_file_at : (before after : List Item) (verb : Verb) (a : Argument) → Follows verb a → Passes (edits p) (action_of text all before after verb a) → Numbered (length (substitutions_of text all before)) a → NoFile verb a
+  no_file_at : (before after : List Item) (verb : Verb) (a : Argument) → Follows verb a → Passes (edits_line p) (action_of text all before after verb a) → Numbered (length (substitutions_of text all before)) a → NoFile verb a
   no_file_at before after (File Read) a follows pass number = absurd cc
   no_file_at before after (File Write) a follows pass number = absurd cc
   no_file_at before after Substitute (FlaggedPair s e f) follows pass number = by_file f.file (file_none (slice_get p.substitutions (length (substitutions_of text all before))) _ number pass)
@@ -311,10 +311,10 @@ module _ (p : Program) (text : List ℕ) (all : List Item) where
   no_file_at before after other (FlaggedPair s e f) follows pass number = absurd follows
   no_file_at before after other a follows pass number = tt
 
-  pub no_files_all : (before is : List Item) → AllFollow is → Left (length (substitutions_of text all before)) (substitutions_of text all is) → list_all (λ (c : Command). edits p c.action) (commands_of text all before is) ≡ true → NoFiles is
+  pub no_files_all : (before is : List Item) → AllFollow is → Left (length (substitutions_of text all before)) (substitutions_of text all is) → list_all (λ (c : Command). edits_line p c.action) (commands_of text all before is) ≡ true → NoFiles is
   no_files_all before [] follow left e = tt
   no_files_all before (i ∷ is) follow left e =
-      let parts = parts_of (edits p) i.addresses (action_of text all before is i.verb i.argument) (commands_of text all (before ++ i ∷ []) is) e in
+      let parts = parts_of (edits_line p) i.addresses (action_of text all before is i.verb i.argument) (commands_of text all (before ++ i ∷ []) is) e in
       let next = step (length (substitutions_of text all before)) i.argument (substitutions_of text all is) left in
       let behind : Left (length (substitutions_of text all (before ++ i ∷ []))) (substitutions_of text all is) =
       subst (λ (n : ℕ). Left n (substitutions_of text all is)) (sym (taken_snoc (λ (j : Item). substitution_in text all j.argument) before i)) next.0 in

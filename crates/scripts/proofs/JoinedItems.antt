@@ -20,7 +20,7 @@ use Rattle.sedscript.specs.declared.letters.Verb.{Verb}
 use Rattle.sedscript.specs.declared.letters.Verb.TheVariants.{Plain, Open, Branch, Text, File, Substitute, Transliterate}
 use Rattle.sedscript.specs.declared.types.FileUse.{FileUse}
 use Rattle.sedscript.specs.declared.types.FileUse.TheVariants.{Write}
-use Rattle.sedscript.specs.Script.{written_in, sink_name, number_in, counted, commands_in, depth_after, close_in, block_end, branch_in, text_in, texts_of, substitution_in, substitutions_of, table_in, tables_of, action_of, command_of, commands_of, unescaped_from, Means}
+use Rattle.sedscript.specs.Script.{written_in, sink_name, number_in, count_with, commands_in, depth_after, close_in, block_end, branch_in, text_in, texts_of, substitution_in, substitutions_of, table_in, tables_of, action_of, command_of, commands_of, unescaped_from, Means}
 use Rattle.sedscript.specs.Letters.{becomes_command, is_close}
 use Rattle.sedscript.specs.Bytes.{bytes_between}
 use Rattle.sedscript.specs.Strings.{pieces_of, chars_from, bytes_of, table_of}
@@ -88,7 +88,7 @@ FilesOn t all whole every b [] = Unit {0}
 FilesOn t all whole every b (i ∷ is) = (NameOn t all whole every b i.verb i.argument × FlagOn t all whole every b i.argument) × FilesOn t all whole every b is
 
 module _ (base count : ℕ) where
-  pub counted_same : (more n m : ℕ) (i : Item) → m ≡ more + n → counted m (move_item base count i) ≡ more + counted n i
+  pub counted_same : (more n m : ℕ) (i : Item) → m ≡ more + n → count_with m (move_item base count i) ≡ more + count_with n i
   counted_same more n m i e = by_test (becomes_command i.verb)
     where
       by_test : (t : Bool) → (if t then suc m else m) ≡ more + (if t then suc n else n)
@@ -99,7 +99,7 @@ module _ (base count : ℕ) where
   pub closing_on : (depth more n m : ℕ) (is rest : List Item) → m ≡ more + n → NextOn more (close_in depth n is) (close_in depth m (map (move_item base count) is ++ rest))
   closing_on depth more n m [] rest e = tt
   closing_on depth more n m (i ∷ is) rest e =
-      by_test (is_close i.verb && depth == 0) _ _ (closing_on (depth_after depth i.verb) more (counted n i) (counted m (move_item base count i)) is rest (counted_same more n m i e))
+      by_test (is_close i.verb && depth == 0) _ _ (closing_on (depth_after depth i.verb) more (count_with n i) (count_with m (move_item base count i)) is rest (counted_same more n m i e))
     where
       by_test : (t : Bool) (x y : Option ℕ) → NextOn more x y → NextOn more (if t then Some n else x) (if t then Some m else y)
       by_test true x y h = ap (λ k. Some k) e

@@ -20,7 +20,7 @@ use Rattle.sedscript.specs.declared.bytes.Sort.TheVariants.{Line as in_line}
 use Rattle.sedscript.specs.Bytes.{belongs, bytes_between}
 use Rattle.sedscript.specs.Script.{distinct, files_in, number_in, written_in, commands_in, is_label, label_in, branch_in, depth_after, target_fault_in, target_fault_at, CutScript, IsEnd, Means, action_of, commands_of, texts_of, substitutions_of, tables_of, is_quiet}
 use Rattle.sedscript.specs.Program.{Program}
-use Rattle.scripts.specs.InTurn.{all_of, command_behind, substitution_behind, in_turn}
+use Rattle.scripts.specs.InTurn.{all_before, command_behind, substitution_behind, in_turn}
 use Rattle.scripts.specs.OneText.{leads_inside, EachLeadsInside, ShareNoFile, apart as apart_names, ShareNoLabel}
 use Rattle.scripts.proofs.LongerText.{between_on}
 use Rattle.scripts.proofs.LongerReading.{move_item}
@@ -206,7 +206,7 @@ module _ (a b : List ℕ) (kind : Kind) (m : ℕ) (p q : Program) (h : Means a k
   stands_first = record { commands = refl; counts = (refl, refl, refl) }
 
   stands_second : (after ahead : List Item) → Reaches a joined 0 none_before first_there is [] is after → Stands a joined 0 none_before first_there every is after ahead →
-      Stands b joined base (all_of p) second_there every js [] ahead
+      Stands b joined base (all_before p) second_there every js [] ahead
   stands_second after ahead reaches stands = record {
     commands = omega (arith, stands.commands, reaches.commands, long);
     counts = (
@@ -236,12 +236,12 @@ module _ (a b : List ℕ) (kind : Kind) (m : ℕ) (p q : Program) (h : Means a k
   files_p : FilesOn a is joined every none_before is
   files_p = files_on a is joined every none_before is (all_follow a kind m p h) (λ u name among. number_front u a joined is every (files_in u b js) name (files u) (λ e. any_distinct name (file_names u a is) (among e)) ∙ sym (same_file_number u (number_in u a is name)))
 
-  files_q : FilesOn b js joined every (all_of p) js
+  files_q : FilesOn b js joined every (all_before p) js
   files_q =
-      files_on b js joined every (all_of p) js (all_follow b kind m q k)
-      (λ u name among. number_behind u b joined js every (all_of p) (files_in u a is) name (files u) (counted u) (λ e. none_distinct name (file_names u a is) (not_first u name (among e))) (λ e. any_distinct name (file_names u b js) (among e)))
+      files_on b js joined every (all_before p) js (all_follow b kind m q k)
+      (λ u name among. number_behind u b joined js every (all_before p) (files_in u a is) name (files u) (counted u) (λ e. none_distinct name (file_names u a is) (not_first u name (among e))) (λ e. any_distinct name (file_names u b js) (among e)))
     where
-      counted : (u : FileUse) → length (files_in u a is) ≡ files_of u (all_of p)
+      counted : (u : FileUse) → length (files_in u a is) ≡ files_of u (all_before p)
       counted Read = ap (λ (ns : List (List ℕ)). length ns) (sym h.rfiles)
       counted Write = ap (λ (ns : List (List ℕ)). length ns) (sym h.wfiles)
 
@@ -254,30 +254,30 @@ module _ (a b : List ℕ) (kind : Kind) (m : ℕ) (p q : Program) (h : Means a k
 
   commands : (in_turn p q).commands ≡ commands_of joined every [] every
   commands =
-      let second : List Command = map (command_behind (all_of p)) q.commands in
+      let second : List Command = map (command_behind (all_before p)) q.commands in
       let rest : (after ahead : List Item) → Reaches a joined 0 none_before first_there is [] is after → Stands a joined 0 none_before first_there every is after ahead → commands_of joined every ahead behind ≡ second =
       λ after ahead reaches stands.
-      commands_on b joined base (all_of p) second_there every js [] ahead js [] [] (stands_second after ahead reaches stands) files_q close_q cut.4 branches_q (λ after ahead reaches stands. refl)
-      ∙ (append-nil (map (command_behind (all_of p)) (commands_of b js [] js)) ∙ ap (map (command_behind (all_of p))) (sym k.commands)) in
+      commands_on b joined base (all_before p) second_there every js [] ahead js [] [] (stands_second after ahead reaches stands) files_q close_q cut.4 branches_q (λ after ahead reaches stands. refl)
+      ∙ (append-nil (map (command_behind (all_before p)) (commands_of b js [] js)) ∙ ap (map (command_behind (all_before p))) (sym k.commands)) in
       let all = commands_on a joined 0 none_before first_there every is [] [] is behind second stands_first files_p close_p cut.3 branches_p rest in
       sym (all ∙ ap (λ (cs : List Command). cs ++ second) (same_commands (commands_of a is [] is) ∙ sym h.commands))
 
   texts : (in_turn p q).texts ≡ texts_of joined every
   texts =
-      ap₂ (λ xs ys. xs ++ ys) h.texts (k.texts ∙ sym (append-nil (texts_of b js)) ∙ sym (texts_on b joined base (all_of p) second_there js [] cut.4))
+      ap₂ (λ xs ys. xs ++ ys) h.texts (k.texts ∙ sym (append-nil (texts_of b js)) ∙ sym (texts_on b joined base (all_before p) second_there js [] cut.4))
       ∙ sym (texts_on a joined 0 none_before first_there is behind cut.3)
 
   tables : (in_turn p q).tables ≡ tables_of joined every
   tables =
-      ap₂ (λ xs ys. xs ++ ys) h.tables (k.tables ∙ sym (append-nil (tables_of b js)) ∙ sym (tables_on b joined base (all_of p) second_there js [] cut.4))
+      ap₂ (λ xs ys. xs ++ ys) h.tables (k.tables ∙ sym (append-nil (tables_of b js)) ∙ sym (tables_on b joined base (all_before p) second_there js [] cut.4))
       ∙ sym (tables_on a joined 0 none_before first_there is behind cut.3)
 
   substitutions : (in_turn p q).substitutions ≡ substitutions_of joined every every
   substitutions =
-      let second = substitutions_on b joined base (all_of p) second_there every js js [] cut.4 files_q in
+      let second = substitutions_on b joined base (all_before p) second_there every js js [] cut.4 files_q in
       let first = substitutions_on a joined 0 none_before first_there every is is behind cut.3 files_p in
       ap₂ (λ xs ys. xs ++ ys) (h.substitutions ∙ sym (same_substitutions (substitutions_of a is is)))
-      (ap (map (substitution_behind (all_of p))) k.substitutions ∙ sym (append-nil (map (substitution_behind (all_of p)) (substitutions_of b js js))) ∙ sym second)
+      (ap (map (substitution_behind (all_before p))) k.substitutions ∙ sym (append-nil (map (substitution_behind (all_before p)) (substitutions_of b js js))) ∙ sym second)
       ∙ sym first
 
   pub means_in_turn : Means joined kind m (in_turn p q)

@@ -12,14 +12,14 @@ use Rattle.sedscript.specs.declared.types.Action.TheVariants.{Branch}
 use Rattle.sedscript.specs.declared.types.Command.{Command}
 use Rattle.sedscript.specs.Script.{Means, with_part}
 use Rattle.sedscript.specs.Program.{Program}
-use Rattle.sedspace.specs.Lines.{lines}
+use Rattle.sedspace.specs.Lines.{split_lines}
 use Rattle.sedengine.specs.State.{Setting, finds_in, search_in, search_for}
 use Rattle.sedengine.specs.Substitute.{Occurrence}
 use Rattle.sedengine.specs.Move.{start, to_sink}
 use Rattle.examples.proofs.ComputedEnds.{both}
 use Rattle.sededit.specs.Editing.{IsOutput}
-use Rattle.scripts.specs.Edited.{RunsTo, Sends}
-use Rattle.scripts.specs.InTurn.{BreaksNoLine, EachOnlyEdits, edits, in_turn, only_edits, asks_own}
+use Rattle.scripts.specs.Edited.{RunsTo, EditsInto}
+use Rattle.scripts.specs.InTurn.{BreaksNoLine, EachOnlyEdits, edits_line, in_turn, only_edits, asks_own}
 use Rattle.scripts.specs.OneText.{EditInTurn, LacksNewline, EachLeadsInside, ShareNoFile, ShareNoLabel, apart, leads_inside}
 use Rattle.scripts.specs.Words.{match_with}
 use Rattle.scripts.proofs.Links.{OneMeaning, found_by, sends}
@@ -63,16 +63,16 @@ module _ (es fs : List WrittenExpression) (same : map expression_tree es ≡ map
   search_same = fun_ext (λ k. fun_ext (λ w. fun_ext (λ from. same_search (slice_get es k) (slice_get fs k) (same_tree k) w from)))
 
 -- scripts that only edit have no branch and no file
-leads_if_edits : (p : Program) (a : Action) → edits p a ≡ true → leads_inside p a ≡ true
+leads_if_edits : (p : Program) (a : Action) → edits_line p a ≡ true → leads_inside p a ≡ true
 leads_if_edits p (Branch u n) h = absurd cc
 leads_if_edits p other h = refl
 
-passes_if_edits : (test : Action → Bool) (counts : Bool) (p : Program) (cs : List Command) → ((a : Action) → edits p a ≡ true → test a ≡ true) → list_all (only_edits counts p) cs ≡ true → list_all (λ (c : Command). test c.action) cs ≡ true
+passes_if_edits : (test : Action → Bool) (counts : Bool) (p : Program) (cs : List Command) → ((a : Action) → edits_line p a ≡ true → test a ≡ true) → list_all (only_edits counts p) cs ≡ true → list_all (λ (c : Command). test c.action) cs ≡ true
 passes_if_edits test counts p [] passes h = refl
 passes_if_edits test counts p (c ∷ cs) passes h =
     let parts = both (only_edits counts p c) (list_all (only_edits counts p) cs) h in
-    let one = both (asks_own counts p c.first) (asks_own counts p c.second && edits p c.action) parts.0 in
-    let two = both (asks_own counts p c.second) (edits p c.action) one.1 in
+    let one = both (asks_own counts p c.first) (asks_own counts p c.second && edits_line p c.action) parts.0 in
+    let two = both (asks_own counts p c.second) (edits_line p c.action) one.1 in
     ap₂ (λ s t. s && t) (passes c.action two.1) (passes_if_edits test counts p cs passes parts.1)
 
 all_inside : (counts : Bool) (p : Program) → EachOnlyEdits counts p → EachLeadsInside p
@@ -80,8 +80,8 @@ all_inside counts p only = passes_if_edits (leads_inside p) counts p p.commands 
 
 none_shared : (p q : Program) (text : List ℕ) (m : ℕ) (counts : Bool) → Means text Basic m q → EachOnlyEdits counts q → ShareNoFile p q
 none_shared p q text m counts k only =
-    let all : list_all (λ (c : Command). edits q c.action) q.commands ≡ true = passes_if_edits (edits q) counts q q.commands (λ a e. e) only.each in
-    let none : NoFiles k.items = no_files_all q text k.items [] k.items (all_follow text Basic m q k) ([], k.substitutions, refl) (subst (λ (cs : List Command). list_all (λ (c : Command). edits q c.action) cs ≡ true) k.commands all) in
+    let all : list_all (λ (c : Command). edits_line q c.action) q.commands ≡ true = passes_if_edits (edits_line q) counts q q.commands (λ a e. e) only.each in
+    let none : NoFiles k.items = no_files_all q text k.items [] k.items (all_follow text Basic m q k) ([], k.substitutions, refl) (subst (λ (cs : List Command). list_all (λ (c : Command). edits_line q c.action) cs ≡ true) k.commands all) in
     record {
       read = ap (apart p.rfiles) (k.rfiles ∙ no_files Read text k.items none);
       write = ap (apart p.wfiles) (k.wfiles ∙ no_files Write text k.items none);
@@ -89,7 +89,7 @@ none_shared p q text m counts k only =
 
 -- the two scripts in one text
 joined_runs : OneMeaning → (a b input middle : List ℕ) (out : List (ℕ × ℕ)) (p q : Program) (h : Means a Basic 65536 p) (k : Means b Basic 65536 q) → EachOnlyEdits true p → EachOnlyEdits false q → BreaksNoLine p → ShareNone a h.items b k.items →
-    ((files : ℕ → List ℕ) → RunsTo p files input (to_sink 0 middle)) → ((files : ℕ → List ℕ) → RunsTo q files middle out) → Sends false (a ++ 10 ∷ b) input out
+    ((files : ℕ → List ℕ) → RunsTo p files input (to_sink 0 middle)) → ((files : ℕ → List ℕ) → RunsTo q files middle out) → EditsInto false (a ++ 10 ∷ b) input out
 joined_runs one a b input middle out p q h k only_p only_q breaks apart first second =
     let r : Program = in_turn p q in
     let means : Means (a ++ 10 ∷ b) Basic 65536 r = means_in_turn a b Basic 65536 p q h k (all_inside true p only_p) (none_shared p q b 65536 false k only_q) only_q.loud apart in
@@ -98,21 +98,21 @@ joined_runs one a b input middle out p q h k only_p only_q breaks apart first se
     let run = in_turn_law p q files input middle out only_p only_q breaks (first files) (second files) in
     let by : (ℕ → List ℕ → Bool) → (ℕ → List ℕ → ℕ → Option Occurrence) → Setting =
     λ finds search. record { commands = r.commands; texts = r.texts; substitutions = r.substitutions; tables = r.tables; finds = finds; search = search; quiet = r.quiet; files = files } in
-    subst (λ (g : Setting). IsOutput g (start r.commands (lines input)) out) (ap₂ by (finds_same r.expressions es same) (search_same r.expressions es same)) run)
+    subst (λ (g : Setting). IsOutput g (start r.commands (split_lines input)) out) (ap₂ by (finds_same r.expressions es same) (search_same r.expressions es same)) run)
 
 pub means_law : (a b : List ℕ) (kind : Kind) (m : ℕ) (p q : Program) → Means a kind m p → Means b kind m q → EachLeadsInside p → ShareNoFile p q → q.quiet ≡ false → ShareNoLabel kind m a b → Means (a ++ 10 ∷ b) kind m (in_turn p q)
 means_law a b kind m p q h k inside share loud apart = means_in_turn a b kind m p q h k inside share loud (share_none a b kind m p q h k apart)
 
-pub joined_law : OneMeaning → (a b input middle : List ℕ) (out : List (ℕ × ℕ)) → EditInTurn a b → Sends false a input (to_sink 0 middle) → Sends false b middle out → Sends false (a ++ 10 ∷ b) input out
+pub joined_law : OneMeaning → (a b input middle : List ℕ) (out : List (ℕ × ℕ)) → EditInTurn a b → EditsInto false a input (to_sink 0 middle) → EditsInto false b middle out → EditsInto false (a ++ 10 ∷ b) input out
 joined_law one a b input middle out edit first second =
     joined_runs one a b input middle out edit.p edit.q edit.first edit.second edit.first_edits edit.second_edits edit.breaks_none (share_none a b Basic 65536 edit.p edit.q edit.first edit.second edit.labels)
     (λ files. first.runs edit.p files edit.first) (λ files. second.runs edit.q files edit.second)
 
 -- the two scripts in two words of -e
-pub words_law : OneMeaning → (a b input middle : List ℕ) (out : List (ℕ × ℕ)) → EditInTurn a b → LacksNewline a → LacksNewline b → Sends false a input (to_sink 0 middle) → Sends false b middle out → Sends false (with_part (with_part [] a) b) input out
+pub words_law : OneMeaning → (a b input middle : List ℕ) (out : List (ℕ × ℕ)) → EditInTurn a b → LacksNewline a → LacksNewline b → EditsInto false a input (to_sink 0 middle) → EditsInto false b middle out → EditsInto false (with_part (with_part [] a) b) input out
 words_law one a b input middle out edit open_a open_b first second =
     let inside : EachLeadsInside edit.q = all_inside false edit.q edit.second_edits in
     let apart : ShareNone a edit.first.items b edit.second.items = share_none a b Basic 65536 edit.p edit.q edit.first edit.second edit.labels in
-    subst (λ (text : List ℕ). Sends false text input out) (sym (parts_are a b open_a open_b))
+    subst (λ (text : List ℕ). EditsInto false text input out) (sym (parts_are a b open_a open_b))
     (joined_runs one a (b ++ 10 ∷ []) input middle out edit.p edit.q edit.first (ended_means a b Basic 65536 edit.q edit.second inside) edit.first_edits edit.second_edits edit.breaks_none (share_still a b Basic 65536 edit.q edit.second inside edit.first.items apart)
     (λ files. first.runs edit.p files edit.first) (λ files. second.runs edit.q files edit.second))

@@ -13,7 +13,7 @@ use Rattle.sedscript.specs.declared.types.Address.TheVariants.{Last}
 use Rattle.sedscript.specs.declared.substitution.Piece.{Piece}
 use Rattle.sedscript.specs.declared.substitution.Piece.TheVariants.{Literal}
 use Rattle.sedengine.specs.State.{State, Setting}
-use Rattle.sedengine.specs.Substitute.{Occurrence, occurrences, occurrences_from, replaced_from, to_replace}
+use Rattle.sedengine.specs.Substitute.{Occurrence, each_occurrence, occurrences_from, replaced_from, to_replace}
 use Rattle.sedengine.specs.SubstituteParts.{next_occurrence}
 use Rattle.sedengine.specs.Select.{selects}
 use Rattle.sedengine.specs.Move.{next_move, after, written, newline, line_to}
@@ -119,7 +119,7 @@ module _ (search : ℕ → List ℕ → ℕ → Option Occurrence) (seeks_them :
     any_replaced [] = false
     any_replaced (m ∷ ms) = true
 
-    replaces_all : (number : ℕ) (pattern : List ℕ) (turns : ℕ) (ms : List Occurrence) → to_replace 1 true (occurrences (search 0 pattern) (length pattern)) ≡ ms →
+    replaces_all : (number : ℕ) (pattern : List ℕ) (turns : ℕ) (ms : List Occurrence) → to_replace 1 true (each_occurrence (search 0 pattern) (length pattern)) ≡ ms →
         Goes joins_all (loop_at [] number pattern 3 turns)
         (within [] number (replaced_from pattern commas 0 ms) [] (any_replaced ms) (false ∷ false ∷ false ∷ false ∷ []) (Some 0) 4 (turns + 1)) []
     unfolding next_move selects any_replaced
@@ -128,7 +128,7 @@ module _ (search : ℕ → List ℕ → ℕ → Option Occurrence) (seeks_them :
 
     loop_ends : (number : ℕ) (pattern : List ℕ) (turns : ℕ) → IsOutput joins_all (loop_at [] number pattern 0 turns) (line_to 0 (map comma pattern))
     loop_ends number pattern turns =
-        let ms : List Occurrence = to_replace 1 true (occurrences (search 0 pattern) (length pattern)) in
+        let ms : List Occurrence = to_replace 1 true (each_occurrence (search 0 pattern) (length pattern)) in
         let r : Bool = any_replaced ms in
         let four : List Bool = false ∷ false ∷ false ∷ false ∷ [] in
         subst (IsOutput joins_all (loop_at [] number pattern 0 turns)) (append-nil (line_to 0 (replaced_from pattern commas 0 ms)) ∙ ap (line_to 0) (commas_stand pattern))

@@ -1,7 +1,7 @@
 -- Lines without a newline in them.
 use Rattle.std.proofs.Common.{◌≡◌, ℕ, List, [], ◌∷◌, Bool, true, false, cond, refl}
 use Rattle.std.specs.List.{slice_split, onto_first, list_any}
-use Rattle.sedspace.specs.Lines.{is_newline, lines, without_empty_last}
+use Rattle.sedspace.specs.Lines.{is_newline, split_lines, without_empty_last}
 
 -- no line has a newline in it
 abbrev pub NoneBroken : List (List ℕ) → Type 0
@@ -26,6 +26,6 @@ without_none ([] ∷ []) h = tt
 without_none ([] ∷ part ∷ parts) h = (h.0, without_none (part ∷ parts) h.1)
 without_none ((b ∷ bs) ∷ parts) h = (h.0, without_none parts h.1)
 
-pub lines_none_broken : (bytes : List ℕ) → NoneBroken (lines bytes)
-unfolding lines
+pub lines_none_broken : (bytes : List ℕ) → NoneBroken (split_lines bytes)
+unfolding split_lines
 lines_none_broken bytes = without_none (slice_split is_newline bytes) (parts_none bytes)

@@ -9,11 +9,11 @@ use Rattle.sedscript.specs.declared.types.Command.{Command}
 use Rattle.sedscript.specs.declared.substitution.Substitution.{Substitution}
 use Rattle.sedscript.specs.Script.{Means}
 use Rattle.sedscript.specs.Program.{Program}
-use Rattle.sedspace.specs.Lines.{lines}
+use Rattle.sedspace.specs.Lines.{split_lines}
 use Rattle.sedengine.specs.State.{State, Setting, search_in, finds_in, occurrence_at_span}
 use Rattle.sedengine.specs.Move.{start}
 use Rattle.sededit.specs.Editing.{IsOutput}
-use Rattle.scripts.specs.Edited.{Sends}
+use Rattle.scripts.specs.Edited.{EditsInto}
 use Rattle.scripts.specs.Words.{match_with}
 use Rattle.std.specs.Option.{option_map}
 
@@ -50,12 +50,12 @@ same_run P c c' tx tx' sb sb' tb tb' q q' es files ls a b d e f h =
 -- trees.
 pub sends : OneMeaning → (quiet : Bool) (text input : List ℕ) (out : List (ℕ × ℕ)) (p : Program) → Means text Basic 65536 p →
     ((es : List WrittenExpression) (files : ℕ → List ℕ) → map expression_tree p.expressions ≡ map expression_tree es →
-    IsOutput (setting p.commands p.texts p.substitutions p.tables (quiet || p.quiet) es files) (start p.commands (lines input)) out) → Sends quiet text input out
+    IsOutput (setting p.commands p.texts p.substitutions p.tables (quiet || p.quiet) es files) (start p.commands (split_lines input)) out) → EditsInto quiet text input out
 sends one quiet text input out p meant runs = record {
   means = (p, meant);
   runs = λ q files m.
       let same = one text Basic 65536 p q meant m in
-      same_run (λ g s. IsOutput g s out) p.commands q.commands p.texts q.texts p.substitutions q.substitutions p.tables q.tables (quiet || p.quiet) (quiet || q.quiet) q.expressions files (lines input)
+      same_run (λ g s. IsOutput g s out) p.commands q.commands p.texts q.texts p.substitutions q.substitutions p.tables q.tables (quiet || p.quiet) (quiet || q.quiet) q.expressions files (split_lines input)
       same.0 same.1 same.2 same.3 (ap (λ b. quiet || b) same.6) (runs q.expressions files same.8);
 }
 

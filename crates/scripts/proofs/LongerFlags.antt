@@ -16,7 +16,7 @@ use Rattle.sedscript.specs.declared.texts.Inside.TheVariants.{InLine, Escape, Du
 use Rattle.sedscript.specs.declared.transliteration.Char.{Char}
 use Rattle.sedscript.specs.Bytes.{past, bytes_between, is_digit, is_byte, with_digits, fault, ◌>>=◌ as ◌then◌, fault_if}
 use Rattle.sedscript.specs.Strings.{escapes, escaped_piece, exceeds, piece_fault, replacement_fault, escaped_byte, chars_from, bytes_of, string_fault, is_among, repeated_in, strings_fault, repeated_fault}
-use Rattle.sedscript.specs.Arguments.{text_end, text_from, name_from, no_flags, numbered, with_number, with_flag, flags_from, unless_fault, with_file, ends_flags}
+use Rattle.sedscript.specs.Arguments.{text_end, text_from, name_from, no_flags, with_flag_number, with_number, with_flag, flags_from, unless_fault, with_file, ends_flags}
 use Rattle.sedscript.specs.declared.substitution.Piece.{Piece}
 use Rattle.sedscript.specs.declared.substitution.Piece.TheVariants.{Literal, Whole, Group}
 use Rattle.sedscript.proofs.Chars.{same_bytes}
@@ -176,7 +176,7 @@ FileOf end f = FileIn end f.file
 number_on : (base end : ℕ) (f : Flags) (at place : ℕ) (ds : List ℕ) → FileOf end f → Same (FileOf end) (move_flags base) (with_number f at ds) (with_number (move_flags base f) place ds)
 number_on base end f at place ds h = by_test (is_some f.number) (with_digits (Some 0) ds)
   where
-    by_test : (t : Bool) (n : Option ℕ) → Same (FileOf end) (move_flags base) (if t then fault RepeatedFlag at else numbered f at n) (if t then fault RepeatedFlag place else numbered (move_flags base f) place n)
+    by_test : (t : Bool) (n : Option ℕ) → Same (FileOf end) (move_flags base) (if t then fault RepeatedFlag at else with_flag_number f at n) (if t then fault RepeatedFlag place else with_flag_number (move_flags base f) place n)
     by_test true n = tt
     by_test false None = tt
     by_test false (Some zero) = tt

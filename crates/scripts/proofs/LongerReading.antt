@@ -25,7 +25,7 @@ use Rattle.sedscript.specs.Arguments.{to_command_end, own_delimiter, substitute_
 use Rattle.sedscript.specs.Bytes.{fault, ◌>>=◌ as ◌then◌, past, bytes_between, is_digit, is_byte, with_digits}
 use Rattle.sedscript.specs.Letters.{verb_of, most_addresses, allowed, substituted, flagged}
 use Rattle.sedscript.specs.Strings.{replacement_fault}
-use Rattle.sedscript.specs.Items.{Pattern, Reading, plainly, expression, ◌>>=◌, Addressed, Headed, found, with_addresses, line_of, folds_at, past_flag, match_at, own_match, address_of, address_at, with_second, second_at, after_first, addresses_at, with_bang, substitute_with, substitute_at, argument_with, function_at, item_from, item_at, match_to, function_after, item_with, empty_match}
+use Rattle.sedscript.specs.Items.{Pattern, Reading, plainly, expression, ◌>>=◌, Addressed, Headed, address_found, with_addresses, line_address, folds_at, past_flag, match_at, own_match, address_of, address_at, with_second, second_at, after_first, addresses_at, with_bang, substitute_with, substitute_at, argument_with, function_at, item_from, item_at, match_to, function_after, item_with, empty_match}
 use Rattle.sedscript.specs.Script.{Gives, value, after_expression}
 use Rattle.sedscript.proofs.Coming.{gives_then}
 use Rattle.scripts.proofs.LongerText.{tail_of, past_low, past_high, near, there, past_on, past_separators, between_on}
@@ -140,10 +140,10 @@ module _ (before text : List ℕ) (more : Option (List ℕ)) (n : ℕ) (kind : K
   abbrev AddressStays : Reading Addressed → Reading Addressed → Type 0
   AddressStays r z = Stays (AddressedIn end) (move_addressed base n) r z
 
-  found_on : (a : Option Address) (at count place number : ℕ) → place ≡ base + at → number ≡ n + count → at ≤ end → Same (AddressedIn end) (move_addressed base n) (found a at count) (found (move_address n a) place number)
-  found_on a at count place number e f le = (ap₂ (λ p c. found (move_address n a) p c) e f, le)
+  found_on : (a : Option Address) (at count place number : ℕ) → place ≡ base + at → number ≡ n + count → at ≤ end → Same (AddressedIn end) (move_addressed base n) (address_found a at count) (address_found (move_address n a) place number)
+  found_on a at count place number e f le = (ap₂ (λ p c. address_found (move_address n a) p c) e f, le)
 
-  line_on : (count from to place : ℕ) (o : Option ℕ) → to ≤ end → AddressStays (plainly (line_of count from to o)) (plainly (line_of (n + count) place (base + to) o))
+  line_on : (count from to place : ℕ) (o : Option ℕ) → to ≤ end → AddressStays (plainly (line_address count from to o)) (plainly (line_address (n + count) place (base + to) o))
   line_on count from to place None le = stays_plainly (AddressedIn end) (move_addressed base n) _ _ tt
   line_on count from to place (Some zero) le = stays_plainly (AddressedIn end) (move_addressed base n) _ _ tt
   line_on count from to place (Some (suc k)) le = stays_plainly (AddressedIn end) (move_addressed base n) _ _ (found_on (Some (address.Line (suc k))) to count (base + to) (n + count) refl refl le)
@@ -169,7 +169,7 @@ module _ (before text : List ℕ) (more : Option (List ℕ)) (n : ℕ) (kind : K
 
   empty_on : (count at place : ℕ) → at ≤ end → place ≡ base + at → Same (AddressedIn end) (move_addressed base n) (empty_match text count at) (empty_match whole (n + count) place)
   empty_on count at place le e =
-      subst (λ (t : Bool). Same (AddressedIn end) (move_addressed base n) (empty_match text count at) (if t then fault FlagOnEmpty place else found (Some (Match None)) place (n + count))) (sym (folds_on at place le e))
+      subst (λ (t : Bool). Same (AddressedIn end) (move_addressed base n) (empty_match text count at) (if t then fault FlagOnEmpty place else address_found (Some (Match None)) place (n + count))) (sym (folds_on at place le e))
       (same_if (AddressedIn end) (move_addressed base n) (folds_at text at) _ _ _ _ tt (found_on (Some (Match None)) at count place (n + count) e refl le))
 
   match_on : (count d at : ℕ) → at < end → AddressStays (match_at text count d at) (match_at whole (n + count) d (base + at))
@@ -188,7 +188,7 @@ module _ (before text : List ℕ) (more : Option (List ℕ)) (n : ℕ) (kind : K
           let flags = flag_on (to + 1) (base + to + 1) short next in
           subst (λ (t : Bool). AddressStays (match_to text count d at (Some to)) (if t then plainly (empty_match whole (n + count) (base + to + 1))
           else expression (record { from = base + at + 1; to = base + to; delimiter = d; folded = folds_at whole (base + to + 1) })
-          (λ groups. plainly (found (Some (Match (Some (n + count)))) (past_flag whole (base + to + 1)) (n + count + 1))))) (sym (same_test (at + 1) to (base + at + 1) (base + to) base one refl))
+          (λ groups. plainly (address_found (Some (Match (Some (n + count)))) (past_flag whole (base + to + 1)) (n + count + 1))))) (sym (same_test (at + 1) to (base + at + 1) (base + to) base one refl))
           (stays_if (AddressedIn end) (move_addressed base n) (to == at + 1) _ _ _ _ (stays_plainly (AddressedIn end) (move_addressed base n) _ _ (empty_on count (to + 1) (base + to + 1) short next))
           (stays_expression (AddressedIn end) (move_addressed base n) (at + 1) to (base + at + 1) (base + to) d (folds_at text (to + 1)) (folds_at whole (base + to + 1)) _ _ (folds_on (to + 1) (base + to + 1) short next)
           (ap (λ (k : ℕ). bytes_between whole k (base + to)) one ∙ between_on before text more (at + 1) to low (omega (arith, high)))
@@ -220,8 +220,8 @@ module _ (before text : List ℕ) (more : Option (List ℕ)) (n : ℕ) (kind : K
           let digits : past Digit whole (base + at) ≡ base + past Digit text at = past_on before text more Digit at le refl in
           let high : past Digit text at ≤ end = past_high Digit text at le in
           stays_if (AddressedIn end) (move_addressed base n) (is_digit b) _ _ _ _
-          (subst (λ (k : ℕ). AddressStays (plainly (line_of count at (past Digit text at) (with_digits (Some 0) (bytes_between text at (past Digit text at))))) (plainly (line_of (n + count) (base + at) k (with_digits (Some 0) (bytes_between whole (base + at) k))))) (sym digits)
-          (subst (λ (bs : List ℕ). AddressStays (plainly (line_of count at (past Digit text at) (with_digits (Some 0) (bytes_between text at (past Digit text at))))) (plainly (line_of (n + count) (base + at) (base + past Digit text at) (with_digits (Some 0) bs)))) (sym (between_on before text more at (past Digit text at) (past_low Digit text at) high))
+          (subst (λ (k : ℕ). AddressStays (plainly (line_address count at (past Digit text at) (with_digits (Some 0) (bytes_between text at (past Digit text at))))) (plainly (line_address (n + count) (base + at) k (with_digits (Some 0) (bytes_between whole (base + at) k))))) (sym digits)
+          (subst (λ (bs : List ℕ). AddressStays (plainly (line_address count at (past Digit text at) (with_digits (Some 0) (bytes_between text at (past Digit text at))))) (plainly (line_address (n + count) (base + at) (base + past Digit text at) (with_digits (Some 0) bs)))) (sym (between_on before text more at (past Digit text at) (past_low Digit text at) high))
           (line_on count at (past Digit text at) (base + at) (with_digits (Some 0) (bytes_between text at (past Digit text at))) high)))
           (stays_if (AddressedIn end) (move_addressed base n) (b == 36) _ _ _ _ (stays_plainly (AddressedIn end) (move_addressed base n) _ _ (found_on (Some Last) (at + 1) count (base + at + 1) (n + count) one refl (omega (arith, low))))
           (stays_if (AddressedIn end) (move_addressed base n) (b == 47) _ _ _ _ (match_on count 47 at low)

@@ -3,7 +3,7 @@ use Rattle.std.proofs.Common.{◌≡◌, ℕ, zero, suc, ◌+◌, ◌-◌, ◌<�
 use Rattle.std.proofs.lemmas.List.{take-append-le}
 use Rattle.sedre.specs.declared.elements.Element.{Element}
 use Rattle.sedre.specs.declared.elements.Element.TheVariants.{Plain, Delimiter}
-use Rattle.sedre.specs.Brackets.{before_closing, content, form, is_delimiter, front_element, elements, list_end, next_place, first_delimiter, delimiter_at}
+use Rattle.sedre.specs.Brackets.{before_closing, content, front_form, is_delimiter, front_element, elements, list_end, next_place, first_delimiter, delimiter_at}
 use Rattle.sedscript.specs.Strings.{string_end}
 use Rattle.scripts.proofs.LongerText.{tail_of, rest_on}
 
@@ -69,12 +69,12 @@ element_on ys delimiter b [] = inr (omega arith)
 element_on ys delimiter b (c ∷ rest) = by_tests (b == 92 && is_delimiter delimiter c) (b == 91 && (c == 58 || c == 61 || c == 46)) (content c rest) (content c (rest ++ ys)) (content_on ys c rest)
   where
     by_tests : (t u : Bool) (o p : Option (List ℕ)) → (o ≡ None) ⊎ (p ≡ o) →
-        (chosen b c t u (form c (length (rest ++ ys) + 2) p) ≡ chosen b c t u (form c (length rest + 2) o)) ⊎ (length (c ∷ rest) ≤ (chosen b c t u (form c (length rest + 2) o)).1 - 1)
+        (chosen b c t u (front_form c (length (rest ++ ys) + 2) p) ≡ chosen b c t u (front_form c (length rest + 2) o)) ⊎ (length (c ∷ rest) ≤ (chosen b c t u (front_form c (length rest + 2) o)).1 - 1)
     by_tests true u o p h = inl refl
     by_tests false false o p h = inl refl
     by_tests false true None p h = inr (omega arith)
     by_tests false true (Some held) p (inl e) = absurd cc
-    by_tests false true (Some held) p (inr e) = inl (ap (form c (length (rest ++ ys) + 2)) e)
+    by_tests false true (Some held) p (inr e) = inl (ap (front_form c (length (rest ++ ys) + 2)) e)
 
 -- a list that is stepped over to its end doesn't close
 elements_none : (delimiter : Option ℕ) (first : Bool) (skip place : ℕ) (bs : List ℕ) → length bs ≤ skip → (elements delimiter first skip place bs).1 ≡ None

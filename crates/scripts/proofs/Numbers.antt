@@ -10,7 +10,7 @@ use Rattle.std.proofs.Math.Seq.{drop-append_seam, take-append_seam}
 use Rattle.std.proofs.lemmas.Bool.Decides.{nat_tests}
 use Rattle.sedscript.specs.declared.bytes.Sort.TheVariants.{Blank, Separator, Digit, Line as in_line}
 use Rattle.sedscript.specs.declared.types.Address.TheVariants.{Line}
-use Rattle.sedscript.specs.Items.{found, address_at, addresses_at, addresses_of, after_first, with_addresses, second_at, with_bang, with_second, function_at, item_at, plainly, ◌>>=◌, function_after, item_with, item_of}
+use Rattle.sedscript.specs.Items.{address_found, address_at, addresses_at, addresses_of, after_first, with_addresses, second_at, with_bang, with_second, function_at, item_at, plainly, ◌>>=◌, function_after, item_with, item_of}
 use Rattle.sedscript.specs.Bytes.{past, is_digit, is_blank, bytes_between, with_digit, belongs, with_digits}
 use Rattle.sedscript.specs.declared.bytes.Sort.{Sort}
 use Rattle.sedscript.specs.declared.types.Address.{Address}
@@ -108,7 +108,7 @@ module _ (text : List ℕ) (count at : ℕ) (ds : List ℕ) (b : ℕ) (rest : Li
   digits_are : bytes_between text at (at + length ds) ≡ ds
   digits_are = let long : at + length ds - at ≡ length ds = omega arith in ap₂ (λ k bs. take k bs) long there ∙ all_taken ds (b ∷ rest)
 
-  pub number_is : address_at text count at ≡ plainly (found (Some (Line (suc n))) (at + length ds) count)
+  pub number_is : address_at text count at ≡ plainly (address_found (Some (Line (suc n))) (at + length ds) count)
   unfolding address_at
   number_is =
       let one = first_of ds writes.some in
@@ -174,7 +174,7 @@ unfolding addresses_at
 quit_item ds n writes =
     let text : List ℕ = ds ++ 113 ∷ [] in
     let place : 0 + length ds ≡ length ds = omega arith in
-    let address : address_at text 0 0 ≡ plainly (found (Some (Line (suc n))) (length ds) 0) = number_is text 0 0 ds 113 [] n refl writes refl ∙ ap (λ at. plainly (found (Some (Line (suc n))) at 0)) place in
+    let address : address_at text 0 0 ≡ plainly (address_found (Some (Line (suc n))) (length ds) 0) = number_is text 0 0 ds 113 [] n refl writes refl ∙ ap (λ at. plainly (address_found (Some (Line (suc n))) at 0)) place in
     let behind : drop (length ds) text ≡ 113 ∷ [] = drop-append_seam ds (113 ∷ []) in
     starts_there text ds 113 [] (suc n) refl writes
     ∙ ap (λ r. (r >>= λ x. after_first text x.count x.at x.address) >>= function_after text) address
@@ -206,8 +206,8 @@ module _ (ds es : List ℕ) (n m : ℕ) (writes : WritesNumber ds (suc n)) (writ
   behind_second : drop (second_place + length es) cut_text ≡ 100 ∷ []
   behind_second = drop_on cut_text second_place es (100 ∷ []) behind_comma
 
-  first_address : address_at cut_text 0 0 ≡ plainly (found (Some (Line (suc n))) (length ds) 0)
-  first_address = let place : 0 + length ds ≡ length ds = omega arith in number_is cut_text 0 0 ds 44 (es ++ 100 ∷ []) n refl writes refl ∙ ap (λ at. plainly (found (Some (Line (suc n))) at 0)) place
+  first_address : address_at cut_text 0 0 ≡ plainly (address_found (Some (Line (suc n))) (length ds) 0)
+  first_address = let place : 0 + length ds ≡ length ds = omega arith in number_is cut_text 0 0 ds 44 (es ++ 100 ∷ []) n refl writes refl ∙ ap (λ at. plainly (address_found (Some (Line (suc n))) at 0)) place
 
   second_address : second_at cut_text 0 (Line (suc n)) second_place ≡ plainly (with_addresses (Some (Line (suc n))) (Some (Line (suc m))) (second_place + length es) 0)
   unfolding second_at

@@ -1,10 +1,10 @@
 -- Two scripts that only edit their lines, one after the other: what their joint run writes.
 use Rattle.std.proofs.Common.{◌≡◌, ◌≢◌, ℕ, ◌+◌, ◌<◌, List, [], ◌∷◌, ◌++◌, Bool, false, Option, None, Some, refl, sym, ap, subst, ◌∙◌, add-zero, arith}
 use Rattle.std.specs.Prelude.{slice_get}
-use Rattle.sedspace.specs.Lines.{lines}
+use Rattle.sedspace.specs.Lines.{split_lines}
 use Rattle.sedengine.specs.State.{begin, do_at, State, Setting}
 use Rattle.sedengine.specs.Move.{line_to, to_sink}
-use Rattle.sedengine.specs.Ends.{part}
+use Rattle.sedengine.specs.Ends.{bytes_of_sink}
 use Rattle.sedengine.proofs.Gains.{part-same}
 use Rattle.sededit.specs.Editing.{IsOutput}
 use Rattle.scripts.specs.Edited.{text_of}
@@ -169,9 +169,9 @@ module _ (g1 g2 g : Setting) (n m : ℕ) (loud1 : g1.quiet ≡ false) (loud2 : g
 
   -- from the bytes of the input to what the joint run writes
   pub in_turn_run : (input middle : List ℕ) (out : List (ℕ × ℕ)) (ra rb all : List Bool) (s t u : State) → RangesAgree (λ k. k) n ra all → RangesAgree (λ k. n + k) m rb all →
-      Between 0 (lines input) ra s → Between 0 (lines input) all t → Between 0 (lines middle) rb u → IsOutput g1 s (to_sink 0 middle) → IsOutput g2 u out → IsOutput g t out
+      Between 0 (split_lines input) ra s → Between 0 (split_lines input) all t → Between 0 (split_lines middle) rb u → IsOutput g1 s (to_sink 0 middle) → IsOutput g2 u out → IsOutput g t out
   in_turn_run input middle out ra rb all s t u one two at_s at_t at_u a b =
-      let made = made_of (lines input) 0 ra s (to_sink 0 middle) (lines_none_broken input) at_s a in
-      let middle_is : middle ≡ text_of made.mids = sym (part-same 0 middle) ∙ ap (part 0) made.wrote ∙ part-same 0 (text_of made.mids) in
-      let same : lines middle ≡ made.mids = ap lines middle_is ∙ lines_again made.mids made.whole in
+      let made = made_of (split_lines input) 0 ra s (to_sink 0 middle) (lines_none_broken input) at_s a in
+      let middle_is : middle ≡ text_of made.mids = sym (part-same 0 middle) ∙ ap (bytes_of_sink 0) made.wrote ∙ part-same 0 (text_of made.mids) in
+      let same : split_lines middle ≡ made.mids = ap split_lines middle_is ∙ lines_again made.mids made.whole in
       made.hands 0 rb all t u out (record { of_first = one; of_second = two }) at_t (subst (λ (ls : List (List ℕ)). Between 0 ls rb u) same at_u) b

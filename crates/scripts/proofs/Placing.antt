@@ -7,7 +7,7 @@ use Rattle.std.proofs.Math.Path.{fun_ext}
 use Rattle.std.proofs.lemmas.Bool.Decides.{nat_tests}
 use Rattle.std.proofs.lemmas.List.{length-map}
 use Rattle.std.proofs.lemmas.Option.{slice_get-map, slice_get_past}
-use Rattle.sedspace.specs.Lines.{lines}
+use Rattle.sedspace.specs.Lines.{split_lines}
 use Rattle.sedre.specs.Tree.{WrittenExpression, expression_tree}
 use Rattle.sedscript.specs.declared.types.Address.{Address}
 use Rattle.sedscript.specs.declared.types.Address.TheVariants.{Match, Line, Last}
@@ -18,13 +18,13 @@ use Rattle.sedscript.specs.declared.types.Simple.TheVariants.{Delete}
 use Rattle.sedscript.specs.declared.substitution.Substitution.{Substitution}
 use Rattle.sedscript.specs.Program.{Program}
 use Rattle.sedengine.specs.State.{Setting, search_for, setting_of}
-use Rattle.sedengine.specs.Select.{Current, Selection, answer, ends_at_once, of_addresses, on_active, on_idle, selects}
+use Rattle.sedengine.specs.Select.{CurrentLine, Selection, answer, ends_at_once, of_addresses, on_active, on_idle, selects}
 use Rattle.sedengine.specs.Move.{none_left, in_table, start, to_sink}
-use Rattle.sedengine.specs.Substitute.{Occurrence, occurrences, to_replace}
+use Rattle.sedengine.specs.Substitute.{Occurrence, each_occurrence, to_replace}
 use Rattle.sedengine.proofs.Writing.{slice_get-append_add}
 use Rattle.examples.proofs.ComputedEnds.{both}
 use Rattle.scripts.specs.Edited.{RunsTo}
-use Rattle.scripts.specs.InTurn.{Before, BreaksNoLine, EachOnlyEdits, action_behind, address_behind, all_of, asks_own, command_behind, edits, in_turn, is_break, is_own, only_edits, replaces_only, sink_behind, substitution_behind}
+use Rattle.scripts.specs.InTurn.{Before, BreaksNoLine, EachOnlyEdits, action_behind, address_behind, all_before, asks_own, command_behind, edits_line, in_turn, is_break, is_own, only_edits, replaces_only, sink_behind, substitution_behind}
 use Rattle.scripts.proofs.Truth.{not_so}
 use Rattle.scripts.proofs.LongerText.{in_front}
 use Rattle.scripts.proofs.NoneBefore.{none_before, same_command, same_substitution}
@@ -108,20 +108,20 @@ on_of finds c active n last w = with_bang c.negate (choice_of finds c.first c.se
 abbrev Selected : Option Selection → Bool × Bool → Type 0
 Selected o choice = (e : Bool) × (v : Option ℕ) × (o ≡ Some (record { yes = choice.0; end = e; active = choice.1; used = v }))
 
-answer_so : (counts : Bool) (p : Program) (c : Current) (a : Address) → asks_own counts p (Some a) ≡ true → (v : Option ℕ) × (answer c a ≡ Some (record { yes = judged c.finds a c.number c.last c.pattern; used = v }))
+answer_so : (counts : Bool) (p : Program) (c : CurrentLine) (a : Address) → asks_own counts p (Some a) ≡ true → (v : Option ℕ) × (answer c a ≡ Some (record { yes = judged c.finds a c.number c.last c.pattern; used = v }))
 answer_so counts p c (Line i) h = (c.used, refl)
 answer_so counts p c Last h = (c.used, refl)
 answer_so counts p c (Match (Some e)) h = (Some e, refl)
 answer_so counts p c (Match None) h = absurd cc
 
-idle_by : (c : Current) (a b : Address) (yes : Bool) (v : Option ℕ) → answer c a ≡ Some (record { yes = yes; used = v }) → Selected (on_idle c a b) (idle yes (ends_at_once c.number b))
+idle_by : (c : CurrentLine) (a b : Address) (yes : Bool) (v : Option ℕ) → answer c a ≡ Some (record { yes = yes; used = v }) → Selected (on_idle c a b) (idle yes (ends_at_once c.number b))
 idle_by c a b true v e = (ends_at_once c.number b, v, rw e refl)
 idle_by c a b false v e = (false, v, rw e refl)
 
-idle_so : (counts : Bool) (p : Program) (c : Current) (a b : Address) → asks_own counts p (Some a) ≡ true → Selected (on_idle c a b) (idle (judged c.finds a c.number c.last c.pattern) (ends_at_once c.number b))
+idle_so : (counts : Bool) (p : Program) (c : CurrentLine) (a b : Address) → asks_own counts p (Some a) ≡ true → Selected (on_idle c a b) (idle (judged c.finds a c.number c.last c.pattern) (ends_at_once c.number b))
 idle_so counts p c a b h = let x = answer_so counts p c a h in idle_by c a b (judged c.finds a c.number c.last c.pattern) x.0 x.1
 
-active_so : (counts : Bool) (p : Program) (c : Current) (a b : Address) → asks_own counts p (Some a) ≡ true → asks_own counts p (Some b) ≡ true → Selected (on_active c a b) (ranged c.finds a b true c.number c.last c.pattern)
+active_so : (counts : Bool) (p : Program) (c : CurrentLine) (a b : Address) → asks_own counts p (Some a) ≡ true → asks_own counts p (Some b) ≡ true → Selected (on_active c a b) (ranged c.finds a b true c.number c.last c.pattern)
 active_so counts p c a (Line i) h k = by_less (nat_lt c.number i) (nat_eq c.number i) (idle_so counts p c a (Line i) h)
   where
     by_less : (less same : Bool) → Selected (on_idle c a (Line i)) (idle (judged c.finds a c.number c.last c.pattern) (ends_at_once c.number (Line i))) →
@@ -134,7 +134,7 @@ active_so counts p c a Last h k = (c.last, c.used, refl)
 active_so counts p c a (Match (Some e)) h k = (c.finds e c.pattern, Some e, refl)
 active_so counts p c a (Match None) h k = absurd cc
 
-addresses_so : (counts : Bool) (p : Program) (c : Current) (active : Bool) (first second : Option Address) → asks_own counts p first ≡ true → asks_own counts p second ≡ true →
+addresses_so : (counts : Bool) (p : Program) (c : CurrentLine) (active : Bool) (first second : Option Address) → asks_own counts p first ≡ true → asks_own counts p second ≡ true →
     Selected (of_addresses c active first second) (choice_of c.finds first second active c.number c.last c.pattern)
 addresses_so counts p c active None second h k = (false, c.used, refl)
 addresses_so counts p c active (Some a) None h k = let x = answer_so counts p c a h in (false, x.0, rw x.1 refl)
@@ -178,10 +178,10 @@ record Placed (p r : Program) (b : Before) : Type 0 where
   tables : (k : ℕ) (x : List ℕ) → slice_get p.tables k ≡ Some x → slice_get r.tables (b.tables + k) ≡ Some x
 
 -- the three tests of a command that only edits
-tests : (counts : Bool) (p : Program) (c : Command) → only_edits counts p c ≡ true → (asks_own counts p c.first ≡ true) × (asks_own counts p c.second ≡ true) × (edits p c.action ≡ true)
+tests : (counts : Bool) (p : Program) (c : Command) → only_edits counts p c ≡ true → (asks_own counts p c.first ≡ true) × (asks_own counts p c.second ≡ true) × (edits_line p c.action ≡ true)
 tests counts p c h =
-    let one = both (asks_own counts p c.first) (asks_own counts p c.second && edits p c.action) h in
-    let two = both (asks_own counts p c.second) (edits p c.action) one.1 in (one.0, two.0, two.1)
+    let one = both (asks_own counts p c.first) (asks_own counts p c.second && edits_line p c.action) h in
+    let two = both (asks_own counts p c.second) (edits_line p c.action) one.1 in (one.0, two.0, two.1)
 
 -- and those of a substitution
 is_plain : (p : Program) (t : Substitution) → replaces_only p (Some t) ≡ true → (e : ℕ) × (x : WrittenExpression) × (t.expression ≡ Some e) × (slice_get p.expressions e ≡ Some x) × (t.print ≡ false) × (t.file ≡ None)
@@ -203,7 +203,7 @@ module _ (p : Program) (files : ℕ → List ℕ) where
   replaces_here None h = absurd cc
   replaces_here (Some t) h = let s = is_plain p t h in (s.0, s.2, s.4, s.5, λ w. ap (λ e. by_expression g1 t e w) (sym s.2))
 
-  makes_here : (a : Action) → edits p a ≡ true → Makes g1 a (edit_of g1 a)
+  makes_here : (a : Action) → edits_line p a ≡ true → Makes g1 a (edit_of g1 a)
   makes_here (Block n) h = refl
   makes_here (Plain Delete) h = tt
   makes_here (Substitute k) h = replaces_here (slice_get p.substitutions k) h
@@ -285,11 +285,11 @@ module _ (p : Program) (files : ℕ → List ℕ) where
         let s = is_plain p t h in
         let put : Substitution = substitution_behind b t in
         let by : (w : List ℕ) → with_found put w (to_replace_in g put (b.expressions + s.0) w) ≡ substituted_by g1 (Some t) w =
-        λ w. ap (λ f. with_found t w (to_replace t.number t.global (occurrences f (length w)))) (same_search s.0 s.1 w s.3) ∙ ap (λ e. by_expression g1 t e w) (sym s.2) in
+        λ w. ap (λ f. with_found t w (to_replace t.number t.global (each_occurrence f (length w)))) (same_search s.0 s.1 w s.3) ∙ ap (λ e. by_expression g1 t e w) (sym s.2) in
         subst (λ o. Replaces g o (substituted_by g1 (Some t))) (sym (is.substitutions k t at))
         (b.expressions + s.0, ap (option_map (λ e. b.expressions + e)) s.2, s.4, ap (option_map (sink_behind b)) s.5, by)
 
-    makes_there : (a : Action) → edits p a ≡ true → Makes g (action_behind b a) (placed to (edit_of g1 a))
+    makes_there : (a : Action) → edits_line p a ≡ true → Makes g (action_behind b a) (placed to (edit_of g1 a))
     makes_there (Block n) h = refl
     makes_there (Plain Delete) h = tt
     makes_there (Substitute k) h = replaces_there k (slice_get p.substitutions k) refl h
@@ -297,7 +297,7 @@ module _ (p : Program) (files : ℕ → List ℕ) where
     makes_there other h = absurd cc
 
     module _ (Good : List ℕ → Type 0) (keeps_replaced : (k : ℕ) (w : List ℕ) → Good w → Good (substituted_by g1 (slice_get p.substitutions k) w)) (keeps_table : (k : ℕ) (w : List ℕ) → Good w → Good (map (in_table (slice_get p.tables k)) w)) where
-      fits_so : (a : Action) → edits p a ≡ true → Fits (length p.commands) Good (edit_of g1 a)
+      fits_so : (a : Action) → edits_line p a ≡ true → Fits (length p.commands) Good (edit_of g1 a)
       fits_so (Block n) h = grind (arith, nat_tests)
       fits_so (Plain Delete) h = tt
       fits_so (Substitute k) h = keeps_replaced k
@@ -329,17 +329,17 @@ in_first xs ys k x h = ap (slice_get (xs ++ ys)) (zero-add k) ∙ in_front xs ys
 
 first_placed : (p q : Program) → Placed p (in_turn p q) none_before
 first_placed p q = record {
-  commands = λ k c counts h test. in_first p.commands (map (command_behind (all_of p)) q.commands) k c h ∙ ap (λ c. Some c) (sym (same_command c));
+  commands = λ k c counts h test. in_first p.commands (map (command_behind (all_before p)) q.commands) k c h ∙ ap (λ c. Some c) (sym (same_command c));
   expressions = λ e x h. in_first p.expressions q.expressions e x h;
-  substitutions = λ k t h. in_first p.substitutions (map (substitution_behind (all_of p)) q.substitutions) k t h ∙ ap (λ t. Some t) (sym (same_substitution t));
+  substitutions = λ k t h. in_first p.substitutions (map (substitution_behind (all_before p)) q.substitutions) k t h ∙ ap (λ t. Some t) (sym (same_substitution t));
   tables = λ k x h. in_first p.tables q.tables k x h;
 }
 
-second_placed : (p q : Program) → Placed q (in_turn p q) (all_of p)
+second_placed : (p q : Program) → Placed q (in_turn p q) (all_before p)
 second_placed p q = record {
-  commands = λ k c counts h test. behind_all (command_behind (all_of p)) p.commands q.commands k c h;
+  commands = λ k c counts h test. behind_all (command_behind (all_before p)) p.commands q.commands k c h;
   expressions = λ e x h. slice_get-append_add p.expressions q.expressions e ∙ h;
-  substitutions = λ k t h. behind_all (substitution_behind (all_of p)) p.substitutions q.substitutions k t h;
+  substitutions = λ k t h. behind_all (substitution_behind (all_before p)) p.substitutions q.substitutions k t h;
   tables = λ k x h. slice_get-append_add p.tables q.tables k ∙ h;
 }
 
@@ -364,8 +364,8 @@ no_more p = slice_get_past p.commands (length p.commands) (omega arith)
 
 no_more_of_both : (p q : Program) → slice_get (in_turn p q).commands (length p.commands + length q.commands) ≡ None
 no_more_of_both p q =
-    let all : List Command = map (command_behind (all_of p)) q.commands in
-    slice_get_past (p.commands ++ all) (length p.commands + length q.commands) (omega (arith, length-append p.commands all, length-map q.commands (command_behind (all_of p))))
+    let all : List Command = map (command_behind (all_before p)) q.commands in
+    slice_get_past (p.commands ++ all) (length p.commands + length q.commands) (omega (arith, length-append p.commands all, length-map q.commands (command_behind (all_before p))))
 
 idle_at_first : {A : Type 0} (xs : List A) (k : ℕ) → slice_index_or (map (λ _. false) xs) k false ≡ false
 idle_at_first [] k = refl
@@ -386,14 +386,14 @@ pub in_turn_law : (p q : Program) (files : ℕ → List ℕ) (input middle : Lis
     RunsTo p files input (to_sink 0 middle) → RunsTo q files middle out → RunsTo (in_turn p q) files input out
 in_turn_law p q files input middle out only_p only_q breaks a b =
     let r : Program = in_turn p q in
-    let moved : List Command = map (command_behind (all_of p)) q.commands in
-    let long : length r.commands ≡ length p.commands + length q.commands = omega (arith, length-append p.commands moved, length-map q.commands (command_behind (all_of p))) in
+    let moved : List Command = map (command_behind (all_before p)) q.commands in
+    let long : length r.commands ≡ length p.commands + length q.commands = omega (arith, length-append p.commands moved, length-map q.commands (command_behind (all_before p))) in
     let loud : r.quiet ≡ false = rw (only_p.loud, only_q.loud) refl in
     let first : (k : ℕ) → k < length p.commands → Both SameLines (setting_of p files) (setting_of r files) (length p.commands) (λ k. k) Unbroken k =
     λ k less. subst (λ to. Both SameLines (setting_of p files) (setting_of r files) (length p.commands) to Unbroken k) (fun_ext zero-add)
     (both_at p files r none_before (first_placed p q) Unbroken (replaced_unbroken p files breaks) (λ k w h. unbroken_map (in_table (slice_get p.tables k)) (breaks.tables k) w h) true only_p k less) in
-    let second = both_at q files r (all_of p) (second_placed p q) (λ w. Unit {0}) (λ k w h. tt) (λ k w h. tt) false only_q in
+    let second = both_at q files r (all_before p) (second_placed p q) (λ w. Unit {0}) (λ k w h. tt) (λ k w h. tt) false only_q in
     in_turn_run (setting_of p files) (setting_of q files) (setting_of r files) (length p.commands) (length q.commands) only_p.loud only_q.loud loud (no_more p) (no_more q) (no_more_of_both p q) first second
-    input middle out (map (λ _. false) p.commands) (map (λ _. false) q.commands) (map (λ _. false) r.commands) (start p.commands (lines input)) (start r.commands (lines input)) (start q.commands (lines middle))
+    input middle out (map (λ _. false) p.commands) (map (λ _. false) q.commands) (map (λ _. false) r.commands) (start p.commands (split_lines input)) (start r.commands (split_lines input)) (start q.commands (split_lines middle))
     (starts_idle p r (λ k. k) (λ k less. omega (arith, less, long))) (starts_idle q r (λ k. length p.commands + k) (λ k less. omega (arith, less, long)))
-    (starts p (lines input)) (starts r (lines input)) (starts q (lines middle)) a b
+    (starts p (split_lines input)) (starts r (split_lines input)) (starts q (split_lines middle)) a b

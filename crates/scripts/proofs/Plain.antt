@@ -15,7 +15,7 @@ use Rattle.sedengine.specs.Move.{next_move, after, written, to_sink, line_to}
 use Rattle.examples.proofs.ScriptWords.{always, at, from_to, unless}
 use Rattle.sededit.specs.Editing.{IsOutput}
 use Rattle.scripts.specs.Edited.{text_of}
-use Rattle.scripts.specs.Words.{numbered, odd_ones}
+use Rattle.scripts.specs.Words.{numbered_lines, odd_ones}
 use Rattle.scripts.proofs.Cycles.{Goes, ends_on, between, ends_there, each_line, line_first}
 
 -- a setting in which nothing is substituted
@@ -92,8 +92,8 @@ module _ (finds : ℕ → List ℕ → Bool) (search : ℕ → List ℕ → ℕ 
   unfolding next_move after written selects
   number_cycle number line rest turns = record { moves = 6; is = refl; wrote = simp append-nil refl }
 
-  pub number_run : (lines : List (List ℕ)) (number turns : ℕ) → IsOutput (runs false (always (Plain LineNumber) ∷ [])) (one_at lines number turns) (to_sink 0 (text_of (numbered (number + 1) lines)))
-  number_run = each_line (runs false (always (Plain LineNumber) ∷ [])) one_at (λ n ls. numbered (n + 1) ls) (λ n line rest. decimal (n + 1) ∷ line ∷ []) (λ n. refl) (λ n line rest. refl) (one_ends false (always (Plain LineNumber)))
+  pub number_run : (lines : List (List ℕ)) (number turns : ℕ) → IsOutput (runs false (always (Plain LineNumber) ∷ [])) (one_at lines number turns) (to_sink 0 (text_of (numbered_lines (number + 1) lines)))
+  number_run = each_line (runs false (always (Plain LineNumber) ∷ [])) one_at (λ n ls. numbered_lines (n + 1) ls) (λ n line rest. decimal (n + 1) ∷ line ∷ []) (λ n. refl) (λ n line rest. refl) (one_ends false (always (Plain LineNumber)))
       (λ n line rest turns. (turns + 1 + 1, subst (Goes (runs false (always (Plain LineNumber) ∷ [])) (one_at (line ∷ rest) n turns) (one_at rest (n + 1) (turns + 1 + 1))) (line_first (decimal (n + 1)) (line ∷ [])) (number_cycle n line rest turns)))
 
   -- ---- `$!d`, and `$p` with -n

@@ -18,7 +18,7 @@ use Rattle.sedscript.specs.declared.letters.Verb.TheVariants.{Plain}
 use Rattle.sedscript.specs.declared.items.Argument.TheVariants.{Nothing}
 use Rattle.sedscript.specs.declared.types.Simple.{Simple}
 use Rattle.sedscript.specs.declared.types.Simple.TheVariants.{Print, Delete}
-use Rattle.sedscript.specs.Items.{found, address_at, addresses_at, addresses_of, after_first, with_addresses, match_at, with_bang, function_at, item_at, Pattern, Reading, plainly, expression, ◌>>=◌, function_after, item_with, item_of}
+use Rattle.sedscript.specs.Items.{address_found, address_at, addresses_at, addresses_of, after_first, with_addresses, match_at, with_bang, function_at, item_at, Pattern, Reading, plainly, expression, ◌>>=◌, function_after, item_with, item_of}
 use Rattle.sedscript.specs.Bytes.{past, bytes_between, is_blank, belongs}
 use Rattle.sedscript.specs.Script.{IsRead, Gives, value, after_expression, Means}
 use Rattle.sedscript.specs.Program.{Program}
@@ -66,7 +66,7 @@ module _ (re : List ℕ) (e : Tree) (groups : ℕ) (is : IsSlashed re e groups) 
   abbrev matched : Reading ItemOrEnd
   matched = after_first text 1 (slash + 1) (Some (Match (Some 0))) >>= function_after text
 
-  slashed_address : address_at text 0 0 ≡ expression (pattern 1 slash) (λ groups. plainly (found (Some (Match (Some 0))) (slash + 1) 1))
+  slashed_address : address_at text 0 0 ≡ expression (pattern 1 slash) (λ groups. plainly (address_found (Some (Match (Some 0))) (slash + 1) 1))
   unfolding address_at match_at delimiter_at
   slashed_address = rw (is.ends 1 (b ∷ rest), not_empty, byte_there text (slash + 1) b rest behind_slash, other) refl
 

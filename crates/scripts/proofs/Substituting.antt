@@ -20,7 +20,7 @@ use Rattle.sedscript.specs.Items.{address_at, addresses_at, addresses_of, functi
 use Rattle.sedscript.specs.Arguments.{flags_after, unless_fault, flags_from, no_flags}
 use Rattle.sedscript.specs.Letters.{substituted, flagged}
 use Rattle.sedscript.specs.Bytes.{bytes_between}
-use Rattle.sedscript.specs.Pieces.{GroupsWithin}
+use Rattle.sedscript.specs.Pieces.{PieceGroupsWithin}
 use Rattle.sedscript.specs.Strings.{pieces_of, replacement_fault, string_end}
 use Rattle.sedscript.specs.Script.{Means}
 use Rattle.sedscript.specs.Program.{Program}
@@ -35,7 +35,7 @@ use Rattle.scripts.proofs.Meanings.{of_commands}
 use Rattle.scripts.proofs.Numbers.{drop_on, past_none, ends_there, means_one, ends_command, not_quiet}
 use Rattle.scripts.proofs.Slashes.{pattern, is_read, gives_one, with_expression}
 
-module _ (re : List ℕ) (e : Tree) (groups : ℕ) (is : IsSlashed re e groups) (pieces : List Piece) (nine : GroupsWithin 9 pieces) (has_groups : GroupsWithin groups pieces) where
+module _ (re : List ℕ) (e : Tree) (groups : ℕ) (is : IsSlashed re e groups) (pieces : List Piece) (nine : PieceGroupsWithin 9 pieces) (has_groups : PieceGroupsWithin groups pieces) where
   abbrev put : List ℕ
   put = written_pieces 47 pieces
 

@@ -19,7 +19,7 @@ use Rattle.sedscript.specs.Bytes.{bytes_between}
 use Rattle.sedscript.specs.Script.{Means}
 use Rattle.sedscript.specs.Program.{Program}
 use Rattle.sedscript.specs.Strings.{string_end, bytes_of, chars_from, is_among, repeated_in, strings_fault, table_of}
-use Rattle.examples.specs.Strings.{written}
+use Rattle.examples.specs.Strings.{written_string}
 use Rattle.examples.proofs.ScriptWords.{always}
 use Rattle.examples.proofs.StringReading.{string_read}
 use Rattle.examples.proofs.WrittenEnds.{string_whole}
@@ -39,10 +39,10 @@ none_repeated before (c ∷ cs) e = by_test (is_among before c.byte) refl e (non
 
 module _ (s1 s2 : List ℕ) (once : each_once [] s1 ≡ true) (long : length s1 ≡ length s2) where
   abbrev one : List ℕ
-  one = written 47 s1
+  one = written_string 47 s1
 
   abbrev two : List ℕ
-  two = written 47 s2
+  two = written_string 47 s2
 
   abbrev text : List ℕ
   text = 121 ∷ 47 ∷ (one ++ 47 ∷ (two ++ 47 ∷ []))

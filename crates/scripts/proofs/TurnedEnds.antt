@@ -5,7 +5,7 @@ use Rattle.sedre.specs.declared.types.Kind.TheVariants.{Basic}
 use Rattle.sedscript.specs.Script.{Means}
 use Rattle.sedscript.specs.Program.{Program}
 use Rattle.std.specs.List.{onto_first}
-use Rattle.sedspace.specs.Lines.{is_newline, lines}
+use Rattle.sedspace.specs.Lines.{is_newline, split_lines}
 use Rattle.sedspace.proofs.LineLemmas.{lines_nil}
 use Rattle.scripts.proofs.Cutting.{lines_yes, lines_no}
 use Rattle.sedengine.specs.State.{Limits, Task, begin, flush, empty_pattern, State, Setting, finds_in, search_in, setting_of}
@@ -148,7 +148,7 @@ module _ (l : Limits) (finds : ℕ → List ℕ → Bool) (search : ℕ → List
       (round_comes line rest 0 [] 0 (omega (arith, small)) (omega (arith, few)))
 
 -- the lines of bytes are no larger than these, and a newline more
-pub size_of_lines : (bytes : List ℕ) → size_of (lines bytes) ≤ length bytes + 1
+pub size_of_lines : (bytes : List ℕ) → size_of (split_lines bytes) ≤ length bytes + 1
 size_of_lines [] = rw lines_nil (omega arith)
 size_of_lines (b ∷ bs) = by_test (is_newline b) refl (size_of_lines bs)
   where
@@ -156,9 +156,9 @@ size_of_lines (b ∷ bs) = by_test (is_newline b) refl (size_of_lines bs)
     onto_size [] h = omega arith
     onto_size (line ∷ rest) h = omega (arith, h)
 
-    by_test : (t : Bool) → is_newline b ≡ t → size_of (lines bs) ≤ length bs + 1 → size_of (lines (b ∷ bs)) ≤ suc (length bs) + 1
+    by_test : (t : Bool) → is_newline b ≡ t → size_of (split_lines bs) ≤ length bs + 1 → size_of (split_lines (b ∷ bs)) ≤ suc (length bs) + 1
     by_test true e h = rw (lines_yes b bs e) (omega (arith, h))
-    by_test false e h = rw (lines_no b bs e) (onto_size (lines bs) h)
+    by_test false e h = rw (lines_no b bs e) (onto_size (split_lines bs) h)
 
 lines_size : (ls : List (List ℕ)) → length ls ≤ size_of ls
 lines_size [] = omega arith
@@ -167,24 +167,24 @@ lines_size (line ∷ rest) = let more = lines_size rest in omega (arith, more)
 -- A run within ample limits ends in the ordinary way, and has written the lines in reverse order, where no device has failed or
 -- is full.
 pub turned_done : (l : Limits) (input : List ℕ) (finds : ℕ → List ℕ → Bool) (search : ℕ → List ℕ → ℕ → Option Occurrence) (files : ℕ → List ℕ) (out : List (ℕ × ℕ)) (end : Ended) (t : ℕ) → Ample l 4 input → NoDevice end →
-    IsCause l (turns_round finds search files) (between (lines input) 0 [] false (false ∷ false ∷ false ∷ []) None 0) out end t → (end ≡ Done) × (out ≡ to_sink 0 (text_of (reverse (lines input))))
+    IsCause l (turns_round finds search files) (between (split_lines input) 0 [] false (false ∷ false ∷ false ∷ []) None 0) out end t → (end ≡ Done) × (out ≡ to_sink 0 (text_of (reverse (split_lines input))))
 unfolding Within
 turned_done l input finds search files out end t ample free cause =
     let small = size_of_lines input in
-    let few = lines_size (lines input) in
+    let few = lines_size (split_lines input) in
     let some : 0 < l.turns = omega (arith, ample.turns_left) in
     let low : Limits = record l { turns = l.turns - 1 } in
-    let fewer : 4 * length (lines input) ≤ l.turns - 1 = omega (arith, ample.turns_left, small, few) in
-    let come = round_run low finds search files (lines input) (omega (arith, ample.space, small)) fewer in
-    ends_done l (turns_round finds search files) (between (lines input) 0 [] false (false ∷ false ∷ false ∷ []) None 0) out come.0 (to_sink 0 (text_of (reverse (lines input)))) come.1.cause come.1.wrote
+    let fewer : 4 * length (split_lines input) ≤ l.turns - 1 = omega (arith, ample.turns_left, small, few) in
+    let come = round_run low finds search files (split_lines input) (omega (arith, ample.space, small)) fewer in
+    ends_done l (turns_round finds search files) (between (split_lines input) 0 [] false (false ∷ false ∷ false ∷ []) None 0) out come.0 (to_sink 0 (text_of (reverse (split_lines input)))) come.1.cause come.1.wrote
     (λ k h. let f = come.1.within k h in record { pattern = f.pattern; hold = f.hold; queue = f.queue; turns = omega (arith, f.turns) })
     (λ k h. let f = come.1.within k h in omega (arith, f.turns, some)) end t free cause
 
 -- the same of any script that the text means
 pub turned_ends : OneMeaning → (l : Limits) (p : Program) (files : ℕ → List ℕ) (input : List ℕ) (out : List (ℕ × ℕ)) (end : Ended) (t : ℕ) → Means (codes "1!G;h;$!d") Basic 65536 p → Ample l 4 input → NoDevice end →
-    IsCause l (setting_of p files) (start p.commands (lines input)) out end t → (end ≡ Done) × (out ≡ to_sink 0 (text_of (reverse (lines input))))
+    IsCause l (setting_of p files) (start p.commands (split_lines input)) out end t → (end ≡ Done) × (out ≡ to_sink 0 (text_of (reverse (split_lines input))))
 turned_ends one l p files input out end t m ample free cause =
     let q : Program = turned_program in
     let same = one (codes "1!G;h;$!d") Basic 65536 p q m turned_means in
-    let moved = same_run (λ g s. IsCause l g s out end t) p.commands q.commands p.texts q.texts p.substitutions q.substitutions p.tables q.tables p.quiet q.quiet p.expressions files (lines input) same.0 same.1 same.2 same.3 same.6 cause in
+    let moved = same_run (λ g s. IsCause l g s out end t) p.commands q.commands p.texts q.texts p.substitutions q.substitutions p.tables q.tables p.quiet q.quiet p.expressions files (split_lines input) same.0 same.1 same.2 same.3 same.6 cause in
     turned_done l input (finds_in p.expressions) (search_in p.expressions) files out end t ample free moved

@@ -3,7 +3,7 @@ use Rattle.std.proofs.Common.{◌≡◌, ℕ, zero, suc, List, [], ◌∷◌, �
 use Rattle.std.specs.Prelude.{slice_range}
 use Rattle.std.specs.List.{list_any}
 use Rattle.std.proofs.lemmas.List.Folds.{list_any-append}
-use Rattle.sedspace.specs.Lines.{is_newline, lines}
+use Rattle.sedspace.specs.Lines.{is_newline, split_lines}
 use Rattle.sedspace.proofs.LineLemmas.{lines_nil}
 use Rattle.sedre.specs.Tree.{Tree}
 use Rattle.std.proofs.lemmas.List.{length-map}
@@ -11,7 +11,7 @@ use Rattle.sedmatch.specs.Matching.{leftmost_longest}
 use Rattle.sedmatch.specs.Groups.{part_of, span_of}
 use Rattle.sedscript.specs.declared.substitution.Piece.{Piece}
 use Rattle.sedscript.specs.declared.substitution.Piece.TheVariants.{Literal, Whole, Group}
-use Rattle.sedengine.specs.Substitute.{Occurrence, occurrences, put_for, replaced_from}
+use Rattle.sedengine.specs.Substitute.{Occurrence, each_occurrence, put_for, replaced_from}
 use Rattle.scripts.specs.Edited.{text_of}
 use Rattle.scripts.specs.InTurn.{is_break}
 use Rattle.examples.proofs.LineLaws.{line_again}
@@ -73,12 +73,12 @@ none_broken_map f keeps (line ∷ rest) h = (keeps line h.0, none_broken_map f k
 
 -- ---- what is written of lines has these lines
 
-pub lines_again : (ls : List (List ℕ)) → NoneBroken ls → lines (text_of ls) ≡ ls
+pub lines_again : (ls : List (List ℕ)) → NoneBroken ls → split_lines (text_of ls) ≡ ls
 lines_again [] none = lines_nil
 lines_again (line ∷ rest) none = line_again line (text_of rest) none.0 ∙ ap (λ (more : List (List ℕ)). line ∷ more) (lines_again rest none.1)
 
 -- `s/RE/text/g` makes one line of each, where the text has no newline
-pub line_for_line_law : (e : Tree) (text : List Piece) (input : List ℕ) → list_any is_break text ≡ false → length (lines (text_of (map (replaced e text) (lines input)))) ≡ length (lines input)
+pub line_for_line_law : (e : Tree) (text : List Piece) (input : List ℕ) → list_any is_break text ≡ false → length (split_lines (text_of (map (replaced e text) (split_lines input)))) ≡ length (split_lines input)
 line_for_line_law e text input none =
-    ap length (lines_again (map (replaced e text) (lines input)) (none_broken_map (replaced e text) (λ w h. unbroken_replaced w text 0 (occurrences (λ from. match_with e w (leftmost_longest e w from)) (length w)) h none) (lines input) (lines_none_broken input)))
-    ∙ length-map (lines input) (replaced e text)
+    ap length (lines_again (map (replaced e text) (split_lines input)) (none_broken_map (replaced e text) (λ w h. unbroken_replaced w text 0 (each_occurrence (λ from. match_with e w (leftmost_longest e w from)) (length w)) h none) (split_lines input) (lines_none_broken input)))
+    ∙ length-map (split_lines input) (replaced e text)

@@ -5,12 +5,12 @@ use Rattle.std.specs.List.{list_all, list_any, onto_first, range_with_len}
 use Rattle.std.proofs.lemmas.Bool.{eqb-true}
 use Rattle.std.proofs.lemmas.Bool.Decides.{nat_tests}
 use Rattle.std.proofs.lemmas.List.FromFn.{get_or-map-range_with_len}
-use Rattle.sedspace.specs.Lines.{is_newline, lines}
+use Rattle.sedspace.specs.Lines.{is_newline, split_lines}
 use Rattle.sedspace.proofs.LineLemmas.{lines_nil}
 use Rattle.sedscript.specs.Strings.{counterpart, is_among, table_of}
 use Rattle.sedengine.specs.Move.{in_table}
 use Rattle.examples.proofs.ComputedEnds.{both}
-use Rattle.scripts.specs.Edited.{Writes, text_of}
+use Rattle.scripts.specs.Edited.{EditsIntoLines, text_of}
 use Rattle.scripts.specs.Words.{HasWayBack, by_table, y_of}
 use Rattle.scripts.proofs.Truth.{neither, not_so}
 use Rattle.scripts.proofs.Cutting.{lines_yes, lines_no}
@@ -167,7 +167,7 @@ module _ (s1 s2 input : List ℕ) (way : HasWayBack s1 s2 input) where
   EachMay [] = Unit {0}
   EachMay (line ∷ rest) = (list_all may line ≡ true) × EachMay rest
 
-  lines_may : (bytes : List ℕ) → list_all may bytes ≡ true → EachMay (lines bytes)
+  lines_may : (bytes : List ℕ) → list_all may bytes ≡ true → EachMay (split_lines bytes)
   lines_may [] h = subst EachMay (sym lines_nil) tt
   lines_may (b ∷ bs) h = by_test (lines_may bs) (is_newline b) refl
     where
@@ -178,9 +178,9 @@ module _ (s1 s2 input : List ℕ) (way : HasWayBack s1 s2 input) where
       onto [] each = (rw two.0 refl, tt)
       onto (line ∷ rest) each = (rw two.0 each.0, each.1)
 
-      by_test : (list_all may bs ≡ true → EachMay (lines bs)) → (t : Bool) → is_newline b ≡ t → EachMay (lines (b ∷ bs))
+      by_test : (list_all may bs ≡ true → EachMay (split_lines bs)) → (t : Bool) → is_newline b ≡ t → EachMay (split_lines (b ∷ bs))
       by_test on true is = subst EachMay (sym (lines_yes b bs is)) (refl, on two.1)
-      by_test on false is = subst EachMay (sym (lines_no b bs is)) (onto (lines bs) (on two.1))
+      by_test on false is = subst EachMay (sym (lines_no b bs is)) (onto (split_lines bs) (on two.1))
 
   lines_come : (ls : List (List ℕ)) → EachMay ls → map (by_table s2 s1) (map (by_table s1 s2) ls) ≡ ls
   lines_come [] each = refl
@@ -190,12 +190,12 @@ module _ (s1 s2 input : List ℕ) (way : HasWayBack s1 s2 input) where
   lines_whole [] each none = tt
   lines_whole (line ∷ rest) each none = (line_whole line each.0 none.0, lines_whole rest each.1 none.1)
 
-  middle_back : map (by_table s2 s1) (lines (text_of (map (by_table s1 s2) (lines input)))) ≡ lines input
+  middle_back : map (by_table s2 s1) (split_lines (text_of (map (by_table s1 s2) (split_lines input)))) ≡ split_lines input
   middle_back =
       let each = lines_may input way.back in
-      ap (map (by_table s2 s1)) (lines_again (map (by_table s1 s2) (lines input)) (lines_whole (lines input) each (lines_none_broken input))) ∙ lines_come (lines input) each
+      ap (map (by_table s2 s1)) (lines_again (map (by_table s1 s2) (split_lines input)) (lines_whole (split_lines input) each (lines_none_broken input))) ∙ lines_come (split_lines input) each
 
-pub back_again_law : OneMeaning → (s1 s2 input : List ℕ) → HasWayBack s1 s2 input → Writes false (y_of s2 s1) (text_of (map (by_table s1 s2) (lines input))) (lines input)
+pub back_again_law : OneMeaning → (s1 s2 input : List ℕ) → HasWayBack s1 s2 input → EditsIntoLines false (y_of s2 s1) (text_of (map (by_table s1 s2) (split_lines input))) (split_lines input)
 back_again_law one s1 s2 input way =
-    subst (λ ls. Writes false (y_of s2 s1) (text_of (map (by_table s1 s2) (lines input))) ls) (middle_back s1 s2 input way)
-    (bytes_law one s2 s1 (text_of (map (by_table s1 s2) (lines input))) way.second_once (sym way.long))
+    subst (λ ls. EditsIntoLines false (y_of s2 s1) (text_of (map (by_table s1 s2) (split_lines input))) ls) (middle_back s1 s2 input way)
+    (bytes_law one s2 s1 (text_of (map (by_table s1 s2) (split_lines input))) way.second_once (sym way.long))

@@ -6,11 +6,11 @@ use Rattle.std.proofs.lemmas.Option.{slice_get_within}
 use Rattle.sedre.specs.declared.types.Kind.TheVariants.{Basic}
 use Rattle.sedscript.specs.Script.{Means}
 use Rattle.sedscript.specs.Program.{Program}
-use Rattle.sedspace.specs.Lines.{lines}
+use Rattle.sedspace.specs.Lines.{split_lines}
 use Rattle.sedspace.specs.Failures.{Rose}
 use Rattle.sedengine.specs.State.{Limits, State, Setting, setting_of}
 use Rattle.sedengine.specs.Move.{after, newline, to_sink, written}
-use Rattle.sedengine.specs.Ends.{GainedWithin, SourceAtEnd, part, BrokenOff, IsCause, size_of}
+use Rattle.sedengine.specs.Ends.{GainedWithin, SourceAtEnd, bytes_of_sink, BrokenOff, IsCause, size_of}
 use Rattle.sedengine.specs.DevicesAfter.{SinksAtEnd}
 use Rattle.sedengine.specs.declared.ends.Ended.{Ended}
 use Rattle.sedengine.specs.declared.ends.Ended.TheVariants.{Done, PatternFull, HoldFull, QueueFull, TurnsSpent, NoPrevious, InputBroken, OutputBroken, OutputFull}
@@ -32,11 +32,11 @@ longest_prefix bs zero = omega arith
 longest_prefix [] (suc n) = omega arith
 longest_prefix (b ∷ bs) (suc n) = let more = longest_prefix bs n in omega (arith, more)
 
-part_no_longer : (k : ℕ) (bs : List (ℕ × ℕ)) → length (part k bs) ≤ length bs
+part_no_longer : (k : ℕ) (bs : List (ℕ × ℕ)) → length (bytes_of_sink k bs) ≤ length bs
 part_no_longer k [] = omega arith
 part_no_longer k ((sink, byte) ∷ bs) = by_test (nat_eq sink k) (part_no_longer k bs)
   where
-    by_test : (t : Bool) → length (part k bs) ≤ length bs → length (if t then byte ∷ part k bs else part k bs) ≤ suc (length bs)
+    by_test : (t : Bool) → length (bytes_of_sink k bs) ≤ length bs → length (if t then byte ∷ bytes_of_sink k bs else bytes_of_sink k bs) ≤ suc (length bs)
     by_test true more = omega (arith, more)
     by_test false more = omega (arith, more)
 
@@ -82,7 +82,7 @@ is_not_zero : (k : ℕ) → nat_eq (suc k) 0 ≡ false
 is_not_zero k = grind arith
 
 module _ (old bytes : List ℕ) (was failed : ℕ) (nothing : old ≡ []) where
-  holds_part : (most : Option ℕ) (end : Ended) (out : List (ℕ × ℕ)) → GainedWithin most nothing_before (held old) (held bytes) (Err end) out → bytes ≡ part 0 out
+  holds_part : (most : Option ℕ) (end : Ended) (out : List (ℕ × ℕ)) → GainedWithin most nothing_before (held old) (held bytes) (Err end) out → bytes ≡ bytes_of_sink 0 out
   holds_part most end out h = let e = rw nothing at (h.gained.each 0) in e
 
   -- the sink of an edit that writes less than the room isn't broken
@@ -119,13 +119,13 @@ no_files one p m = let same = (one (codes "1!G;h;$!d") Basic 65536 p turned_prog
 
 pub whole_edit : OneMeaning → (l : Limits) (p : Program) (input old bytes : List ℕ) (was failed : ℕ) (end : Ended) (before left : Option (List ℕ)) → Means (codes "1!G;h;$!d") Basic 65536 p → IsAmple l → length input < ample_room → old ≡ [] →
     (0 < failed → ample_room ≤ length bytes) → SourceAtEnd 0 0 end → SinksAtEnd l.output (failures was) (failures failed) (Err end) →
-    (out : List (ℕ × ℕ)) × GainedWithin l.output nothing_before (held old) (held bytes) (Err end) out × EditEnds l (setting_of p (λ k. [])) (start_over p input) out before left end → (end ≡ Done) × (bytes ≡ text_of (reverse (lines input)))
+    (out : List (ℕ × ℕ)) × GainedWithin l.output nothing_before (held old) (held bytes) (Err end) out × EditEnds l (setting_of p (λ k. [])) (start_over p input) out before left end → (end ≡ Done) × (bytes ≡ text_of (reverse (split_lines input)))
 whole_edit one l p input old bytes was failed end before left m is small nothing full source sinks (out, gains, edits) =
-    let text : List ℕ = text_of (reverse (lines input)) in
+    let text : List ℕ = text_of (reverse (split_lines input)) in
     let ends : IsOutput (setting_of p (λ k. [])) (start_over p input) (to_sink 0 text) = (turned_law one input).runs p (λ k. []) m in
     let size = size_of_lines input in
-    let fits : length (to_sink 0 text) ≤ ample_room = omega (arith, sink_length 0 text, text_length (reverse (lines input)), size_turned (lines input), size, small) in
+    let fits : length (to_sink 0 text) ≤ ample_room = omega (arith, sink_length 0 text, text_length (reverse (split_lines input)), size_turned (split_lines input), size, small) in
     let free = no_device l (setting_of p (λ k. [])) (start_over p input) old bytes was failed (to_sink 0 text) out end edits.t nothing is.output ends fits full source sinks gains edits.cause in
     let done = turned_ends one l p (λ k. []) input out end edits.t m
     (record { space = omega (arith, small, is.space); turns_left = omega (arith, small, is.turns) }) free edits.cause in
-    (done.0, holds_part old bytes was failed nothing l.output end out gains ∙ ap (part 0) done.1 ∙ part-same 0 text)
+    (done.0, holds_part old bytes was failed nothing l.output end out gains ∙ ap (bytes_of_sink 0) done.1 ∙ part-same 0 text)

@@ -16,7 +16,7 @@ abbrev pub with_option : Bool → Program → Program
 with_option quiet p = record p { quiet = quiet || p.quiet }
 
 -- The text means a script, and whatever the files are that it reads, a run of it ends and has written these bytes.
-pub record Sends (quiet : Bool) (text input : List ℕ) (out : List (ℕ × ℕ)) : Type 0 where
+pub record EditsInto (quiet : Bool) (text input : List ℕ) (out : List (ℕ × ℕ)) : Type 0 where
   pub means : (p : Program) × Means text Basic 65536 p
   pub runs : (p : Program) (files : ℕ → List ℕ) → Means text Basic 65536 p → RunsTo (with_option quiet p) files input out
 
@@ -26,5 +26,5 @@ text_of [] = []
 text_of (line ∷ more) = line ++ newline ∷ text_of more
 
 -- it has written these lines to the standard output
-abbrev pub Writes : (quiet : Bool) (text input : List ℕ) (out : List (List ℕ)) → Type 0
-Writes quiet text input out = Sends quiet text input (to_sink 0 (text_of out))
+abbrev pub EditsIntoLines : (quiet : Bool) (text input : List ℕ) (out : List (List ℕ)) → Type 0
+EditsIntoLines quiet text input out = EditsInto quiet text input (to_sink 0 (text_of out))

@@ -35,15 +35,15 @@ replaces_only p None = false
 replaces_only p (Some t) = is_own p t.expression && (not t.print && is_none t.file)
 
 -- `{`, `d`, `s` and `y`, whose numbers are in the script
-abbrev pub edits : Program → Action → Bool
-edits p (Block next) = nat_le next (length p.commands)
-edits p (Plain Delete) = true
-edits p (Substitute k) = replaces_only p (slice_get p.substitutions k)
-edits p (Transliterate k) = is_some (slice_get p.tables k)
-edits p other = false
+abbrev pub edits_line : Program → Action → Bool
+edits_line p (Block next) = nat_le next (length p.commands)
+edits_line p (Plain Delete) = true
+edits_line p (Substitute k) = replaces_only p (slice_get p.substitutions k)
+edits_line p (Transliterate k) = is_some (slice_get p.tables k)
+edits_line p other = false
 
 abbrev pub only_edits : (counts : Bool) → Program → Command → Bool
-only_edits counts p c = asks_own counts p c.first && (asks_own counts p c.second && edits p c.action)
+only_edits counts p c = asks_own counts p c.first && (asks_own counts p c.second && edits_line p c.action)
 
 -- Each command of the script is one of these, and it has no -n: so it writes by default only. Where lines aren't counted, what it
 -- does to a line depends on that line's text and on those before it alone.
@@ -71,8 +71,8 @@ pub record Before : Type 0 where
   pub rfiles : ℕ
   pub wfiles : ℕ
 
-abbrev pub all_of : Program → Before
-all_of p = record {
+abbrev pub all_before : Program → Before
+all_before p = record {
   commands = length p.commands;
   expressions = length p.expressions;
   texts = length p.texts;
@@ -115,10 +115,10 @@ substitution_behind b t = record t { expression = option_map (λ e. b.expression
 -- the commands of one script, and then those of another
 abbrev pub in_turn : Program → Program → Program
 in_turn p q = record {
-  commands = p.commands ++ map (command_behind (all_of p)) q.commands;
+  commands = p.commands ++ map (command_behind (all_before p)) q.commands;
   expressions = p.expressions ++ q.expressions;
   texts = p.texts ++ q.texts;
-  substitutions = p.substitutions ++ map (substitution_behind (all_of p)) q.substitutions;
+  substitutions = p.substitutions ++ map (substitution_behind (all_before p)) q.substitutions;
   tables = p.tables ++ q.tables;
   rfiles = p.rfiles ++ q.rfiles;
   wfiles = p.wfiles ++ q.wfiles;

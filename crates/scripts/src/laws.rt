@@ -3,7 +3,7 @@
 ghost use Rattle.std.specs.Prelude.{◌≡◌, ◌<◌, ◌-◌, ◌^◌, ℕ, List, [], ◌∷◌, ◌++◌, false, true, Option, codes, decimal, drop, length, map, reverse, take};
 ghost use Rattle.std.specs.List.{filter, flat_map, list_any};
 ghost use Rattle.sedre.specs.Tree.{Tree};
-ghost use Rattle.sedscript.specs.Pieces.{GroupsWithin};
+ghost use Rattle.sedscript.specs.Pieces.{PieceGroupsWithin};
 ghost use Rattle.sedre.specs.declared.types.Kind.{Kind};
 ghost use Rattle.sedscript.specs.Script.{Means, with_part};
 ghost use Rattle.sedscript.specs.Program.{Program};
@@ -15,22 +15,22 @@ ghost use Rattle.scripts.specs.Ampleness.{Ample, ComesTo};
 ghost use Rattle.sedscript.specs.Strings.{is_among};
 ghost use Rattle.sedscript.specs.declared.substitution.Piece.{Piece};
 ghost use Rattle.sedspace.specs.Stream.{AreWholeLines};
-ghost use Rattle.sedspace.specs.Lines.{lines};
-ghost use Rattle.sedengine.specs.Ends.{Gained, part};
+ghost use Rattle.sedspace.specs.Lines.{split_lines};
+ghost use Rattle.sedengine.specs.Ends.{Gained, bytes_of_sink};
 ghost use Rattle.examples.specs.Strings.{NoneTwice};
 ghost use Rattle.examples.specs.WrittenReplacements.{written_pieces};
 ghost use Rattle.scripts.specs.Alone.{EachLooksAtLine};
-ghost use Rattle.scripts.specs.Edited.{RunsTo, Sends, Writes, text_of};
+ghost use Rattle.scripts.specs.Edited.{RunsTo, EditsInto, EditsIntoLines, text_of};
 ghost use Rattle.scripts.specs.InTurn.{BreaksNoLine, EachOnlyEdits, in_turn, is_break};
 ghost use Rattle.scripts.specs.OneText.{EditInTurn, HasLabel, LacksNewline, EachLeadsInside, ShareNoFile, ShareNoLabel};
 ghost use Rattle.scripts.specs.Slashed.{IsSlashed};
-ghost use Rattle.scripts.specs.Words.{HasWayBack, by_table, has_none, in_one, numbered, odd_ones, replaced, y_of};
+ghost use Rattle.scripts.specs.Words.{HasWayBack, by_table, has_none, in_one, numbered_lines, odd_ones, replaced, y_of};
 
 use sedscript::laws::one_meaning;
 
 /// The empty script writes the lines; with -n it writes nothing.
 pub fn empty()
-    ensures { (input : List ℕ) → Writes false (codes "") input (lines input) × Writes true (codes "") input [] }
+    ensures { (input : List ℕ) → EditsIntoLines false (codes "") input (split_lines input) × EditsIntoLines true (codes "") input [] }
 {
     one_meaning();
 }
@@ -38,22 +38,22 @@ pub fn empty()
 /// `p` writes each line twice; with -n once.
 pub fn print()
     ensures { (input : List ℕ) →
-        Writes false (codes "p") input (flat_map (λ line. line ∷ line ∷ []) (lines input)) × Writes true (codes "p") input (lines input) }
+        EditsIntoLines false (codes "p") input (flat_map (λ line. line ∷ line ∷ []) (split_lines input)) × EditsIntoLines true (codes "p") input (split_lines input) }
 {
     one_meaning();
 }
 
 /// `=` writes each line after its number.
 pub fn number()
-    ensures { (input : List ℕ) → Writes false (codes "=") input (numbered 1 (lines input)) }
+    ensures { (input : List ℕ) → EditsIntoLines false (codes "=") input (numbered_lines 1 (split_lines input)) }
 {
     one_meaning();
 }
 
 /// `$!d`, and `$p` with -n, write the last line.
 pub fn last()
-    ensures { (input : List ℕ) → let end = drop (length (lines input) - 1) (lines input) in
-        Writes false (codes "$!d") input end × Writes true (codes "$p") input end }
+    ensures { (input : List ℕ) → let end = drop (length (split_lines input) - 1) (split_lines input) in
+        EditsIntoLines false (codes "$!d") input end × EditsIntoLines true (codes "$p") input end }
 {
     one_meaning();
 }
@@ -61,7 +61,7 @@ pub fn last()
 /// `Nq` writes the first N lines, for any number N above 0.
 pub fn first()
     ensures { (n : ℕ) (input : List ℕ) → 0 < n → n < 2 ^ 64 →
-        Writes false (decimal n ++ codes "q") input (take n (lines input)) }
+        EditsIntoLines false (decimal n ++ codes "q") input (take n (split_lines input)) }
 {
     one_meaning();
 }
@@ -69,59 +69,59 @@ pub fn first()
 /// `N,Md` writes all lines but those from N to M, for any numbers N below M.
 pub fn without()
     ensures { (n m : ℕ) (input : List ℕ) → 0 < n → n < m → m < 2 ^ 64 →
-        Writes false (decimal n ++ (codes "," ++ (decimal m ++ codes "d"))) input (take (n - 1) (lines input) ++ drop m (lines input)) }
+        EditsIntoLines false (decimal n ++ (codes "," ++ (decimal m ++ codes "d"))) input (take (n - 1) (split_lines input) ++ drop m (split_lines input)) }
 {
     one_meaning();
 }
 
 /// `n;d` writes the first line, the third and so on.
 pub fn half()
-    ensures { (input : List ℕ) → Writes false (codes "n;d") input (odd_ones (lines input)) }
+    ensures { (input : List ℕ) → EditsIntoLines false (codes "n;d") input (odd_ones (split_lines input)) }
 {
     one_meaning();
 }
 
 /// `1!G;h;$!d` writes the lines in reverse order, as `tac` does.
 pub fn turned()
-    ensures { (input : List ℕ) → Writes false (codes "1!G;h;$!d") input (reverse (lines input)) }
+    ensures { (input : List ℕ) → EditsIntoLines false (codes "1!G;h;$!d") input (reverse (split_lines input)) }
 {
     one_meaning();
 }
 
 /// `$!N;P;D` writes the lines as they are.
 pub fn pairs()
-    ensures { (input : List ℕ) → Writes false (codes "$!N;P;D") input (lines input) }
+    ensures { (input : List ℕ) → EditsIntoLines false (codes "$!N;P;D") input (split_lines input) }
 {
     one_meaning();
 }
 
 /// `:a;$!{N;ba;};s/\n/,/g` writes the lines in one, with commas between them.
 pub fn joined()
-    ensures { (input : List ℕ) → Writes false (codes ":a;$!{N;ba;};s/\\n/,/g") input (in_one (lines input)) }
+    ensures { (input : List ℕ) → EditsIntoLines false (codes ":a;$!{N;ba;};s/\\n/,/g") input (in_one (split_lines input)) }
 {
     one_meaning();
 }
 
 /// `w f` writes to the file what it writes to the standard output, each line once.
 pub fn file()
-    ensures { (input : List ℕ) → (out : List (ℕ × ℕ)) × Sends false (codes "w f") input out
-        × (part 1 out ≡ text_of (lines input)) × (part 0 out ≡ text_of (lines input)) }
+    ensures { (input : List ℕ) → (out : List (ℕ × ℕ)) × EditsInto false (codes "w f") input out
+        × (bytes_of_sink 1 out ≡ text_of (split_lines input)) × (bytes_of_sink 0 out ≡ text_of (split_lines input)) }
 {
     one_meaning();
 }
 
 /// `/RE/d`, and `/RE/!p` with -n, write the lines in which the expression has no match, for any expression.
 pub fn unmatched()
-    ensures { (re : List ℕ) (e : Tree) (groups : ℕ) (input : List ℕ) → IsSlashed re e groups → let left = filter (has_none e) (lines input) in
-        Writes false (codes "/" ++ (re ++ codes "/d")) input left × Writes true (codes "/" ++ (re ++ codes "/!p")) input left }
+    ensures { (re : List ℕ) (e : Tree) (groups : ℕ) (input : List ℕ) → IsSlashed re e groups → let left = filter (has_none e) (split_lines input) in
+        EditsIntoLines false (codes "/" ++ (re ++ codes "/d")) input left × EditsIntoLines true (codes "/" ++ (re ++ codes "/!p")) input left }
 {
     one_meaning();
 }
 
 /// `s/RE/text/g` writes each line with its occurrences replaced, for any expression and any text.
 pub fn substituted()
-    ensures { (re : List ℕ) (e : Tree) (groups : ℕ) (text : List Piece) (input : List ℕ) → IsSlashed re e groups → GroupsWithin 9 text → GroupsWithin groups text →
-        Writes false (codes "s/" ++ (re ++ (codes "/" ++ (written_pieces 47 text ++ codes "/g")))) input (map (replaced e text) (lines input)) }
+    ensures { (re : List ℕ) (e : Tree) (groups : ℕ) (text : List Piece) (input : List ℕ) → IsSlashed re e groups → PieceGroupsWithin 9 text → PieceGroupsWithin groups text →
+        EditsIntoLines false (codes "s/" ++ (re ++ (codes "/" ++ (written_pieces 47 text ++ codes "/g")))) input (map (replaced e text) (split_lines input)) }
 {
     one_meaning();
 }
@@ -129,13 +129,13 @@ pub fn substituted()
 /// What `s/RE/text/g` writes has as many lines as its input, where the text has no newline.
 pub fn line_for_line()
     ensures { (e : Tree) (text : List Piece) (input : List ℕ) → list_any is_break text ≡ false →
-        length (lines (text_of (map (replaced e text) (lines input)))) ≡ length (lines input) }
+        length (split_lines (text_of (map (replaced e text) (split_lines input)))) ≡ length (split_lines input) }
 {}
 
 /// `y/string1/string2/` writes each line byte by byte as its table says, where no byte stands twice in the first string and
 /// the two are of one length.
 pub fn transliterated()
-    ensures { (s1 s2 input : List ℕ) → NoneTwice s1 → length s1 ≡ length s2 → Writes false (y_of s1 s2) input (map (by_table s1 s2) (lines input)) }
+    ensures { (s1 s2 input : List ℕ) → NoneTwice s1 → length s1 ≡ length s2 → EditsIntoLines false (y_of s1 s2) input (map (by_table s1 s2) (split_lines input)) }
 {
     one_meaning();
 }
@@ -143,7 +143,7 @@ pub fn transliterated()
 /// A `y` and then the `y` back write the lines of the input, where the strings have a way back for its bytes.
 pub fn back_again()
     ensures { (s1 s2 input : List ℕ) → HasWayBack s1 s2 input →
-        Writes false (y_of s2 s1) (text_of (map (by_table s1 s2) (lines input))) (lines input) }
+        EditsIntoLines false (y_of s2 s1) (text_of (map (by_table s1 s2) (split_lines input))) (split_lines input) }
 {
     one_meaning();
 }
@@ -177,7 +177,7 @@ pub fn label_has_colon()
 /// Two texts of scripts that only edit their lines, with a newline between them, write what the second writes over what the first wrote.
 pub fn texts_one_after_other()
     ensures { (a b input middle : List ℕ) (out : List (ℕ × ℕ)) → EditInTurn a b →
-        Sends false a input (to_sink 0 middle) → Sends false b middle out → Sends false (a ++ 10 ∷ b) input out }
+        EditsInto false a input (to_sink 0 middle) → EditsInto false b middle out → EditsInto false (a ++ 10 ∷ b) input out }
 {
     one_meaning();
 }
@@ -185,7 +185,7 @@ pub fn texts_one_after_other()
 /// And so `sed -e A -e B` writes what B writes over what A wrote, where neither ends with a newline.
 pub fn words_one_after_other()
     ensures { (a b input middle : List ℕ) (out : List (ℕ × ℕ)) → EditInTurn a b → LacksNewline a → LacksNewline b →
-        Sends false a input (to_sink 0 middle) → Sends false b middle out → Sends false (with_part (with_part [] a) b) input out }
+        EditsInto false a input (to_sink 0 middle) → EditsInto false b middle out → EditsInto false (with_part (with_part [] a) b) input out }
 {
     one_meaning();
 }
@@ -194,7 +194,7 @@ pub fn words_one_after_other()
 /// gained the lines in reverse order.
 pub fn turned_ends()
     ensures { (l : Limits) (input : List ℕ) (old new : ℕ → Option (List ℕ)) (end : Ended) → Ample l 4 input → ComesTo l (codes "1!G;h;$!d") input old new end →
-        (end ≡ Done) × Gained old new (to_sink 0 (text_of (reverse (lines input)))) }
+        (end ≡ Done) × Gained old new (to_sink 0 (text_of (reverse (split_lines input)))) }
 {
     one_meaning();
 }

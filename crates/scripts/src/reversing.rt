@@ -2,7 +2,7 @@
 ghost use Rattle.std.specs.Prelude.{◌≡◌, ◌≤◌, ◌<◌, ◌==◌, ℕ, List, [], Some, None, IfOk, codes, if◌then◌else◌, length, reverse, vec_capacity};
 ghost use Rattle.sedre.specs.declared.types.Kind.TheVariants.{Basic};
 ghost use Rattle.sedscript.specs.Script.{Means};
-ghost use Rattle.sedspace.specs.Lines.{lines};
+ghost use Rattle.sedspace.specs.Lines.{split_lines};
 ghost use Rattle.scripts.specs.Ampleness.{IsAmple, ample_room};
 ghost use Rattle.scripts.specs.Edited.{text_of};
 
@@ -42,7 +42,7 @@ impl<'a> ByteSource for Lent<'a> {
 
 /// One sink in memory, for which `ROOM` bytes are reserved. A write to it fails only where it is full.
 #[derive(Drop)]
-struct Kept {
+struct OneSink {
     bytes: Vec<u8>,
     failed: u64,
     ghost room: { ample_room ≤ vec_capacity bytes },
@@ -50,16 +50,16 @@ struct Kept {
     ghost full: { 0 < failed → ample_room ≤ length bytes.items },
 }
 
-impl Kept {
-    fn new(alloc: Global) -> Result<Kept, AllocError>
+impl OneSink {
+    fn new(alloc: Global) -> Result<OneSink, AllocError>
         ensures { IfOk result (λ o. o.bytes.items ≡ []) }
     {
         let bytes = Vec::with_capacity(alloc, ROOM)?;
-        Ok(Kept { bytes, failed: 0 })
+        Ok(OneSink { bytes, failed: 0 })
     }
 }
 
-impl Outputs for Kept {
+impl Outputs for OneSink {
     ghost count = { λ o. 1 };
 
     ghost contents = { λ o k. if k == 0 then Some o.bytes.items else Some [] };
@@ -105,13 +105,13 @@ fn reversing(alloc: Global) -> Result<Script, AllocError>
 /// `AllocError` where a request for memory was refused.
 pub fn reversed(alloc: Global, input: &[u8]) -> Result<(Ended, Vec<u8>), AllocError>
     requires { length input.now < ample_room }
-    ensures { IfOk result (λ r. (r.0 ≡ Ended.Done) × (r.1.items ≡ text_of (reverse (lines input.now)))) }
+    ensures { IfOk result (λ r. (r.0 ≡ Ended.Done) × (r.1.items ≡ text_of (reverse (split_lines input.now)))) }
 {
     one_meaning();
     let limits = limits()?;
     let program = reversing(alloc)?;
     let mut source = Lent { left: input };
-    let mut output = Kept::new(alloc)?;
+    let mut output = OneSink::new(alloc)?;
     let mut texts = MemoryTexts::new(Vec::new(alloc));
     let end = edit(alloc, program, limits, &mut source, &mut output, &mut texts)?;
     Ok((end, output.bytes))

@@ -8,7 +8,7 @@ ghost use Rattle.sededit.specs.Program.{AsksHelp};
 
 use sededit::command;
 use sedengine::Limits;
-use sedsystem::{Devices, FileInputs, FileNames, FileSinks, Messages, placeholders};
+use sedsystem::{SinkDevices, FileInputs, FileNames, FileSinks, Messages, placeholders};
 use std::env;
 use std::io::{self, ErrorKind, Write};
 
@@ -70,7 +70,7 @@ fn run_words<E: Write>(rt: &HostRuntime, words: &[String], errors: &mut E) -> u8
     ensures asked { result ≡ 0 →
         IsCommandLine (map string_bytes words.now) ⊎ AsksHelp (map string_bytes words.now) }
 {
-    let Ok(devices) = Devices::new(rt, rt.stdout()) else {
+    let Ok(devices) = SinkDevices::new(rt, rt.stdout()) else {
         let _ = say_no_memory(errors);
         return REFUSED;
     };

@@ -3,16 +3,16 @@ use Rattle.std.proofs.Common.{◌≡◌, ℕ, zero, suc, ◌+◌, ◌≤◌, Lis
 use Rattle.std.proofs.Math.Seq.{take-length}
 use Rattle.std.specs.Prelude.{IfSome}
 use Rattle.std.specs.Io.KnownBytes.{prepend_known}
-use Rattle.sedspace.specs.Lines.{lines}
+use Rattle.sedspace.specs.Lines.{split_lines}
 use Rattle.sedscript.specs.Program.{Program}
 use Rattle.sedengine.specs.State.{Limits, State, Setting, setting_of}
 use Rattle.sedengine.specs.Move.{start, written}
-use Rattle.sedengine.specs.Ends.{part, FillsSink, GainedWithin}
+use Rattle.sedengine.specs.Ends.{bytes_of_sink, FillsSink, GainedWithin}
 use Rattle.sedengine.specs.Run.{RunState, Ending, Input, Sends, at_lines, run_setting}
 use Rattle.sededit.specs.Types.{Done, Ended, OutputFull}
 use Rattle.sededit.specs.Editing.{BeginsOutput, IsOutput, nothing_before, start_over}
 use Rattle.sededit.specs.EditEnds.{EditEnds}
-use Rattle.sededit.specs.Ahead.{Edits}
+use Rattle.sededit.specs.Ahead.{EditEnded}
 use Rattle.sedengine.specs.Steps.{WholeOrBrokenOff}
 
 -- an engine that was opened
@@ -24,7 +24,7 @@ get_or_none zero k = refl
 get_or_none (suc n) zero = refl
 get_or_none (suc n) (suc k) = get_or_none n k
 
-within_from_start : (most : Option ℕ) (n : ℕ) (out : List (ℕ × ℕ)) → IfSome most (λ m. (k : ℕ) → get_or (replicate n 0) k 0 + length (part k out) ≤ m) → IfSome most (λ m. (k : ℕ) → nothing_before k + length (part k out) ≤ m)
+within_from_start : (most : Option ℕ) (n : ℕ) (out : List (ℕ × ℕ)) → IfSome most (λ m. (k : ℕ) → get_or (replicate n 0) k 0 + length (bytes_of_sink k out) ≤ m) → IfSome most (λ m. (k : ℕ) → nothing_before k + length (bytes_of_sink k out) ≤ m)
 within_from_start None n out h = tt
 within_from_start (Some m) n out h = λ k. let le = h k in rw (get_or_none n k) at le
 
@@ -44,8 +44,8 @@ from_start l p e' old new r out h = record {
 -- a run of an opened engine over all lines is an edit, which leaves ahead what is ahead of the lines
 pub Edits-run : (l : Limits) (p : Program) (files : ℕ → List ℕ) (e e' : RunState) (x : List ℕ) (sinks sinks' : ℕ → Option (List ℕ)) (old new : Option (List ℕ)) (before after : Input) (now : State) (end : Ended) (bytes : List ℕ) (count : ℕ) →
     e ≡ opened l p → before.source ≡ old → before.all ≡ old → after.source ≡ new → after.all ≡ prepend_known bytes after.source → count ≡ length bytes →
-    (out : List (ℕ × ℕ)) × Sends e e' sinks sinks' (Err end) out × Ending e.limits (run_setting e files) (at_lines e (lines x)) out before after now end →
-    Edits l (setting_of p files) (start_over p x) old new sinks sinks' count end
+    (out : List (ℕ × ℕ)) × Sends e e' sinks sinks' (Err end) out × Ending e.limits (run_setting e files) (at_lines e (split_lines x)) out before after now end →
+    EditEnded l (setting_of p files) (start_over p x) old new sinks sinks' count end
 Edits-run l p files e e' x sinks sinks' old new before after now end bytes count is same_old none_ahead same_new is_ahead counted (out, sent, h) =
     let sent' = rw is at sent in
     let h' = rw is at h in

@@ -11,8 +11,8 @@ use Rattle.sededit.specs.Editing.{BeginsOutput, IsOutput, nothing_before, start_
 use Rattle.sedfiles.specs.Files.{KeepsFiles}
 use Rattle.sedfiles.specs.Opening.{WereRefused}
 use Rattle.sedfiles.specs.AddedSinks.{FailsFlush}
-use Rattle.sededit.specs.Ahead.{Edits}
-use Rattle.sededit.specs.RunStatus.{Finishes, Ran}
+use Rattle.sededit.specs.Ahead.{EditEnded}
+use Rattle.sededit.specs.RunStatus.{Finishes, HasRun}
 use Rattle.sededit.specs.Program.{Observed, Run, SinkFailed, StopsEarly, WhereTold}
 use Rattle.sededit.proofs.EditLemmas.{BeginsOutput-at, IsOutput-at}
 use Rattle.sedfiles.proofs.JoinLemmas.{all_joined}
@@ -70,7 +70,7 @@ some_refused false old new is h = absurd cc
 
 -- an edit, and the flush behind it, as they are observed
 module _ (l : Limits) (p : Program) (input more : Option (List ℕ)) (texts c0 c1 c2 : ℕ → Option (List ℕ)) (n0 n1 n2 : ℕ → ℕ) (r0 r1 i0 i1 ahead : ℕ) (end : Ended) (rest : Option (List ℕ) → Type 0)
-    (edits : ForSome input (λ bytes. (files : ℕ → List ℕ) → TellsFiles texts files → Edits l (setting_of p files) (start_over p bytes) input more c0 c1 ahead end))
+    (edits : ForSome input (λ bytes. (files : ℕ → List ℕ) → TellsFiles texts files → EditEnded l (setting_of p files) (start_over p bytes) input more c0 c1 ahead end))
     (same : (k : ℕ) → c2 k ≡ c1 k) (source : SourceAtEnd i0 i1 end) (sinks : SinksAtEnd l.output n0 n1 (Err end)) (stays : rest more) where
   abbrev run : Run
   run = record { script = p; input = input; texts = texts }
@@ -95,7 +95,7 @@ module _ (l : Limits) (p : Program) (input more : Option (List ℕ)) (texts c0 c
     λ bytes known files told. let e = edits bytes known files told in (e.out, GainedWithin-same l c0 c1 c2 end e.out same e.gained, e.ends.t, e.ends.cause, λ is. (more, stays, e.ends.broken is)),
   )
 
-  pub Ran-finished : (missed : Bool) (status : ℕ) → Finishes n1 n2 missed end status → WereRefused missed r0 r1 → Ran l before now rest run status
+  pub Ran-finished : (missed : Bool) (status : ℕ) → Finishes n1 n2 missed end status → WereRefused missed r0 r1 → HasRun l before now rest run status
   Ran-finished missed status (inl (done, kept, inl (none, is))) refused = record {
     is_one = inl is;
     means = record {
@@ -133,8 +133,8 @@ module _ (l : Limits) (p : Program) (input more : Option (List ℕ)) (texts c0 c
 -- the same of the same input and numbers under other names
 pub Ran-as : (l : Limits) (p : Program) (texts c0 c1 : ℕ → Option (List ℕ)) (n0 n1 : ℕ → ℕ) (rest : Option (List ℕ) → Type 0) (status : ℕ) (x y : Option (List ℕ)) (r0 r1 i0 i1 r0' r1' i0' i1' : ℕ) →
     y ≡ x → r0' ≡ r0 → r1' ≡ r1 → i0' ≡ i0 → i1' ≡ i1 →
-    Ran l (record { refusals = r0; reads = i0; contents = c0; failures = n0 }) (record { refusals = r1; reads = i1; contents = c1; failures = n1 }) rest (record { script = p; input = x; texts = texts }) status →
-    Ran l (record { refusals = r0'; reads = i0'; contents = c0; failures = n0 }) (record { refusals = r1'; reads = i1'; contents = c1; failures = n1 }) rest (record { script = p; input = y; texts = texts }) status
+    HasRun l (record { refusals = r0; reads = i0; contents = c0; failures = n0 }) (record { refusals = r1; reads = i1; contents = c1; failures = n1 }) rest (record { script = p; input = x; texts = texts }) status →
+    HasRun l (record { refusals = r0'; reads = i0'; contents = c0; failures = n0 }) (record { refusals = r1'; reads = i1'; contents = c1; failures = n1 }) rest (record { script = p; input = y; texts = texts }) status
 Ran-as l p texts c0 c1 n0 n1 rest status x y r0 r1 i0 i1 r0' r1' i0' i1' input refused refused' same same' h = rw (input, refused, refused', same, same') h
 
 -- a run over what was made ready for it, said of how things stood before
@@ -195,7 +195,7 @@ module _ (l : Limits) (p : Program) (q : Option (List ℕ) → Type 0) (f0 f1 : 
   )
   cause-from (inr h) = inr (Writes-from IsOutput p f0 f1 t0 t1 s0 s1 new ready h.0, sink_failed n0 n1 n same h.1, h.2 ∙ read)
 
-  pub Ran-from : (status : ℕ) → Ran l made last q (over_files p f1 t1) status → Ran l first last q (over_files p f0 t0) status
+  pub Ran-from : (status : ℕ) → HasRun l made last q (over_files p f1 t1) status → HasRun l first last q (over_files p f0 t0) status
   Ran-from status ran = let h = ran.means in record {
     is_one = ran.is_one;
     means = record {

@@ -6,9 +6,9 @@ use Rattle.sedengine.specs.State.{Limits}
 use Rattle.sedengine.specs.Ends.{Gained}
 use Rattle.sedengine.specs.Move.{to_sink}
 use Rattle.sededit.specs.Editing.{BeginsOutput, IsOutput}
-use Rattle.sededit.specs.Program.{AsksHelp, HelpMeans, Observed, Run, Runs, SinkFailed, StatusMeans, StopsEarly, Told, Writes, run_of}
+use Rattle.sededit.specs.Program.{AsksHelp, HelpMeans, Observed, Run, Runs, SinkFailed, StatusMeans, StopsEarly, KnownFiles, Writes, run_of}
 
-module _ (told : Told) (nodes : ℕ) (words : List Text) (Created : Run → Type 0) (limits : Limits) (old new : Observed)
+module _ (told : KnownFiles) (nodes : ℕ) (words : List Text) (Created : Run → Type 0) (limits : Limits) (old new : Observed)
     (rest : Option (List ℕ) → Type 0) (Untouched : Type 0) (status : ℕ) where
   -- the run that the words ask for created its files, and is so
   abbrev RunsSo : (Run → Type 0) → Type 0

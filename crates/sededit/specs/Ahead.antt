@@ -23,7 +23,7 @@ pub record LeavesAhead (l : Limits) (g : Setting) (s : State) (old new : Option 
 
 -- An edit came to this end, and left so many bytes ahead: `sinks` and `sinks'` are what the sinks had before and after it, `old`
 -- and `new` what the source had still to give.
-pub record Edits (l : Limits) (g : Setting) (s : State) (old new : Option (List ℕ)) (sinks sinks' : ℕ → Option (List ℕ)) (count : ℕ)
+pub record EditEnded (l : Limits) (g : Setting) (s : State) (old new : Option (List ℕ)) (sinks sinks' : ℕ → Option (List ℕ)) (count : ℕ)
     (end : Ended) : Type 0 where
   pub out : List (ℕ × ℕ)
   pub gained : GainedWithin l.output nothing_before sinks sinks' (Err end) out

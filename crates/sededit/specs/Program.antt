@@ -37,11 +37,11 @@ or_standard [] = dash ∷ []
 or_standard names = names
 
 -- the texts that a script reads: the files of its names, where they are known
-abbrev pub texts_of : (List ℕ → Option (List ℕ)) → (ℕ → Option (List ℕ)) → Program → ℕ → Option (List ℕ)
-texts_of named others p k = option_map_or named (slice_get p.rfiles k) (others k)
+abbrev pub texts_by_name : (List ℕ → Option (List ℕ)) → (ℕ → Option (List ℕ)) → Program → ℕ → Option (List ℕ)
+texts_by_name named others p k = option_map_or named (slice_get p.rfiles k) (others k)
 
 -- what is known before a run of the files of -f, the inputs and those that a script reads, by name, and of texts without a name
-pub record Told : Type 0 where
+pub record KnownFiles : Type 0 where
   pub scripts : WholeFiles
   pub inputs : FilesAhead
   pub named : List ℕ → Option (List ℕ)
@@ -54,15 +54,15 @@ pub record Run : Type 0 where
   pub texts : ℕ → Option (List ℕ)
 
 -- the run of a script that a line asks for: its input is what the files of the operands give, joined
-abbrev pub run_of : Told → Line → Program → Run
+abbrev pub run_of : KnownFiles → Line → Program → Run
 run_of told l p = record {
   script = p;
-  texts = texts_of told.named told.others p;
+  texts = texts_by_name told.named told.others p;
   input = joined_files told.inputs (or_standard (map string_bytes l.operands.items));
 }
 
 -- the words are a command line, and the run that its line asks for is as `P` says
-abbrev pub Runs : Told → ℕ → List Text → (Run → Type 0) → Type 0
+abbrev pub Runs : KnownFiles → ℕ → List Text → (Run → Type 0) → Type 0
 Runs told nodes words P =
     IsCommandLine words × ((l : Line) × IsLine (matches_of sed_command words) l
     × ((p : Program) × GivesScript told.scripts l nodes p × P (run_of told l p)))

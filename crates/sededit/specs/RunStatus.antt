@@ -13,7 +13,7 @@ Finishes old new missed end status =
     ⊎ ((status ≡ 4) × ((k : ℕ) → old k ≤ new k) × ((end ≢ Done) ⊎ ((end ≡ Done) × SinkFailed old new)))
 
 -- There was a run, and this is its status.
-pub record Ran (limits : Limits) (old new : Observed) (rest : Option (List ℕ) → Type 0) (run : Run) (status : ℕ) : Type 0 where
+pub record HasRun (limits : Limits) (old new : Observed) (rest : Option (List ℕ) → Type 0) (run : Run) (status : ℕ) : Type 0 where
   pub is_one : (status ≡ 0) ⊎ ((status ≡ 2) ⊎ (status ≡ 4))
   pub means : StatusMeans limits old new rest status run
   pub no_sink : status ≢ 4 → (k : ℕ) → new.failures k ≡ old.failures k

@@ -10,7 +10,7 @@ ghost use Rattle.sedengine.specs.DevicesAfter.{SameSinks, SinksAtEnd};
 ghost use Rattle.sedengine.specs.State.{TellsFiles, setting_of};
 ghost use Rattle.sededit.specs.Editing.{BeginsOutput, IsOutput, nothing_before, start_over};
 ghost use Rattle.sededit.specs.EditEnds.{EditEnds};
-ghost use Rattle.sededit.specs.Ahead.{Edits};
+ghost use Rattle.sededit.specs.Ahead.{EditEnded};
 
 use sedengine::{Ended, Engine, Limits};
 use sedscript::{Kind, NO_MEMORY, Script, ScriptFault};
@@ -121,7 +121,7 @@ pub(crate) fn edit_ahead<R: ByteSource, O: Outputs, T: Texts>(
     // So many bytes were left ahead, and with them still to come only the lines that were taken are gone.
     ensures edits { IfOk result (λ edited. ForSome (R.remaining source.old) (λ bytes.
         (files : ℕ → List ℕ) → TellsFiles (T.text texts.old) files →
-        Edits limits (setting_of script files) (start_over script bytes) (R.remaining source.old) (R.remaining source.new)
+        EditEnded limits (setting_of script files) (start_over script bytes) (R.remaining source.old) (R.remaining source.new)
         (O.contents outputs.old) (O.contents outputs.new) edited.ahead edited.end)) }
     ensures ahead { IfOk result (λ edited. edited.ahead ≤ limits.look) }
     ensures input { IfOk result (λ edited.

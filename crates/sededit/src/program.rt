@@ -3,12 +3,12 @@ ghost use Rattle.std.specs.Prelude.{◌≡◌, ◌≢◌, ◌<◌, ◌⊎◌, �
 ghost use Rattle.clap.specs.Words.{kind_of};
 ghost use Rattle.sedfiles.specs.Files.{StillGives, OnlyReadsScripts, Creates, CreatesFirst};
 ghost use Rattle.sedscript.specs.Program.{Program};
-ghost use Rattle.sededit.specs.Program.{AsksHelp, GivesScript, HelpMeans, Runs, StatusMeans, observe, run_of, texts_of};
-ghost use Rattle.sededit.specs.RunStatus.{Helps, Ran, Refuses};
+ghost use Rattle.sededit.specs.Program.{AsksHelp, GivesScript, HelpMeans, Runs, StatusMeans, observe, run_of, texts_by_name};
+ghost use Rattle.sededit.specs.RunStatus.{Helps, HasRun, Refuses};
 
 use crate::messages::{say_cannot_open, say_fault, say_no_script, say_refused};
 use crate::reading::{NoScript, read_script};
-use crate::running::{MISSED, REFUSED, STOPPED, SUCCESS, Task, finish, out_of_memory, run};
+use crate::running::{MISSED, REFUSED, STOPPED, SUCCESS, ScriptRun, finish, out_of_memory, run};
 use clap::error::ErrorKind;
 use sedengine::{Ended, Limits};
 use sedfiles::{Inputs, Line, Names, Refused, Sinks, line};
@@ -106,7 +106,7 @@ fn run_line<I: Inputs, O: Sinks, N: Names, E: Write>(
         × CreatesFirst (O.names sinks.old) (O.names sinks.new) p.wfiles))
         ⊎ ((p : Program) × GivesScript (I.text inputs.old) line.now limits.nodes p
         × (Creates (O.names sinks.old) (O.names sinks.new) p.wfiles
-        × Ran limits (observe I.refusals I.failures O.contents O.failures inputs.old sinks.old)
+        × HasRun limits (observe I.refusals I.failures O.contents O.failures inputs.old sinks.old)
         (observe I.refusals I.failures O.contents O.failures inputs.new sinks.new) (StillGives I.current I.ahead inputs.new)
         (run_of (record {
           scripts = I.text inputs.old;
@@ -127,7 +127,7 @@ fn run_line<I: Inputs, O: Sinks, N: Names, E: Write>(
         script.close();
         return out_of_memory(errors);
     }
-    let task = Task {
+    let task = ScriptRun {
         script,
         operands: line.operands.as_slice(),
         limits,
@@ -193,7 +193,7 @@ fn create_files<O: Sinks, E: Write>(script: &Script, sinks: &mut O, errors: &mut
 /// Gives the texts the names of the files that a script reads.
 fn name_files<N: Names>(script: &Script, names: &mut N) -> Result<(), AllocError>
     requires { N.named names.old ≡ 0 }
-    ensures { IfOk result (λ _. (k : ℕ) → N.text names.new k ≡ texts_of (N.file names.old) (N.text names.old) script.now k) }
+    ensures { IfOk result (λ _. (k : ℕ) → N.text names.new k ≡ texts_by_name (N.file names.old) (N.text names.old) script.now k) }
 {
     for (number, name) in script.rfiles().iter().enumerate() {
         names.name(number, name.as_slice())?;

@@ -4,7 +4,7 @@ ghost use Rattle.std.specs.String.{string_bytes};
 ghost use Rattle.sedfiles.specs.Files.{StillGives, dash, joined_files};
 ghost use Rattle.sedfiles.specs.Opening.{WereRefused};
 ghost use Rattle.sededit.specs.Program.{observe, or_standard};
-ghost use Rattle.sededit.specs.RunStatus.{Finishes, Ran};
+ghost use Rattle.sededit.specs.RunStatus.{Finishes, HasRun};
 
 use crate::editing::{Edited, edit_ahead};
 use crate::messages::{say_cannot_open, say_end, say_no_memory};
@@ -29,7 +29,7 @@ pub(crate) const STOPPED: u8 = 4;
 
 /// A script, the operands that name the files that it is run over, and the limits of the run.
 #[derive(Drop)]
-pub(crate) struct Task<'a> {
+pub(crate) struct ScriptRun<'a> {
     pub(crate) script: Script,
     pub(crate) operands: &'a [String],
     pub(crate) limits: Limits,
@@ -121,7 +121,7 @@ pub(crate) fn finish<O: Sinks, E: Write>(
 /// Runs a script over the files that the operands name, joined, and gives the status.
 pub(crate) fn run<I: Inputs, O: Sinks, T: Texts, E: Write>(
     alloc: Global,
-    task: Task<'_>,
+    task: ScriptRun<'_>,
     inputs: &mut I,
     sinks: &mut O,
     texts: &mut T,
@@ -129,7 +129,7 @@ pub(crate) fn run<I: Inputs, O: Sinks, T: Texts, E: Write>(
 ) -> Result<u8, AllocError>
     requires sinks { length task.script.wfiles < O.count sinks.old }
     requires nodes { task.script.max_nodes ≤ task.limits.nodes }
-    ensures ran { IfOk result (Ran task.entry.limits
+    ensures ran { IfOk result (HasRun task.entry.limits
         (observe I.refusals I.failures O.contents O.failures inputs.old sinks.old)
         (observe I.refusals I.failures O.contents O.failures inputs.new sinks.new)
         (StillGives I.current I.ahead inputs.new)
@@ -141,7 +141,7 @@ pub(crate) fn run<I: Inputs, O: Sinks, T: Texts, E: Write>(
     ensures untouched { OnErr result ((inputs.new ≡ inputs.old) × (sinks.new ≡ sinks.old)) }
     ensures names { O.names sinks.new ≡ O.names sinks.old }
 {
-    let Task {
+    let ScriptRun {
         script,
         operands,
         limits,

@@ -13,15 +13,15 @@ use Rattle.sedre.specs.Tree.{WrittenExpression, expression_tree}
 use Rattle.sedmatch.specs.Candidates.{IsBefore, NoMatchBefore}
 use Rattle.sedmatch.specs.Matching.{leftmost_longest}
 use Rattle.sedmatch.proofs.MatchingLemmas.{some_found-iff}
-use Rattle.sedspace.specs.Lines.{lines, is_newline}
+use Rattle.sedspace.specs.Lines.{split_lines, is_newline}
 use Rattle.sedspace.specs.Stream.{AreWholeLines}
 use Rattle.sedspace.proofs.LineLemmas.{lines_nil}
 use Rattle.sedspace.proofs.WholeLemmas.{lines_yes, lines_no, some_lines}
 use Rattle.sedengine.specs.Ends.{size_of}
-use Rattle.sedengine.specs.Passing.{ClearTo, IsLineOf, bytes_of}
+use Rattle.sedengine.specs.Passing.{ClearTo, IsLineOf, bytes_of_lines}
 use Rattle.std.specs.Option.{option_map_or}
 
-onto-bytes : (x : ℕ) (ys : List (List ℕ)) → 0 < length ys → bytes_of (onto_first x ys) ≡ x ∷ bytes_of ys
+onto-bytes : (x : ℕ) (ys : List (List ℕ)) → 0 < length ys → bytes_of_lines (onto_first x ys) ≡ x ∷ bytes_of_lines ys
 onto-bytes x [] h = absurd (omega arith)
 onto-bytes x (y ∷ ys) h = refl
 
@@ -29,13 +29,13 @@ onto-length : (x : ℕ) (ys : List (List ℕ)) → 0 < length ys → length (ont
 onto-length x [] h = absurd (omega arith)
 onto-length x (y ∷ ys) h = refl
 
-first_bytes : (x : ℕ) (p : List ℕ) (b : Bool) → is_newline x ≡ b → bytes_of (lines (p ++ 10 ∷ [])) ≡ p ++ 10 ∷ [] → bytes_of (lines (x ∷ (p ++ 10 ∷ []))) ≡ x ∷ (p ++ 10 ∷ [])
-first_bytes x p true h rest = ap bytes_of (lines_yes x (p ++ 10 ∷ []) h) ∙ ap₂ (λ y ys. y ∷ ys) (sym (eqb-true x 10 h)) rest
-first_bytes x p false h rest = ap bytes_of (lines_no x (p ++ 10 ∷ []) h) ∙ onto-bytes x (lines (p ++ 10 ∷ [])) (some_lines p []) ∙ ap (λ ys. x ∷ ys) rest
+first_bytes : (x : ℕ) (p : List ℕ) (b : Bool) → is_newline x ≡ b → bytes_of_lines (split_lines (p ++ 10 ∷ [])) ≡ p ++ 10 ∷ [] → bytes_of_lines (split_lines (x ∷ (p ++ 10 ∷ []))) ≡ x ∷ (p ++ 10 ∷ [])
+first_bytes x p true h rest = ap bytes_of_lines (lines_yes x (p ++ 10 ∷ []) h) ∙ ap₂ (λ y ys. y ∷ ys) (sym (eqb-true x 10 h)) rest
+first_bytes x p false h rest = ap bytes_of_lines (lines_no x (p ++ 10 ∷ []) h) ∙ onto-bytes x (split_lines (p ++ 10 ∷ [])) (some_lines p []) ∙ ap (λ ys. x ∷ ys) rest
 
 -- a block is its lines, each with its newline
-pub block_bytes : (p : List ℕ) → bytes_of (lines (p ++ 10 ∷ [])) ≡ p ++ 10 ∷ []
-block_bytes [] = ap bytes_of (lines_yes 10 [] refl ∙ ap (λ ls. [] ∷ ls) lines_nil)
+pub block_bytes : (p : List ℕ) → bytes_of_lines (split_lines (p ++ 10 ∷ [])) ≡ p ++ 10 ∷ []
+block_bytes [] = ap bytes_of_lines (lines_yes 10 [] refl ∙ ap (λ ls. [] ∷ ls) lines_nil)
 block_bytes (x ∷ p) = first_bytes x p (is_newline x) refl (block_bytes p)
 
 abbrev newlines : List ℕ → ℕ
@@ -50,39 +50,39 @@ uncounted : (b : Bool) (n : ℕ) → b ≡ false → cond b (1 + n) n ≡ n
 uncounted true n h = cc
 uncounted false n h = refl
 
-first_count : (x : ℕ) (p : List ℕ) (b : Bool) → is_newline x ≡ b → length (lines (p ++ 10 ∷ [])) ≡ newlines (p ++ 10 ∷ []) → length (lines (x ∷ (p ++ 10 ∷ []))) ≡ newlines (x ∷ (p ++ 10 ∷ []))
+first_count : (x : ℕ) (p : List ℕ) (b : Bool) → is_newline x ≡ b → length (split_lines (p ++ 10 ∷ [])) ≡ newlines (p ++ 10 ∷ []) → length (split_lines (x ∷ (p ++ 10 ∷ []))) ≡ newlines (x ∷ (p ++ 10 ∷ []))
 first_count x p true h rest = ap length (lines_yes x (p ++ 10 ∷ []) h) ∙ ap suc rest ∙ sym (counted (is_newline x) (newlines (p ++ 10 ∷ [])) h)
-first_count x p false h rest = ap length (lines_no x (p ++ 10 ∷ []) h) ∙ onto-length x (lines (p ++ 10 ∷ [])) (some_lines p []) ∙ rest ∙ sym (uncounted (is_newline x) (newlines (p ++ 10 ∷ [])) h)
+first_count x p false h rest = ap length (lines_no x (p ++ 10 ∷ []) h) ∙ onto-length x (split_lines (p ++ 10 ∷ [])) (some_lines p []) ∙ rest ∙ sym (uncounted (is_newline x) (newlines (p ++ 10 ∷ [])) h)
 
-count_newlines : (p : List ℕ) → length (lines (p ++ 10 ∷ [])) ≡ newlines (p ++ 10 ∷ [])
+count_newlines : (p : List ℕ) → length (split_lines (p ++ 10 ∷ [])) ≡ newlines (p ++ 10 ∷ [])
 count_newlines [] = ap length (lines_yes 10 [] refl ∙ ap (λ ls. [] ∷ ls) lines_nil)
 count_newlines (x ∷ p) = first_count x p (is_newline x) refl (count_newlines p)
 
 -- it has as many as newlines
-pub block_count : (p : List ℕ) → length (lines (p ++ 10 ∷ [])) ≡ count_by is_newline (p ++ 10 ∷ [])
+pub block_count : (p : List ℕ) → length (split_lines (p ++ 10 ∷ [])) ≡ count_by is_newline (p ++ 10 ∷ [])
 block_count p = count_newlines p ∙ is_count_by newlines is_newline refl (λ x xs. refl) (p ++ 10 ∷ [])
 
 -- the bytes of lines, counted
-pub length-bytes_of : (ls : List (List ℕ)) → length (bytes_of ls) ≡ size_of ls
+pub length-bytes_of : (ls : List (List ℕ)) → length (bytes_of_lines ls) ≡ size_of ls
 length-bytes_of [] = refl
-length-bytes_of (l ∷ ls) = let rest = length-bytes_of ls in omega (arith, length-append l (10 ∷ bytes_of ls))
+length-bytes_of (l ∷ ls) = let rest = length-bytes_of ls in omega (arith, length-append l (10 ∷ bytes_of_lines ls))
 
 -- each line stands in the block, with its newline
-lines_of : (before : List ℕ) (ls : List (List ℕ)) → All (λ line. IsLineOf line (before ++ bytes_of ls)) ls
+lines_of : (before : List ℕ) (ls : List (List ℕ)) → All (λ line. IsLineOf line (before ++ bytes_of_lines ls)) ls
 lines_of before [] = All-nil (λ line. IsLineOf line (before ++ []))
 lines_of before (line ∷ ls) =
-    let whole : List ℕ = before ++ bytes_of (line ∷ ls) in
+    let whole : List ℕ = before ++ bytes_of_lines (line ∷ ls) in
     let P : List ℕ → List ℕ → Type 0 = λ all line. IsLineOf line all in
-    let same : (before ++ (line ++ 10 ∷ [])) ++ bytes_of ls ≡ whole = append_assoc before (line ++ 10 ∷ []) (bytes_of ls) ∙ ap (λ bs. before ++ bs) (append_assoc line (10 ∷ []) (bytes_of ls)) in
-    All-cons (P whole) line ls (record { before = before; behind = bytes_of ls; is = refl })
+    let same : (before ++ (line ++ 10 ∷ [])) ++ bytes_of_lines ls ≡ whole = append_assoc before (line ++ 10 ∷ []) (bytes_of_lines ls) ∙ ap (λ bs. before ++ bs) (append_assoc line (10 ∷ []) (bytes_of_lines ls)) in
+    All-cons (P whole) line ls (record { before = before; behind = bytes_of_lines ls; is = refl })
     (subst (λ (all : List ℕ). All (P all) ls) same (lines_of (before ++ (line ++ 10 ∷ [])) ls))
 
-pub block_parts : (p : List ℕ) → All (λ line. IsLineOf line (p ++ 10 ∷ [])) (lines (p ++ 10 ∷ []))
-block_parts p = subst (λ (all : List ℕ). All (λ line. IsLineOf line all) (lines (p ++ 10 ∷ []))) (block_bytes p) (lines_of [] (lines (p ++ 10 ∷ [])))
+pub block_parts : (p : List ℕ) → All (λ line. IsLineOf line (p ++ 10 ∷ [])) (split_lines (p ++ 10 ∷ []))
+block_parts p = subst (λ (all : List ℕ). All (λ line. IsLineOf line all) (split_lines (p ++ 10 ∷ []))) (block_bytes p) (lines_of [] (split_lines (p ++ 10 ∷ [])))
 
 -- so it is no longer
-pub block_short : (p : List ℕ) (n : ℕ) → length (p ++ 10 ∷ []) ≤ n → All (λ line. length line ≤ n) (lines (p ++ 10 ∷ []))
-block_short p n h = λ k d less. shorter (get_or (lines (p ++ 10 ∷ [])) k d) (block_parts p k d less)
+pub block_short : (p : List ℕ) (n : ℕ) → length (p ++ 10 ∷ []) ≤ n → All (λ line. length line ≤ n) (split_lines (p ++ 10 ∷ []))
+block_short p n h = λ k d less. shorter (get_or (split_lines (p ++ 10 ∷ [])) k d) (block_parts p k d less)
   where
     shorter : (line : List ℕ) → IsLineOf line (p ++ 10 ∷ []) → length line ≤ n
     shorter line part =
@@ -90,9 +90,9 @@ block_short p n h = λ k d less. shorter (get_or (lines (p ++ 10 ∷ [])) k d) (
         omega (arith, length-append part.before (line ++ 10 ∷ part.behind), length-append line (10 ∷ part.behind))
 
 -- whole lines are as many as their newlines
-pub whole_count : (w : List ℕ) → AreWholeLines w → count_by is_newline w ≡ length (lines w)
-whole_count w (inl none) = ap (λ w. count_by is_newline w) none ∙ sym (ap (λ w. length (lines w)) none ∙ ap length lines_nil)
-whole_count w (inr (p, is)) = ap (λ w. count_by is_newline w) is ∙ sym (block_count p) ∙ ap (λ w. length (lines w)) (sym is)
+pub whole_count : (w : List ℕ) → AreWholeLines w → count_by is_newline w ≡ length (split_lines w)
+whole_count w (inl none) = ap (λ w. count_by is_newline w) none ∙ sym (ap (λ w. length (split_lines w)) none ∙ ap length lines_nil)
+whole_count w (inr (p, is)) = ap (λ w. count_by is_newline w) is ∙ sym (block_count p) ∙ ap (λ w. length (split_lines w)) (sym is)
 
 -- newlines counted by parts
 pub count_more : (bytes : List ℕ) (i j : ℕ) → i ≤ j → count_by is_newline (take i bytes) + count_by is_newline (take (j - i) (drop i bytes)) ≡ count_by is_newline (take j bytes)

@@ -13,8 +13,8 @@ use Rattle.sedscript.specs.declared.types.FileUse.TheVariants.{Read}
 use Rattle.sedscript.specs.declared.types.Simple.TheVariants as simple
 use Rattle.sedengine.specs.State.{Limits, Entry, text_entry, file_entry, Task, begin, do_at, flush, copy, fetch, join, State, Move, Setting}
 use Rattle.sedengine.specs.Select.{selects, stands_for}
-use Rattle.sedengine.specs.Substitute.{Occurrence, occurrences, to_replace}
-use Rattle.sedengine.specs.Move.{acts, begins, copies, current_of, first_task, flushes, next_move, none_left, passes, quietly, reach, reached, replaces, substitutes, takes_line, writes_text_at}
+use Rattle.sedengine.specs.Substitute.{Occurrence, each_occurrence, to_replace}
+use Rattle.sedengine.specs.Move.{acts, begun_cycle, copies_byte, current_of, first_task, flushes, next_move, none_left, goes_past, quietly, reach, having_reached, replaces, substitutes, takes_next_line, writes_text_at}
 use Rattle.sedengine.specs.Choose.{performs}
 use Rattle.sedengine.specs.Ends.{WithinLimits, StopsAt}
 use Rattle.sedengine.specs.Steps.{StopsTask, line_at, reaches, takes_turn}
@@ -44,7 +44,7 @@ replaces_has s t (m ∷ ms) = (refl, refl)
 substitutes_has : (g : Setting) (s : State) (o : Option Substitution) → Has s.number s.turns (substitutes g s o)
 substitutes_has g s None = (refl, refl)
 substitutes_has g s (Some t) =
-    where_some s.number s.turns (λ e. replaces (record s { used = Some e }) t (to_replace t.number t.global (occurrences (g.search e s.pattern) (length s.pattern))))
+    where_some s.number s.turns (λ e. replaces (record s { used = Some e }) t (to_replace t.number t.global (each_occurrence (g.search e s.pattern) (length s.pattern))))
     (stands_for t.expression s.used) (λ e. replaces_has (record s { used = Some e }) t _)
 
 acts_has : (g : Setting) (s : State) (w : Bool) (a : Action) → Has s.number s.turns (acts g s w a)
@@ -56,15 +56,15 @@ acts_has g s w (File Read k) = (refl, refl)
 acts_has g s w (Substitute k) = substitutes_has g s (slice_get g.substitutions k)
 acts_has g s w other = (refl, refl)
 
-passes_has : (s : State) (a : Action) → Has s.number s.turns (passes s a)
+passes_has : (s : State) (a : Action) → Has s.number s.turns (goes_past s a)
 passes_has s (Block next) = (refl, refl)
 passes_has s other = (refl, refl)
 
 reach_has : (g : Setting) (s : State) (k : ℕ) (c : Command) → Has s.number (s.turns + 1) (reach g s k (Some c))
 reach_has g s k c =
     where_some s.number (s.turns + 1) (performs g s k c) (selects (current_of g s) (slice_index_or s.ranges k false) c) (λ choice.
-    either s.number (s.turns + 1) (acts g (reached s k choice) (writes_text_at c choice.end) c.action) (passes (reached s k choice) c.action) choice.yes
-    (acts_has g (reached s k choice) (writes_text_at c choice.end) c.action) (passes_has (reached s k choice) c.action))
+    either s.number (s.turns + 1) (acts g (having_reached s k choice) (writes_text_at c choice.end) c.action) (goes_past (having_reached s k choice) c.action) choice.yes
+    (acts_has g (having_reached s k choice) (writes_text_at c choice.end) c.action) (passes_has (having_reached s k choice) c.action))
 
 -- What the move by a first task, where it has one, does to the turns and to the line number. Where it doesn't lead to that
 -- task's line, the pattern space stays, and where it leads to another line, the hold space and the queue do.
@@ -74,7 +74,7 @@ Goes takes line s (Some m) =
     (m.next.turns ≡ (if takes then s.turns + 1 else s.turns)) × ((m.next.number ≡ line) ⊎ (m.next.pattern ≡ s.pattern))
     × ((m.next.number ≡ s.number) ⊎ ((m.next.hold ≡ s.hold) × (m.next.queue ≡ s.queue)))
 
-begins_goes : (s : State) (ls : List (List ℕ)) → Goes (not (none_left ls)) (s.number + 1) s (begins s ls)
+begins_goes : (s : State) (ls : List (List ℕ)) → Goes (not (none_left ls)) (s.number + 1) s (begun_cycle s ls)
 begins_goes s [] = (refl, inr refl, inl refl)
 begins_goes s (line ∷ rest) = (refl, inl refl, inr (refl, refl))
 
@@ -91,11 +91,11 @@ flushes_goes s rest [] = (refl, inl refl, inl refl)
 flushes_goes s rest (text_entry bytes ∷ queue) = (refl, inl refl, inl refl)
 flushes_goes s rest (file_entry k ∷ queue) = (refl, inl refl, inl refl)
 
-copies_goes : (s : State) (rest : List Task) (k o : ℕ) (b : Option ℕ) → Goes (is_some b) s.number s (copies s rest k o b)
+copies_goes : (s : State) (rest : List Task) (k o : ℕ) (b : Option ℕ) → Goes (is_some b) s.number s (copies_byte s rest k o b)
 copies_goes s rest k o None = (refl, inl refl, inl refl)
 copies_goes s rest k o (Some b) = (refl, inl refl, inl refl)
 
-takes_line_goes : (s : State) (rest : List Task) (made : List ℕ → List ℕ) (ls : List (List ℕ)) → Goes false (s.number + 1) s (takes_line s rest made ls)
+takes_line_goes : (s : State) (rest : List Task) (made : List ℕ → List ℕ) (ls : List (List ℕ)) → Goes false (s.number + 1) s (takes_next_line s rest made ls)
 takes_line_goes s rest made [] = (refl, inr refl, inl refl)
 takes_line_goes s rest made (line ∷ lines) = (refl, inl refl, inr (refl, refl))
 

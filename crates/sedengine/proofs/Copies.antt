@@ -6,7 +6,7 @@ use Rattle.std.proofs.Math.Seq.{take-suc}
 use Rattle.std.proofs.lemmas.Option.{slice_get_past, slice_get_within, slice_get-get_or}
 use Rattle.sedspace.specs.Reading.{ReadsAt}
 use Rattle.sedengine.specs.State.{Limits, Task, copy, State, Setting}
-use Rattle.sedengine.specs.Move.{next_move, after, written, to_sink, copies, quietly}
+use Rattle.sedengine.specs.Move.{next_move, after, written, to_sink, copies_byte, quietly}
 use Rattle.sedengine.specs.Meters.{Sent, SinkView}
 use Rattle.sedengine.specs.Calls.{Puts}
 use Rattle.sedengine.specs.Ends.{WithinLimits, Within, BrokenOff}
@@ -82,12 +82,12 @@ module _ (g : Setting) (s : State) (k : ℕ) (rest : List Task) (at : s.tasks �
       let more : o + 1 ≡ suc o = omega arith in
       let turns : s.turns + o + 1 ≡ s.turns + suc o = omega arith in
       let byte : slice_get (g.files k) o ≡ Some (get_or (g.files k) o 0) = slice_get-get_or (g.files k) o 0 lt in
-      move_at g m (copy k o ∷ rest) refl ∙ ap (copies m rest k o) byte ∙ rw (more, turns) refl
+      move_at g m (copy k o ∷ rest) refl ∙ ap (copies_byte m rest k o) byte ∙ rw (more, turns) refl
 
   at_end : (o : ℕ) → length (g.files k) ≤ o → next_move g (copied s k rest o) ≡ quietly (record s { tasks = rest; turns = s.turns + o })
   at_end o le =
       let m : State = copied s k rest o in
-      move_at g m (copy k o ∷ rest) refl ∙ ap (copies m rest k o) (slice_get_past (g.files k) o le)
+      move_at g m (copy k o ∷ rest) refl ∙ ap (copies_byte m rest k o) (slice_get_past (g.files k) o le)
 
   after_copied : (o : ℕ) → o ≤ length (g.files k) → after g s o ≡ copied s k rest o
   unfolding after

@@ -15,7 +15,7 @@ use Rattle.sedengine.specs.Meters.{Sent, SinkView}
 use Rattle.sedengine.specs.Calls.{Delivers, Puts}
 use Rattle.sedengine.specs.Run.{RunState, at_lines, run_setting}
 use Rattle.sedengine.specs.Steps.{ActsHere, LeavesGiven, Moves, MakesMove, weight}
-use Rattle.sedengine.specs.Inside.{run_of, tasks_of, IsConsistent, IsEmptied}
+use Rattle.sedengine.specs.Inside.{run_state_of, tasks_of, IsConsistent, IsEmptied}
 use Rattle.sedengine.specs.declared.machine.Machine.TheInside.{Inside}
 use Rattle.sedengine.specs.declared.next_step.NextStep.{NextStep}
 use Rattle.sedengine.specs.declared.next_step.NextStep.TheVariants as p
@@ -41,38 +41,38 @@ newline_absent [] h = refl
 newline_absent (b ∷ bs) h = rw (h 0 0 (omega arith)) (newline_absent bs (λ k d lt. h (suc k) d (omega arith)))
 
 -- A command that leaves c1 in the pattern space and writes these bytes, and what the call that ends the cycle says of it.
-pub deletes : (a : Inside) (e e2 : RunState) (files : ℕ → List ℕ) (ls : List (List ℕ)) (o : Option Move) (next_step : NextStep) (c1 : Contents) (old mid new : SinkView) (out : List (ℕ × ℕ)) (r : Result Unit Ended) → run_of a ≡ e →
+pub deletes : (a : Inside) (e e2 : RunState) (files : ℕ → List ℕ) (ls : List (List ℕ)) (o : Option Move) (next_step : NextStep) (c1 : Contents) (old mid new : SinkView) (out : List (ℕ × ℕ)) (r : Result Unit Ended) → run_state_of a ≡ e →
     o ≡ writing out (then_do (flush ∷ tasks_of next_step) (at_lines (with_pattern e c1.bytes) ls)) → Sent old mid out →
-    Moves a.limits (run_setting (run_of a) files) (then_do (flush ∷ tasks_of next_step) (at_lines (run_of (record a { pattern = c1 })) ls)) (at_lines e2 ls) mid new r →
+    Moves a.limits (run_setting (run_state_of a) files) (then_do (flush ∷ tasks_of next_step) (at_lines (run_state_of (record a { pattern = c1 })) ls)) (at_lines e2 ls) mid new r →
     MakesMove e.limits (run_setting e files) o (at_lines e ls) (at_lines e2 ls) old new r
 deletes a e e2 files ls o next_step c1 old mid new out r seen is gained h =
     let Q : RunState → Type 0 = λ e. o ≡ writing out (then_do (flush ∷ tasks_of next_step) (at_lines (with_pattern e c1.bytes) ls)) → MakesMove e.limits (run_setting e files) o (at_lines e ls) (at_lines e2 ls) old new r in
-    let m : State = then_do (flush ∷ tasks_of next_step) (at_lines (run_of (record a { pattern = c1 })) ls) in
-    subst Q seen (λ is. acts_then a.limits (run_setting (run_of a) files) o (at_lines (run_of a) ls) m (at_lines e2 ls) old mid new out r is (moves_fits a.limits (run_setting (run_of a) files) m (at_lines e2 ls) mid new r h) gained refl h) is
+    let m : State = then_do (flush ∷ tasks_of next_step) (at_lines (run_state_of (record a { pattern = c1 })) ls) in
+    subst Q seen (λ is. acts_then a.limits (run_setting (run_state_of a) files) o (at_lines (run_state_of a) ls) m (at_lines e2 ls) old mid new out r is (moves_fits a.limits (run_setting (run_state_of a) files) m (at_lines e2 ls) mid new r h) gained refl h) is
 
 -- The same with what the call that ends the cycle says of its weight, and of how it leaves what it was given.
 pub acts_deleting : {O T : Type 0} {tally : O → SinkView} {count : O → ℕ} {text : T → ℕ → Option (List ℕ)} {made : Setting → State → Option Move} {o o1 o2 : O} {t t2 : T} (a : Inside) (e e2 : RunState) (next_step : NextStep) (c1 : Contents) (out : List (ℕ × ℕ)) (r : Result Unit Ended) →
-    run_of a ≡ e → ((files : ℕ → List ℕ) (ls : List (List ℕ)) → made (run_setting e files) (at_lines e ls) ≡ writing out (then_do (flush ∷ tasks_of next_step) (at_lines (with_pattern e c1.bytes) ls))) →
+    run_state_of a ≡ e → ((files : ℕ → List ℕ) (ls : List (List ℕ)) → made (run_setting e files) (at_lines e ls) ≡ writing out (then_do (flush ∷ tasks_of next_step) (at_lines (with_pattern e c1.bytes) ls))) →
     Sent (tally o) (tally o1) out → Delivers tally count o o1 (Ok tt) →
-    ((files : ℕ → List ℕ) → TellsFiles (text t) files → (ls : List (List ℕ)) → Moves a.limits (run_setting (run_of a) files) (then_do (flush ∷ tasks_of next_step) (at_lines (run_of (record a { pattern = c1 })) ls)) (at_lines e2 ls) (tally o1) (tally o2) r) →
-    weight e2 ≤ weight (run_of (record a { pattern = c1 })) + 8 → LeavesGiven tally count text (run_of (record a { pattern = c1 })) e2 o1 o2 t t2 r → ActsHere tally count text made e e2 o o2 t t2 r
+    ((files : ℕ → List ℕ) → TellsFiles (text t) files → (ls : List (List ℕ)) → Moves a.limits (run_setting (run_state_of a) files) (then_do (flush ∷ tasks_of next_step) (at_lines (run_state_of (record a { pattern = c1 })) ls)) (at_lines e2 ls) (tally o1) (tally o2) r) →
+    weight e2 ≤ weight (run_state_of (record a { pattern = c1 })) + 8 → LeavesGiven tally count text (run_state_of (record a { pattern = c1 })) e2 o1 o2 t t2 r → ActsHere tally count text made e e2 o o2 t t2 r
 acts_deleting a e e2 next_step c1 out r seen is gained first moves falls leaves = record {
   acts = λ files told ls. deletes a e e2 files ls _ next_step c1 _ _ _ out r seen (is files ls) gained (moves files told ls);
-  falls = falls_seen a e (run_of (record a { pattern = c1 })) e2 seen refl falls;
-  leaves = leaves_seen a e (run_of (record a { pattern = c1 })) seen refl refl (leaves_after first leaves);
+  falls = falls_seen a e (run_state_of (record a { pattern = c1 })) e2 seen refl falls;
+  leaves = leaves_seen a e (run_state_of (record a { pattern = c1 })) seen refl refl (leaves_after first leaves);
 }
 
 -- The text of `c` can't be written.
-pub change_stops : (a : Inside) (e : RunState) (files : ℕ → List ℕ) (ls : List (List ℕ)) (o : Option Move) (c1 : Contents) (old new : SinkView) (out : List (ℕ × ℕ)) (end : Ended) → run_of a ≡ e → IsConsistent a → c1.bytes ≡ [] →
+pub change_stops : (a : Inside) (e : RunState) (files : ℕ → List ℕ) (ls : List (List ℕ)) (o : Option Move) (c1 : Contents) (old new : SinkView) (out : List (ℕ × ℕ)) (end : Ended) → run_state_of a ≡ e → IsConsistent a → c1.bytes ≡ [] →
     o ≡ writing out (then_do (flush ∷ begin ∷ []) (at_lines (with_pattern e c1.bytes) ls)) → Puts old new out (Err end) →
-    MakesMove e.limits (run_setting e files) o (at_lines e ls) (at_lines (run_of (record a { pattern = c1 })) ls) old new (Err end)
+    MakesMove e.limits (run_setting e files) o (at_lines e ls) (at_lines (run_state_of (record a { pattern = c1 })) ls) old new (Err end)
 change_stops a e files ls o c1 old new out end seen i none is put =
-    let Q : RunState → Type 0 = λ e. o ≡ writing out (then_do (flush ∷ begin ∷ []) (at_lines (with_pattern e c1.bytes) ls)) → MakesMove e.limits (run_setting e files) o (at_lines e ls) (at_lines (run_of (record a { pattern = c1 })) ls) old new (Err end) in
-    let m : State = then_do (flush ∷ begin ∷ []) (at_lines (run_of (record a { pattern = c1 })) ls) in
+    let Q : RunState → Type 0 = λ e. o ≡ writing out (then_do (flush ∷ begin ∷ []) (at_lines (with_pattern e c1.bytes) ls)) → MakesMove e.limits (run_setting e files) o (at_lines e ls) (at_lines (run_state_of (record a { pattern = c1 })) ls) old new (Err end) in
+    let m : State = then_do (flush ∷ begin ∷ []) (at_lines (run_state_of (record a { pattern = c1 })) ls) in
     let f = fits_of a ls i in
     let empty = ap length none in
     let fm : WithinLimits a.limits m = record { pattern = omega arith; hold = f.hold; queue = f.queue; turns = f.turns } in
-    subst Q seen (λ is. acts_stopping a.limits (run_setting (run_of a) files) o (at_lines (run_of a) ls) m (at_lines (run_of (record a { pattern = c1 })) ls) old new out end is fm (record { pattern = refl; hold = refl; queue = λ _. refl; entries = omega arith }) refl put) is
+    subst Q seen (λ is. acts_stopping a.limits (run_setting (run_state_of a) files) o (at_lines (run_state_of a) ls) m (at_lines (run_state_of (record a { pattern = c1 })) ls) old new out end is fm (record { pattern = refl; hold = refl; queue = λ _. refl; entries = omega arith }) refl put) is
 
 -- What the commands do, by what is left in the pattern space.
 pub change_is : (e : RunState) (files : ℕ → List ℕ) (ls : List (List ℕ)) (text : ℕ) (writes_text b : Bool) (c1 : Contents) → c1.bytes ≡ [] → writes_text ≡ b →
@@ -91,7 +91,7 @@ pub uncut_is : (e : RunState) (files : ℕ → List ℕ) (ls : List (List ℕ)) 
     acts (run_setting e files) (at_lines e ls) true (Plain DeleteFirst) ≡ acts (run_setting e files) (at_lines e ls) true (Plain Delete)
 uncut_is e files ls absent = rw absent refl
 
-pub cut_seen : (a : Inside) (e : RunState) (files : ℕ → List ℕ) (ls : List (List ℕ)) (c1 : Contents) → run_of a ≡ e → Contains a.pattern.bytes 10 → c1 ≡ record a.pattern { bytes = after_first is_newline a.pattern.bytes } →
+pub cut_seen : (a : Inside) (e : RunState) (files : ℕ → List ℕ) (ls : List (List ℕ)) (c1 : Contents) → run_state_of a ≡ e → Contains a.pattern.bytes 10 → c1 ≡ record a.pattern { bytes = after_first is_newline a.pattern.bytes } →
     acts (run_setting e files) (at_lines e ls) true (Plain DeleteFirst) ≡ quietly (then_do (flush ∷ rebegin ∷ []) (at_lines (with_pattern e c1.bytes) ls))
 cut_seen a e files ls c1 seen there is =
     let same : a.pattern.bytes ≡ e.state.pattern = ap (λ (e : RunState). e.state.pattern) seen in
@@ -113,15 +113,15 @@ cut_is_run a pattern i there is =
     rw is (placed a (record a.pattern { bytes = w }) a.next_step i refl (omega (arith, short, most)) (cut_empties a.next_step a.pattern.bytes w there i.empty))
 
 -- without a newline the space stays, and `D` is `d`
-pub uncut_performs : (a : Inside) (e e' : RunState) (files : ℕ → List ℕ) (ls : List (List ℕ)) (c1 : Contents) (sinks sinks' : SinkView) (r : Result Unit Ended) → run_of a ≡ e → HasNoNewline a.pattern.bytes → c1 ≡ a.pattern →
-    MakesMove a.limits (run_setting (run_of a) files) (acts (run_setting (run_of a) files) (at_lines (run_of (record a { pattern = c1 })) ls) true (Plain Delete)) (at_lines (run_of (record a { pattern = c1 })) ls) (at_lines e' ls) sinks sinks' r →
+pub uncut_performs : (a : Inside) (e e' : RunState) (files : ℕ → List ℕ) (ls : List (List ℕ)) (c1 : Contents) (sinks sinks' : SinkView) (r : Result Unit Ended) → run_state_of a ≡ e → HasNoNewline a.pattern.bytes → c1 ≡ a.pattern →
+    MakesMove a.limits (run_setting (run_state_of a) files) (acts (run_setting (run_state_of a) files) (at_lines (run_state_of (record a { pattern = c1 })) ls) true (Plain Delete)) (at_lines (run_state_of (record a { pattern = c1 })) ls) (at_lines e' ls) sinks sinks' r →
     MakesMove e.limits (run_setting e files) (acts (run_setting e files) (at_lines e ls) true (Plain DeleteFirst)) (at_lines e ls) (at_lines e' ls) sinks sinks' r
 uncut_performs a e e' files ls c1 sinks sinks' r seen absent is h =
-    let S : Contents → Type 0 = λ c1. MakesMove a.limits (run_setting (run_of a) files) (acts (run_setting (run_of a) files) (at_lines (run_of (record a { pattern = c1 })) ls) true (Plain Delete)) (at_lines (run_of (record a { pattern = c1 })) ls) (at_lines e' ls) sinks sinks' r in
-    rw (← seen) (rw (uncut_is (run_of a) files ls (newline_absent a.pattern.bytes absent)) (subst S is h))
+    let S : Contents → Type 0 = λ c1. MakesMove a.limits (run_setting (run_state_of a) files) (acts (run_setting (run_state_of a) files) (at_lines (run_state_of (record a { pattern = c1 })) ls) true (Plain Delete)) (at_lines (run_state_of (record a { pattern = c1 })) ls) (at_lines e' ls) sinks sinks' r in
+    rw (← seen) (rw (uncut_is (run_state_of a) files ls (newline_absent a.pattern.bytes absent)) (subst S is h))
 
 -- the text of `c`, as the engine is seen
-pub text_put : (a : Inside) (e : RunState) (text : ℕ) (bytes : List ℕ) (old new : SinkView) (r : Result Unit Ended) → run_of a ≡ e → slice_get a.script.texts text ≡ Some bytes → Puts old new (line_to 0 bytes) r →
+pub text_put : (a : Inside) (e : RunState) (text : ℕ) (bytes : List ℕ) (old new : SinkView) (r : Result Unit Ended) → run_state_of a ≡ e → slice_get a.script.texts text ≡ Some bytes → Puts old new (line_to 0 bytes) r →
     Puts old new (line_to 0 (unwrap_or (slice_get e.script.texts text) [])) r
 text_put a e text bytes old new r seen there h =
     rw (← seen) (rw there h)

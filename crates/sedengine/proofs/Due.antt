@@ -8,14 +8,14 @@ use Rattle.std.proofs.Math.Seq.{take-length}
 use Rattle.std.proofs.lemmas.Bool.{false≢true}
 use Rattle.sedre.specs.Tree.{WrittenExpression, expression_tree}
 use Rattle.sedmatch.specs.Groups.{Groups}
-use Rattle.sedmatch.specs.Matching.{report}
+use Rattle.sedmatch.specs.Matching.{reported_groups}
 use Rattle.sedmatch.specs.Following.{LiesOn}
 use Rattle.sedscript.specs.declared.substitution.Piece.{Piece}
 use Rattle.sedspace.specs.Spaces.{Contents}
 use Rattle.sedspace.specs.declared.errors.Full.{Full}
-use Rattle.sedengine.specs.Substitute.{Occurrence, to_replace, occurrences, put_for, replaced_from}
+use Rattle.sedengine.specs.Substitute.{Occurrence, to_replace, each_occurrence, put_for, replaced_from}
 use Rattle.sedengine.specs.State.{search_for, occurrence_at_span}
-use Rattle.sedengine.specs.SubstituteParts.{next_occurrence, Appends, GroupsOf, ReplacesThese, Skips, has_group, with_groups}
+use Rattle.sedengine.specs.SubstituteParts.{next_occurrence, Appends, GroupsOf, ReplacesThese, Skips, names_group, with_groups}
 use Rattle.sedengine.specs.SubstituteParts.{later_cost, occurrences_after, pending, told_cost}
 use Rattle.sedengine.proofs.Occurrences.{after_is}
 use Rattle.sedengine.proofs.PieceLemmas.{put_same}
@@ -72,7 +72,7 @@ rest_after e w global q = if global then occurrences_after e w (Some q) else []
 -- for an occurrence the text before it is due, what stands for it, and what comes after it
 pub due_next : (old mid : Contents) (all : List ℕ) (e : WrittenExpression) (w : List ℕ) (ps : List Piece) (global : Bool)
     (at : ℕ) (groups : Groups) (o : Option (ℕ × ℕ)) (span : ℕ × ℕ) → o ≡ Some span →
-    GroupsOf e w (has_group ps) o groups → Due old mid all (replaced_from w ps at (pending e w global o)) →
+    GroupsOf e w (names_group ps) o groups → Due old mid all (replaced_from w ps at (pending e w global o)) →
     Due old mid all (slice_range w at span.0
     ++ (put_for w (with_groups span groups) ps ++ replaced_from w ps span.1 (rest_after e w global span.1)))
 due_next old mid all e w ps global at groups None span is told due = let never : None ≡ Some span = is in cc
@@ -83,12 +83,12 @@ due_next old mid all e w ps global at groups (Some this) span is told due =
     ++ (put ++ replaced_from w ps s.1 (rest_after e w global s.1))) in
     let flat : Parts this (put_for w (occurrence_at_span e w this) ps) = due_as old mid all _ _ (simp append_assoc) due in
     subst (λ (s : ℕ × ℕ). Parts s (put_for w (with_groups s groups) ps)) same
-    (subst (Parts this) (sym (put_same w this groups (report (expression_tree e) w this.0 this.1) ps (λ some. (told some).0))) flat)
+    (subst (Parts this) (sym (put_same w this groups (reported_groups (expression_tree e) w this.0 this.1) ps (λ some. (told some).0))) flat)
 
 -- after the text before it, what stands for it is due
 pub due_cut : (old mid cut : Contents) (all : List ℕ) (e : WrittenExpression) (w : List ℕ) (ps qs : List Piece) (global : Bool)
     (at : ℕ) (groups : Groups) (o : Option (ℕ × ℕ)) (span : ℕ × ℕ) → o ≡ Some span →
-    GroupsOf e w (has_group ps) o groups → qs ≡ ps → Due old mid all (replaced_from w ps at (pending e w global o)) →
+    GroupsOf e w (names_group ps) o groups → qs ≡ ps → Due old mid all (replaced_from w ps at (pending e w global o)) →
     cut ≡ record mid { bytes = mid.bytes ++ slice_range w at span.0 } →
     Due old cut all (put_for w (with_groups span groups) qs ++ replaced_from w ps span.1 (rest_after e w global span.1))
 due_cut old mid cut all e w ps qs global at groups o span is told same due before =
@@ -100,7 +100,7 @@ due_cut old mid cut all e w ps qs global at groups o span is told same due befor
 -- and after that what comes after it
 pub due_after : (old mid cut new : Contents) (all : List ℕ) (e : WrittenExpression) (w : List ℕ) (ps qs : List Piece)
     (global : Bool) (at : ℕ) (groups : Groups) (o : Option (ℕ × ℕ)) (span : ℕ × ℕ) (ms : List Occurrence) → o ≡ Some span →
-    GroupsOf e w (has_group ps) o groups → qs ≡ ps → Due old mid all (replaced_from w ps at (pending e w global o)) →
+    GroupsOf e w (names_group ps) o groups → qs ≡ ps → Due old mid all (replaced_from w ps at (pending e w global o)) →
     cut ≡ record mid { bytes = mid.bytes ++ slice_range w at span.0 } →
     new ≡ record cut { bytes = cut.bytes ++ put_for w (with_groups span groups) qs } →
     rest_after e w global span.1 ≡ ms → Due old new all (replaced_from w ps span.1 ms)
@@ -141,12 +141,12 @@ lies_on n q (Some span) lies = (lies.2.0, lies.0, lies.1)
 -- the chosen occurrences are pending where the first of them comes next
 pub to_replace_is : (e : WrittenExpression) (w : List ℕ) (number : ℕ) (global : Bool) (last : Option ℕ) (r : Option (ℕ × ℕ)) →
     Skips e w (number - 1) (Some last) → option_map (occurrence_at_span e w) r ≡ next_occurrence (search_for e w) (length w) last →
-    to_replace number global (occurrences (search_for e w) (length w)) ≡ pending e w global r
+    to_replace number global (each_occurrence (search_for e w) (length w)) ≡ pending e w global r
 to_replace_is e w number global last r skips next = by_flag global r (skips.0 ∙ after_is e w last r skips.1 next)
   where
     by_flag : (global : Bool) (r : Option (ℕ × ℕ)) →
-        drop (number - 1) (occurrences (search_for e w) (length w)) ≡ pending e w true r →
-        to_replace number global (occurrences (search_for e w) (length w)) ≡ pending e w global r
+        drop (number - 1) (each_occurrence (search_for e w) (length w)) ≡ pending e w true r →
+        to_replace number global (each_occurrence (search_for e w) (length w)) ≡ pending e w global r
     by_flag true r is = is
     by_flag false None is = ap (take 1) is
     by_flag false (Some span) is = ap (take 1) is

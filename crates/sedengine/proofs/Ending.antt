@@ -13,7 +13,7 @@ use Rattle.sedengine.specs.Calls.{Puts}
 use Rattle.sedengine.specs.Run.{RunState, at_lines, run_setting, starts_cycle}
 use Rattle.sedengine.specs.Steps.{MovesTo, at_end, Moves, MakesMove, costs, weight}
 use Rattle.sedengine.specs.Queueing.{flushed, with_turns}
-use Rattle.sedengine.specs.Inside.{run_of, tasks_of, entries_of, IsConsistent, CommandQueues}
+use Rattle.sedengine.specs.Inside.{run_state_of, tasks_of, entries_of, IsConsistent, CommandQueues}
 use Rattle.sedengine.specs.declared.machine.Machine.TheInside.{Inside}
 use Rattle.sedengine.specs.declared.next_step.NextStep.{NextStep}
 use Rattle.sedengine.specs.declared.next_step.NextStep.TheVariants as p
@@ -24,7 +24,7 @@ use Rattle.sedengine.proofs.Queueing.{AllQueue-snoc}
 use Rattle.sedengine.proofs.Tasks.{fits_of, fits_tasks}
 
 -- what is known of the fields holds of the engine as it is seen
-pub fits_seen : (a : Inside) (e : RunState) (ls : List (List ℕ)) → run_of a ≡ e → IsConsistent a → WithinLimits e.limits (at_lines e ls)
+pub fits_seen : (a : Inside) (e : RunState) (ls : List (List ℕ)) → run_state_of a ≡ e → IsConsistent a → WithinLimits e.limits (at_lines e ls)
 fits_seen a e ls seen i = rw (← seen) (fits_of a ls i)
 
 -- a state that has these tasks already
@@ -32,17 +32,17 @@ pub then_same : (s : State) (ts : List Task) → s.tasks ≡ ts → then_do ts s
 then_same s ts h = rw (← h) refl
 
 -- The queue of an engine with the fields a is written.
-pub flush_moves : (a : Inside) (e e' : RunState) (g : Setting) (ls : List (List ℕ)) (rest : List Task) (turns : ℕ) (sinks sinks' : SinkView) (r : Result Unit Ended) → run_of a ≡ e → IsConsistent a →
+pub flush_moves : (a : Inside) (e e' : RunState) (g : Setting) (ls : List (List ℕ)) (rest : List Task) (turns : ℕ) (sinks sinks' : SinkView) (r : Result Unit Ended) → run_state_of a ≡ e → IsConsistent a →
     ((s : State) (rest : List Task) → s.tasks ≡ flush ∷ rest → s.queue ≡ entries_of a.script a.queue.items → s.turns ≡ a.turns → WithinLimits a.limits s → MovesTo a.limits g s (record s { queue = []; tasks = rest; turns = turns }) s sinks sinks' r) →
     OnOk r (e' ≡ flushed e turns) → OnErr r (e' ≡ with_turns e turns) →
     Moves e.limits g (then_do (flush ∷ rest) (at_lines e ls)) (then_do rest (at_lines e' ls)) sinks sinks' r
 flush_moves a e e' g ls rest turns sinks sinks' (Ok u) seen i h ok err =
-    let f = fits_tasks a.limits (at_lines (run_of a) ls) (flush ∷ rest) (fits_of a ls i) in
-    rw ok (rw (← seen) (h (then_do (flush ∷ rest) (at_lines (run_of a) ls)) rest refl refl refl f))
+    let f = fits_tasks a.limits (at_lines (run_state_of a) ls) (flush ∷ rest) (fits_of a ls i) in
+    rw ok (rw (← seen) (h (then_do (flush ∷ rest) (at_lines (run_state_of a) ls)) rest refl refl refl f))
 flush_moves a e e' g ls rest turns sinks sinks' (Err end) seen i h ok err =
-    let f = fits_tasks a.limits (at_lines (run_of a) ls) (flush ∷ rest) (fits_of a ls i) in
-    let s : State = then_do (flush ∷ rest) (at_lines (run_of a) ls) in
-    rw err (rw (← seen) (Stopped-as a.limits g s s (then_do rest (at_lines (with_turns (run_of a) turns) ls)) sinks sinks' end refl refl refl refl (h s rest refl refl refl f)))
+    let f = fits_tasks a.limits (at_lines (run_state_of a) ls) (flush ∷ rest) (fits_of a ls i) in
+    let s : State = then_do (flush ∷ rest) (at_lines (run_state_of a) ls) in
+    rw err (rw (← seen) (Stopped-as a.limits g s s (then_do rest (at_lines (with_turns (run_state_of a) turns) ls)) sinks sinks' end refl refl refl refl (h s rest refl refl refl f)))
 
 -- The pattern space is written, and then what comes after it.
 pub print_moves : (e e' : RunState) (files : ℕ → List ℕ) (ls : List (List ℕ)) (rest : List Task) (old mid new : SinkView) (r : Result Unit Ended) → WithinLimits e.limits (at_lines e ls) →
@@ -100,7 +100,7 @@ quits e e' g ls sinks sinks' now r at h =
     rw (← (then_same (at_lines e ls) (print_pattern ∷ flush ∷ []) at)) h
 
 -- a cycle starts with the pattern space as it is
-pub rebegins : (a : Inside) (e : RunState) (g : Setting) (ls : List (List ℕ)) (sinks : SinkView) (e' : RunState) → run_of a ≡ e → IsConsistent a → e.state.tasks ≡ rebegin ∷ [] → (a.turns ≡ a.limits.turns → ⊥) →
+pub rebegins : (a : Inside) (e : RunState) (g : Setting) (ls : List (List ℕ)) (sinks : SinkView) (e' : RunState) → run_state_of a ≡ e → IsConsistent a → e.state.tasks ≡ rebegin ∷ [] → (a.turns ≡ a.limits.turns → ⊥) →
     e' ≡ record e { state = record e.state { tasks = do_at 0 ∷ []; turns = e.state.turns + 1 } } → Moves e.limits g (at_lines e ls) (at_lines e' ls) sinks sinks (Ok tt)
 rebegins a e g ls sinks e' seen i at more is =
     let f = fits_seen a e ls seen i in
@@ -108,7 +108,7 @@ rebegins a e g ls sinks e' seen i at more is =
     let less : a.turns + 1 ≤ a.limits.turns = omega arith in
     rw is (ran_quietly e.limits g (at_lines e ls) _ sinks f (move_at _ _ _ at) (record { pattern = f.pattern; hold = f.hold; queue = f.queue; turns = rw (← seen) less }))
 
-pub rebegin_spent : (a : Inside) (e : RunState) (g : Setting) (ls : List (List ℕ)) (sinks : SinkView) → run_of a ≡ e → IsConsistent a → e.state.tasks ≡ rebegin ∷ [] → a.turns ≡ a.limits.turns →
+pub rebegin_spent : (a : Inside) (e : RunState) (g : Setting) (ls : List (List ℕ)) (sinks : SinkView) → run_state_of a ≡ e → IsConsistent a → e.state.tasks ≡ rebegin ∷ [] → a.turns ≡ a.limits.turns →
     Moves e.limits g (at_lines e ls) (at_lines e ls) sinks sinks (Err TurnsSpent)
 rebegin_spent a e g ls sinks seen i at spent =
     let f = fits_seen a e ls seen i in
@@ -165,15 +165,15 @@ weight_ended e e' next_step limits later tasks =
     omega arith
 
 -- the engine goes on at this place
-pub falls_going : (a : Inside) (e : RunState) (next_step : NextStep) → run_of a ≡ e → weight (run_of (record a { next_step = next_step })) ≤ weight e + 8
-falls_going a e next_step seen = rw (← seen) (weight_ended (run_of a) (run_of (record a { next_step = next_step })) next_step refl (omega arith) refl)
+pub falls_going : (a : Inside) (e : RunState) (next_step : NextStep) → run_state_of a ≡ e → weight (run_state_of (record a { next_step = next_step })) ≤ weight e + 8
+falls_going a e next_step seen = rw (← seen) (weight_ended (run_state_of a) (run_state_of (record a { next_step = next_step })) next_step refl (omega arith) refl)
 
 -- a command that queues is one of the engine's script
-pub queues_seen : (a : Inside) (e : RunState) (k : ℕ) → run_of a ≡ e → CommandQueues (slice_get e.script.commands k) → CommandQueues (slice_get a.script.commands k)
+pub queues_seen : (a : Inside) (e : RunState) (k : ℕ) → run_state_of a ≡ e → CommandQueues (slice_get e.script.commands k) → CommandQueues (slice_get a.script.commands k)
 queues_seen a e k seen h = rw (← seen) at h
 
 -- what is written, as the engine is seen
-pub puts_seen : (a : Inside) (e : RunState) (f : RunState → List (ℕ × ℕ)) (sinks sinks' : SinkView) (r : Result Unit Ended) → run_of a ≡ e → Puts sinks sinks' (f (run_of a)) r → Puts sinks sinks' (f e) r
+pub puts_seen : (a : Inside) (e : RunState) (f : RunState → List (ℕ × ℕ)) (sinks sinks' : SinkView) (r : Result Unit Ended) → run_state_of a ≡ e → Puts sinks sinks' (f (run_state_of a)) r → Puts sinks sinks' (f e) r
 puts_seen a e f sinks sinks' r seen h = rw (← seen) h
 
 -- an end that came while the queue was written is told of the engine, whatever it was to do next

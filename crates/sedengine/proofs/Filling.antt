@@ -4,11 +4,11 @@ use Rattle.std.specs.Prelude.{slice_get}
 use Rattle.std.proofs.lemmas.Bool.{cases_eq}
 use Rattle.std.proofs.lemmas.Option.{slice_get_within}
 use Rattle.sedscript.specs.declared.types.Command.{Command}
-use Rattle.sedengine.specs.Inside.{CommandHolds, holds}
+use Rattle.sedengine.specs.Inside.{CommandHolds, keeps_in_hold}
 use Rattle.sedengine.proofs.Fitting.{lower}
 
 -- none of the first commands puts something into the hold space, and one more doesn't
-pub none_holds : (cs : List Command) (k : ℕ) (x : Command) → slice_get cs k ≡ Some x → holds x.action ≡ false →
+pub none_holds : (cs : List Command) (k : ℕ) (x : Command) → slice_get cs k ≡ Some x → keeps_in_hold x.action ≡ false →
     ((i : ℕ) → i < k → CommandHolds (slice_get cs i) → ⊥) → (i : ℕ) → i < k + 1 → CommandHolds (slice_get cs i) → ⊥
 none_holds cs k x at free before i low h =
     ⊎_elim

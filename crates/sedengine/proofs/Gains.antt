@@ -4,19 +4,19 @@ use Rattle.std.specs.Prelude.{nat_eq, slice_get}
 use Rattle.std.proofs.lemmas.Bool.Decides.{nat_tests}
 use Rattle.std.specs.Io.KnownBytes.{Appends, Keeps}
 use Rattle.sedengine.specs.Move.{to_sink}
-use Rattle.sedengine.specs.Ends.{part, Gained}
+use Rattle.sedengine.specs.Ends.{bytes_of_sink, Gained}
 
-pub part-append : (k : ℕ) (xs ys : List (ℕ × ℕ)) → part k (xs ++ ys) ≡ part k xs ++ part k ys
+pub part-append : (k : ℕ) (xs ys : List (ℕ × ℕ)) → bytes_of_sink k (xs ++ ys) ≡ bytes_of_sink k xs ++ bytes_of_sink k ys
 part-append k [] ys = refl
 part-append k ((sink, byte) ∷ xs) ys =
-    elim (nat_eq sink k) as (λ b. cond b (byte ∷ part k (xs ++ ys)) (part k (xs ++ ys)) ≡ cond b (byte ∷ part k xs) (part k xs) ++ part k ys)
+    elim (nat_eq sink k) as (λ b. cond b (byte ∷ bytes_of_sink k (xs ++ ys)) (bytes_of_sink k (xs ++ ys)) ≡ cond b (byte ∷ bytes_of_sink k xs) (bytes_of_sink k xs) ++ bytes_of_sink k ys)
     [ true ↦ ap (λ l. byte ∷ l) (part-append k xs ys) | false ↦ part-append k xs ys ]
 
-pub part-same : (k : ℕ) (bs : List ℕ) → part k (to_sink k bs) ≡ bs
+pub part-same : (k : ℕ) (bs : List ℕ) → bytes_of_sink k (to_sink k bs) ≡ bs
 part-same k [] = refl
 part-same k (b ∷ bs) = let h = part-same k bs in grind (arith, nat_tests)
 
-pub part-other : (s k : ℕ) (bs : List ℕ) → s ≢ k → part k (to_sink s bs) ≡ []
+pub part-other : (s k : ℕ) (bs : List ℕ) → s ≢ k → bytes_of_sink k (to_sink s bs) ≡ []
 part-other s k [] h = refl
 part-other s k (b ∷ bs) h = let i = part-other s k bs h in grind (arith, nat_tests)
 
@@ -51,7 +51,7 @@ same_or_not (suc s) zero = inr (λ e. absurd (omega (arith, e)))
 same_or_not (suc s) (suc k) = elim (same_or_not s k) [ inl e ↦ inl (ap suc e) | inr d ↦ inr (λ e. d (omega (arith, e))) ]
 
 at_sink : (old new : ℕ → Option (List ℕ)) (s k : ℕ) (bs : List ℕ) → Appends (old s) (new s) bs → ((j : ℕ) → j ≢ s → Keeps (old j) (new j)) →
-    (s ≡ k) ⊎ (s ≢ k) → Appends (old k) (new k) (part k (to_sink s bs))
+    (s ≡ k) ⊎ (s ≢ k) → Appends (old k) (new k) (bytes_of_sink k (to_sink s bs))
 at_sink old new s k bs h others (inl same) = rw (← same, part-same) h
 at_sink old new s k bs h others (inr other) = rw (part-other s k bs other) (Appends-none (old k) (new k) (others k (λ e. other (sym e))))
 

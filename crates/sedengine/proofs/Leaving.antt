@@ -14,7 +14,7 @@ use Rattle.sedengine.specs.Calls.{Delivers, NamesNone, Puts, ReadsLines}
 use Rattle.sedengine.specs.Meters.{SinkView}
 use Rattle.sedengine.specs.Run.{SameRun, RunState}
 use Rattle.sedengine.specs.Bringing.{brought}
-use Rattle.sedengine.specs.Inside.{run_of}
+use Rattle.sedengine.specs.Inside.{run_state_of}
 use Rattle.sedengine.specs.Queueing.{flushed, with_turns}
 use Rattle.sedengine.specs.Steps.{LeavesGiven, LeavesLines, costs, weight}
 use Rattle.sedspace.specs.declared.lines.Got.{Got}
@@ -69,7 +69,7 @@ module _ {O T : Type 0} {tally : O → SinkView} {count : O → ℕ} {text : T �
   leaves_written e o o' t out r put h = record { devices = record { output = h; input = puts_unread _ _ out r put }; same = record { script = refl; limits = refl }; kept = λ j. Keeps-refl _ }
 
   -- a call on an engine of the same script and limits, made of the fields a
-  pub leaves_seen : (a : Inside) (e e1 : RunState) {e' : RunState} {o o' : O} {t t' : T} {r : Result Unit Ended} → run_of a ≡ e → e1.script ≡ a.script → e1.limits ≡ a.limits → LeavesGiven tally count text e1 e' o o' t t' r → LeavesGiven tally count text e e' o o' t t' r
+  pub leaves_seen : (a : Inside) (e e1 : RunState) {e' : RunState} {o o' : O} {t t' : T} {r : Result Unit Ended} → run_state_of a ≡ e → e1.script ≡ a.script → e1.limits ≡ a.limits → LeavesGiven tally count text e1 e' o o' t t' r → LeavesGiven tally count text e e' o o' t t' r
   leaves_seen a e e1 seen script limits h = record { devices = h.devices; same = SameRun-then (same_seen a e e1 seen script limits) h.same; kept = h.kept }
 
   -- one that wrote before it
@@ -108,10 +108,10 @@ pub same_replaced : (e e' : RunState) (s : State) → e' ≡ same_but_replaced e
 same_replaced e e' s is = rw is (record { script = refl; limits = refl })
 
 -- an engine that weighs as much as the one that the fields a stand for
-pub falls_seen : (a : Inside) (e e1 e' : RunState) → run_of a ≡ e → weight e1 ≡ weight (run_of a) → weight e' ≤ weight e1 + 8 → weight e' ≤ weight e + 8
+pub falls_seen : (a : Inside) (e e1 e' : RunState) → run_state_of a ≡ e → weight e1 ≡ weight (run_state_of a) → weight e' ≤ weight e1 + 8 → weight e' ≤ weight e + 8
 falls_seen a e e1 e' seen same h = let was = ap weight seen in omega arith
 
-pub falls_kept : (a : Inside) (e e1 e' : RunState) → run_of a ≡ e → weight e1 ≡ weight (run_of a) → weight e' ≤ weight e1 → weight e' ≤ weight e
+pub falls_kept : (a : Inside) (e e1 e' : RunState) → run_state_of a ≡ e → weight e1 ≡ weight (run_state_of a) → weight e' ≤ weight e1 → weight e' ≤ weight e
 falls_kept a e e1 e' seen same h = let was = ap weight seen in omega arith
 
 pub falls_more : {m n : ℕ} → n ≤ m → n ≤ m + 8

@@ -7,7 +7,7 @@ use Rattle.sedengine.specs.Move.{to_sink}
 use Rattle.sedengine.specs.Meters.{Sent, SinkView}
 use Rattle.sedengine.specs.Calls.{Puts}
 use Rattle.sedengine.specs.Listing.{listed_byte, listed, listed_from, most_listed}
-use Rattle.sedengine.specs.ListingParts.{Listing, ArePlain, Lists, WrittenInPart, plain, with_run}
+use Rattle.sedengine.specs.ListingParts.{Listing, AreListedPlain, Lists, WrittenInPart, plain, with_run}
 use Rattle.sedengine.specs.declared.ends.Ended.{Ended}
 use Rattle.sedengine.proofs.Sending.{Sent-append, Sent-none}
 use Rattle.sedengine.proofs.Gains.{to_sink-append}
@@ -17,15 +17,15 @@ use Rattle.sedengine.proofs.Writing.{Puts-left, Puts-append}
 pub plain_is : (b : ℕ) → plain b ≡ true → listed_byte b ≡ b ∷ []
 plain_is b h = grind (arith, nat_tests)
 
-ArePlain-append : (xs ys : List ℕ) → ArePlain xs → ArePlain ys → ArePlain (xs ++ ys)
+ArePlain-append : (xs ys : List ℕ) → AreListedPlain xs → AreListedPlain ys → AreListedPlain (xs ++ ys)
 ArePlain-append [] ys p q = q
 ArePlain-append (x ∷ xs) ys p q = (p.0, ArePlain-append xs ys p.1 q)
 
 -- one more plain byte
-pub plain_more : (bytes : List ℕ) (i : ℕ) → i < length bytes → ArePlain (take i bytes) → plain (get_or bytes i 0) ≡ true → ArePlain (take (i + 1) bytes)
+pub plain_more : (bytes : List ℕ) (i : ℕ) → i < length bytes → AreListedPlain (take i bytes) → plain (get_or bytes i 0) ≡ true → AreListedPlain (take (i + 1) bytes)
 plain_more bytes i h p q =
     let more : take (i + 1) bytes ≡ take i bytes ++ get_or bytes i 0 ∷ [] = take_more bytes i 0 h in
-    subst ArePlain (sym more) (ArePlain-append (take i bytes) (get_or bytes i 0 ∷ []) p (plain_is (get_or bytes i 0) q, tt))
+    subst AreListedPlain (sym more) (ArePlain-append (take i bytes) (get_or bytes i 0 ∷ []) p (plain_is (get_or bytes i 0) q, tt))
 
 -- what the definition makes of an item
 abbrev after_item : ℕ → List ℕ → List ℕ → List ℕ
@@ -38,7 +38,7 @@ after_item column rest i =
 no_fold : (column : ℕ) (i rest : List ℕ) → column + length i ≤ 69 → after_item column rest i ≡ i ++ listed_from (column + length i) rest
 no_fold column i rest h = grind (arith, nat_tests)
 
-run_from : (column : ℕ) (run rest : List ℕ) → ArePlain run → column + length run ≤ 69 → listed_from column (run ++ rest) ≡ run ++ listed_from (column + length run) rest
+run_from : (column : ℕ) (run rest : List ℕ) → AreListedPlain run → column + length run ≤ 69 → listed_from column (run ++ rest) ≡ run ++ listed_from (column + length run) rest
 run_from column [] rest p h = let e : column + 0 ≡ column = omega arith in rw e
 run_from column (b ∷ bs) rest p h =
     let first : after_item column (bs ++ rest) (listed_byte b) ≡ after_item column (bs ++ rest) (b ∷ []) = ap (after_item column (bs ++ rest)) p.0 in
@@ -48,17 +48,17 @@ run_from column (b ∷ bs) rest p h =
     first ∙ here ∙ ap (λ l. b ∷ l) (more ∙ ap (λ n. bs ++ listed_from n rest) same)
 
 -- plain bytes that need no fold
-lists_run : (l : Listing) (run : List ℕ) → ArePlain run → l.column + length run ≤ 69 → Lists l run (with_run l run)
+lists_run : (l : Listing) (run : List ℕ) → AreListedPlain run → l.column + length run ≤ 69 → Lists l run (with_run l run)
 lists_run l run p h = λ rest. ap (λ t. l.bytes ++ t) (run_from l.column run rest p h) ∙ sym (append_assoc l.bytes run (listed_from (l.column + length run) rest))
 
 -- a run of plain bytes found among the first of a part
 pub lists_found : (l : Listing) (part : List ℕ) (run most column : ℕ) → column ≡ l.column → column ≤ 69 → most ≤ 69 - column →
-    run ≤ length (take most part) → ArePlain (take run (take most part)) → Lists l (take run part) (with_run l (take run part))
+    run ≤ length (take most part) → AreListedPlain (take run (take most part)) → Lists l (take run part) (with_run l (take run part))
 lists_found l part run most column same bound short within p =
     let less : run ≤ most = omega (arith, length-take {A = ℕ}) in
     let taken : take run (take most part) ≡ take run part = take-take run most part less in
     let fits : l.column + length (take run part) ≤ 69 = omega (arith, length-take {A = ℕ}) in
-    lists_run l (take run part) (subst ArePlain taken p) fits
+    lists_run l (take run part) (subst AreListedPlain taken p) fits
 
 -- what a slice from a place holds
 all_after : (n : ℕ) (xs : List ℕ) → take (length xs - n) (drop n xs) ≡ drop n xs

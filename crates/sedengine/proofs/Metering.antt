@@ -4,11 +4,11 @@ use Rattle.std.specs.Prelude.{IfSome, OnOk}
 use Rattle.sedscript.specs.Program.{Program}
 use Rattle.sedengine.specs.State.{Limits}
 use Rattle.std.specs.List.{All}
-use Rattle.sedengine.specs.Ends.{part, FillsSink, GainedWithin}
+use Rattle.sedengine.specs.Ends.{bytes_of_sink, FillsSink, GainedWithin}
 use Rattle.sedengine.specs.DevicesAfter.{SinksAtEnd}
 use Rattle.sedengine.specs.Calls.{Delivers, FailedSink}
-use Rattle.sedengine.specs.Meters.{Frame, FullSink, InLimit, Meter, Sent, SinkView, counted}
-use Rattle.sedengine.specs.Run.{Cycles, Ending, Input, RunState, SameRun, Sends, at_lines, outcome, run_setting}
+use Rattle.sedengine.specs.Meters.{Frame, FullSink, InLimit, Meter, Sent, SinkView, counted_bytes}
+use Rattle.sedengine.specs.Run.{Cycles, Ending, Input, RunState, SameRun, Sends, at_lines, as_moves_answer, run_setting}
 use Rattle.sedengine.specs.declared.ends.Ended.{Ended}
 use Rattle.sedengine.specs.declared.ends.Ended.TheVariants.{OutputBroken, OutputFull}
 use Rattle.sedengine.specs.declared.ends.Progress.{Progress}
@@ -21,14 +21,14 @@ within_limit n (x ∷ xs) (suc k) h = within_limit n xs k (λ j d lt. h (suc j) 
 
 -- sinks with these contents, failures and counts
 abbrev pub tally_of : (ℕ → Option (List ℕ)) → (ℕ → ℕ) → Option ℕ → List ℕ → Frame → SinkView
-tally_of contents failures most sent frame = record { contents = contents; failures = failures; sent = counted most sent; frame = frame }
+tally_of contents failures most sent frame = record { contents = contents; failures = failures; sent = counted_bytes most sent; frame = frame }
 
 module _ (sent sent' : List ℕ) (old new : ℕ → Option (List ℕ)) (f f' : ℕ → ℕ) (a a' : Frame) (out : List (ℕ × ℕ)) where
-  counts_on : (most : Option ℕ) → Sent (tally_of old f most sent a) (tally_of new f' most sent' a') out → IfSome most (λ n. (k : ℕ) → get_or sent' k 0 ≡ get_or sent k 0 + length (part k out))
+  counts_on : (most : Option ℕ) → Sent (tally_of old f most sent a) (tally_of new f' most sent' a') out → IfSome most (λ n. (k : ℕ) → get_or sent' k 0 ≡ get_or sent k 0 + length (bytes_of_sink k out))
   counts_on None h = tt
   counts_on (Some n) h = h.counts
 
-  stays_within : (most : Option ℕ) → InLimit most sent' → Sent (tally_of old f most sent a) (tally_of new f' most sent' a') out → IfSome most (λ n. (k : ℕ) → get_or sent k 0 + length (part k out) ≤ n)
+  stays_within : (most : Option ℕ) → InLimit most sent' → Sent (tally_of old f most sent a) (tally_of new f' most sent' a') out → IfSome most (λ n. (k : ℕ) → get_or sent k 0 + length (bytes_of_sink k out) ≤ n)
   stays_within None within h = tt
   stays_within (Some n) within h = λ k. rw (← h.counts k) (within_limit n sent' k within)
 
@@ -58,7 +58,7 @@ sends e e' m m' old new f f' a a' r out limit same frame before now within full 
     let F : Option ℕ → Type 0 = λ o. FullSink (tally_of new f' o m'.sent a') r in
     let S : Option ℕ → Type 0 = λ o. Sent (tally_of old f m.most m.sent a) (tally_of new f' o m'.sent a') out in
     let G : Option ℕ → List ℕ → Type 0 = λ o sent. GainedWithin o (λ k. get_or sent k 0) old new r out in
-    let C : Option ℕ → List ℕ → List ℕ → Type 0 = λ o sent sent'. IfSome o (λ n. (k : ℕ) → get_or sent' k 0 ≡ get_or sent k 0 + length (part k out)) in
+    let C : Option ℕ → List ℕ → List ℕ → Type 0 = λ o sent sent'. IfSome o (λ n. (k : ℕ) → get_or sent' k 0 ≡ get_or sent k 0 + length (bytes_of_sink k out)) in
     let within' = subst W same within in
     let full' = subst F same full in
     let h' = subst S same h in
@@ -82,13 +82,13 @@ module _ {O : Type 0} (contents : O → ℕ → Option (List ℕ)) (m m' : RunSt
   sends_all r full out h =
       rw is (sends (record m { sent = meter.sent; ended = ended }) (record m' { sent = meter'.sent; ended = ended' }) meter meter' (contents before) (contents after) f f' a a' r out limit same frame refl refl within full h)
 
-  pub cycles_metered : (left : Option (List (List ℕ))) (r : Progress) → FullSink (tally_of (contents after) f' meter'.most meter'.sent a') (outcome r) →
+  pub cycles_metered : (left : Option (List (List ℕ))) (r : Progress) → FullSink (tally_of (contents after) f' meter'.most meter'.sent a') (as_moves_answer r) →
       (out : List (ℕ × ℕ)) × Sent (tally_of (contents before) f meter.most meter.sent a) (tally_of (contents after) f' meter'.most meter'.sent a') out × Cycles m.limits (run_setting m files) (at_lines m ls) out old new m' left r →
-      (out : List (ℕ × ℕ)) × Sends e (record m' { sent = meter'.sent; ended = ended' }) (contents before) (contents now) (outcome r) out
+      (out : List (ℕ × ℕ)) × Sends e (record m' { sent = meter'.sent; ended = ended' }) (contents before) (contents now) (as_moves_answer r) out
       × Cycles e.limits (run_setting e files) (at_lines e ls) out old new (record m' { sent = meter'.sent; ended = ended' }) left r
   cycles_metered left r full (out, sent, h) =
-      let Q : RunState → Type 0 = λ e. Sends e (record m' { sent = meter'.sent; ended = ended' }) (contents before) (contents now) (outcome r) out × Cycles e.limits (run_setting e files) (at_lines e ls) out old new (record m' { sent = meter'.sent; ended = ended' }) left r in
-      let both = subst Q seen (sends_all (outcome r) full out sent, cycles_of left r h) in
+      let Q : RunState → Type 0 = λ e. Sends e (record m' { sent = meter'.sent; ended = ended' }) (contents before) (contents now) (as_moves_answer r) out × Cycles e.limits (run_setting e files) (at_lines e ls) out old new (record m' { sent = meter'.sent; ended = ended' }) left r in
+      let both = subst Q seen (sends_all (as_moves_answer r) full out sent, cycles_of left r h) in
       (out, both.0, both.1)
     where
       cycles_of : (left : Option (List (List ℕ))) (r : Progress) → Cycles m.limits (run_setting m files) (at_lines m ls) out old new m' left r →
@@ -121,7 +121,7 @@ same_metered m m' e sent sent' ended ended' seen same =
     subst (λ (e : RunState). SameRun e (record m' { sent = sent'; ended = ended' })) seen (record { script = same.script; limits = same.limits })
 
 -- where a next cycle is due, what holds where the run goes on
-pub sound_more : {A : Type 0} (r : Progress) → OnOk (outcome r) A → r ≡ progress.More → A
+pub sound_more : {A : Type 0} (r : Progress) → OnOk (as_moves_answer r) A → r ≡ progress.More → A
 sound_more progress.More h is = h
 sound_more (progress.Ended end) h is = cc
 

@@ -20,7 +20,7 @@ use Rattle.sedengine.specs.Choose.{TellsLine}
 use Rattle.sedengine.specs.declared.next_step.NextStep.TheVariants as p
 use Rattle.sedengine.specs.declared.ends.Ended.{Ended}
 use Rattle.sedengine.specs.declared.ends.Ended.TheVariants.{PatternFull, InputBroken}
-use Rattle.sedengine.specs.Inside.{run_of, IsConsistent}
+use Rattle.sedengine.specs.Inside.{run_state_of, IsConsistent}
 use Rattle.sedengine.specs.declared.machine.Machine.TheInside.{Inside}
 use Rattle.sedengine.proofs.Streams.{LosesPart-none, LosesPartAfter-none, LosesPartAfter-then, TakesLines-then, line_taken, lines_end}
 use Rattle.sedengine.specs.Queueing.{flushed}
@@ -146,16 +146,16 @@ join_steps {R} remaining old new ls files e e' sinks c c' r f limit same after b
     (λ line rest are. rw (are, append_assoc) (move_at _ _ _ refl)) (λ are. rw are (move_at _ _ _ refl)) r after (subst B same brings)
 
 -- The same for an engine with the fields a.
-module _ {R : Type 0} (remaining : R → Option (List ℕ)) (old new : Stream R) (ls : List (List ℕ)) (files : ℕ → List ℕ) (sinks : SinkView) (a : Inside) (e e' : RunState) (seen : run_of a ≡ e) (i : IsConsistent a) (c' : Contents) (r : Result Got Ended) where
-  pub fetches_next : (c : Contents) → c ≡ record a.pattern { bytes = [] } → AfterBringing (run_of a) c' e' r → Brings remaining old new ls c.bytes (a.number + 1) c c' r →
+module _ {R : Type 0} (remaining : R → Option (List ℕ)) (old new : Stream R) (ls : List (List ℕ)) (files : ℕ → List ℕ) (sinks : SinkView) (a : Inside) (e e' : RunState) (seen : run_state_of a ≡ e) (i : IsConsistent a) (c' : Contents) (r : Result Got Ended) where
+  pub fetches_next : (c : Contents) → c ≡ record a.pattern { bytes = [] } → AfterBringing (run_state_of a) c' e' r → Brings remaining old new ls c.bytes (a.number + 1) c c' r →
       StepsFrom remaining old new ls e.limits (run_setting e files) (then_do (empty_pattern ∷ fetch ∷ e.state.tasks) (at_lines e ls)) e' sinks sinks (told r)
   fetches_next c is after brings =
-      rw (← seen) (fetch_steps remaining old new ls files (run_of a) e' sinks c c' r (fits_of a ls i) (ap (λ (c : Contents). c.limit) is ∙ i.pattern_limit) (ap (λ (c : Contents). c.bytes) is) after brings)
+      rw (← seen) (fetch_steps remaining old new ls files (run_state_of a) e' sinks c c' r (fits_of a ls i) (ap (λ (c : Contents). c.limit) is ∙ i.pattern_limit) (ap (λ (c : Contents). c.bytes) is) after brings)
 
-  pub joins_next : AfterBringing (run_of a) c' e' r → Brings remaining old new ls (a.pattern.bytes ++ newline ∷ []) (a.number + 1) a.pattern c' r →
+  pub joins_next : AfterBringing (run_state_of a) c' e' r → Brings remaining old new ls (a.pattern.bytes ++ newline ∷ []) (a.number + 1) a.pattern c' r →
       StepsFrom remaining old new ls e.limits (run_setting e files) (then_do (join ∷ e.state.tasks) (at_lines e ls)) e' sinks sinks (told r)
   joins_next after brings =
-      rw (← seen) (join_steps remaining old new ls files (run_of a) e' sinks a.pattern c' r (fits_of a ls i) i.pattern_limit refl after brings)
+      rw (← seen) (join_steps remaining old new ls files (run_state_of a) e' sinks a.pattern c' r (fits_of a ls i) i.pattern_limit refl after brings)
 
 -- A call for a line has brought it, or there is none.
 pub brings_got : {R : Type 0} (remaining : R → Option (List ℕ)) (old new : Stream R) (ls : List (List ℕ)) (number n : ℕ) (s s' : Contents) (got : Got) → lines_left remaining old ≡ Some ls →
@@ -311,10 +311,10 @@ next_broken {R} remaining o n ls g first e sinks InputBroken taken told = λ s c
 next_broken {R} remaining o n ls g first e sinks other taken told = absurd told
 
 -- `n` where no line is left
-pub next_stops : {R : Type 0} (remaining : R → Option (List ℕ)) (o n : Stream R) (ls : List (List ℕ)) (files : ℕ → List ℕ) (a : Inside) (e : RunState) (sinks : SinkView) (last : Bool) → run_of a ≡ e → IsConsistent a → TakesLines remaining o n ls ls → last ≡ none_left ls → last ≡ true →
-    PerformsSteps remaining o n ls e.limits (run_setting e files) (next_line (at_lines e ls)) true (at_lines e ls) (run_of (record a { next_step = p.WriteLast })) sinks sinks (Ok tt)
+pub next_stops : {R : Type 0} (remaining : R → Option (List ℕ)) (o n : Stream R) (ls : List (List ℕ)) (files : ℕ → List ℕ) (a : Inside) (e : RunState) (sinks : SinkView) (last : Bool) → run_state_of a ≡ e → IsConsistent a → TakesLines remaining o n ls ls → last ≡ none_left ls → last ≡ true →
+    PerformsSteps remaining o n ls e.limits (run_setting e files) (next_line (at_lines e ls)) true (at_lines e ls) (run_state_of (record a { next_step = p.WriteLast })) sinks sinks (Ok tt)
 next_stops {R} remaining o n ls files a e sinks last seen i taken told is =
-    let e0 : RunState = run_of a in
+    let e0 : RunState = run_state_of a in
     let now : State = then_do (print_pattern ∷ flush ∷ []) (at_lines e0 ls) in
-    rw (← seen) (λ s c asked first. looked_moves remaining o n ls a.limits (run_setting e0 files) s (run_of (record a { next_step = p.WriteLast })) sinks sinks (Ok tt) taken c.lines
+    rw (← seen) (λ s c asked first. looked_moves remaining o n ls a.limits (run_setting e0 files) s (run_state_of (record a { next_step = p.WriteLast })) sinks sinks (Ok tt) taken c.lines
     (ran_quietly a.limits (run_setting e0 files) s now sinks c.fits (first ∙ next_quits e0 e0 files ls last told is) (fits_tasks a.limits (at_lines e0 ls) (print_pattern ∷ flush ∷ []) (fits_of a ls i))))

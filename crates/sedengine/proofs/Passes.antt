@@ -13,7 +13,7 @@ use Rattle.std.specs.List.{All}
 use Rattle.std.specs.Option.{option_map}
 use Rattle.std.specs.Io.KnownBytes.{prepend_known}
 use Rattle.sedre.specs.Tree.{WrittenExpression}
-use Rattle.sedspace.specs.Lines.{is_newline, lines, HasNoNewline}
+use Rattle.sedspace.specs.Lines.{is_newline, split_lines, HasNoNewline}
 use Rattle.sedspace.specs.Stream.{AreWholeLines}
 use Rattle.sedspace.specs.Stream.{Stream, left, lines_left}
 use Rattle.sedspace.proofs.LineLemmas.{lines_at, lines_nil, lines_none}
@@ -25,11 +25,11 @@ use Rattle.sedengine.specs.Ends.{WithinLimits, named_sink}
 use Rattle.sedengine.specs.Calls.{ReadsLines}
 use Rattle.sedengine.specs.Steps.{weight}
 use Rattle.sedengine.specs.Run.{RunState, SameRun, at_lines, run_setting, FailedSource}
-use Rattle.sedengine.specs.Passing.{AllowsLines, BlockLeftAlone, BreaksOff, BreaksOffBy, ClearTo, IsClear, IsExtent, IsIdleOf, IsLineOf, PassesOver, RangesIdle, StepsPassing, WritesLines, bytes_of, counted_block, engine_after, judged, line_brought}
-use Rattle.sedengine.specs.Inside.{IsConsistent, entries_of, run_of}
+use Rattle.sedengine.specs.Passing.{AllowsLines, BlockLeftAlone, BreaksOff, BreaksOffBy, ClearTo, AsksNoNumber, IsExtent, IsIdleOf, IsLineOf, PassesLinesOver, RangesIdle, StepsPassing, WritesLines, bytes_of_lines, counted_block, engine_after, judged, line_brought}
+use Rattle.sedengine.specs.Inside.{IsConsistent, entries_of, run_state_of}
 use Rattle.sedengine.specs.declared.block.Extent.{Extent}
 use Rattle.sedengine.specs.declared.idle.Idle.{Idle}
-use Rattle.sedengine.specs.declared.meter.Cut.{Cut}
+use Rattle.sedengine.specs.declared.meter.CutShort.{CutShort}
 use Rattle.sedengine.specs.declared.machine.Machine.TheInside.{Inside}
 use Rattle.sedspace.specs.Spaces.{Contents}
 use Rattle.sedengine.specs.declared.next_step.NextStep.TheVariants as p
@@ -50,14 +50,14 @@ mul_le : (a b k : ℕ) → a ≤ b → a * k ≤ b * k
 mul_le a b k less = let h = mul-le-mul_left k less in rw (mul_comm a k, mul_comm b k) h
 
 -- whole lines, some of them, end in a newline
-whole_some : (w : List ℕ) → AreWholeLines w → 0 < length (lines w) → (p : List ℕ) × (w ≡ p ++ 10 ∷ [])
-whole_some w (inl none) some = absurd (let no : length (lines w) ≡ 0 = ap (λ w. length (lines w)) none ∙ ap length lines_nil in omega arith)
+whole_some : (w : List ℕ) → AreWholeLines w → 0 < length (split_lines w) → (p : List ℕ) × (w ≡ p ++ 10 ∷ [])
+whole_some w (inl none) some = absurd (let no : length (split_lines w) ≡ 0 = ap (λ w. length (split_lines w)) none ∙ ap length lines_nil in omega arith)
 whole_some w (inr h) some = h
 
 -- their bytes are those of their lines
-whole_bytes : (w : List ℕ) → AreWholeLines w → bytes_of (lines w) ≡ w
-whole_bytes w (inl none) = ap (λ w. bytes_of (lines w)) none ∙ ap bytes_of lines_nil ∙ sym none
-whole_bytes w (inr (p, is)) = ap (λ w. bytes_of (lines w)) is ∙ block_bytes p ∙ sym is
+whole_bytes : (w : List ℕ) → AreWholeLines w → bytes_of_lines (split_lines w) ≡ w
+whole_bytes w (inl none) = ap (λ w. bytes_of_lines (split_lines w)) none ∙ ap bytes_of_lines lines_nil ∙ sym none
+whole_bytes w (inr (p, is)) = ap (λ w. bytes_of_lines (split_lines w)) is ∙ block_bytes p ∙ sym is
 
 -- no line of those that end by a place has a match, where no line that ends before it has one
 line_clear : (ms : List WrittenExpression) (e : ℕ) (text w more line : List ℕ) (end : ℕ) → ClearTo ms e text end → text ≡ w ++ more → length w ≤ end → IsLineOf line w → finds_in ms e line ≡ false
@@ -67,26 +67,26 @@ line_clear ms e text w more line end clear is short part =
     let size = ap length part.is in
     clear part.before line (part.behind ++ more) all (omega (arith, size, short, length-append part.before (line ++ newline ∷ part.behind), length-append line (newline ∷ part.behind)))
 
-pub lines_clear : (ms : List WrittenExpression) (e : ℕ) (text w more : List ℕ) (end : ℕ) → ClearTo ms e text end → text ≡ w ++ more → length w ≤ end → AreWholeLines w → All (λ line. finds_in ms e line ≡ false) (lines w)
-lines_clear ms e text w more end clear is short (inl none) = subst (λ (ls : List (List ℕ)). All (λ line. finds_in ms e line ≡ false) ls) (sym (ap lines none ∙ lines_nil)) (All-nil (λ line. finds_in ms e line ≡ false))
+pub lines_clear : (ms : List WrittenExpression) (e : ℕ) (text w more : List ℕ) (end : ℕ) → ClearTo ms e text end → text ≡ w ++ more → length w ≤ end → AreWholeLines w → All (λ line. finds_in ms e line ≡ false) (split_lines w)
+lines_clear ms e text w more end clear is short (inl none) = subst (λ (ls : List (List ℕ)). All (λ line. finds_in ms e line ≡ false) ls) (sym (ap split_lines none ∙ lines_nil)) (All-nil (λ line. finds_in ms e line ≡ false))
 lines_clear ms e text w more end clear is short (inr (p, ends)) = λ k d less.
-    let part : IsLineOf (get_or (lines w) k d) w = subst (λ (w : List ℕ). IsLineOf (get_or (lines w) k d) w) (sym ends) (block_parts p k d (subst (λ (w : List ℕ). k < length (lines w)) ends less)) in
-    line_clear ms e text w more (get_or (lines w) k d) end clear is short part
+    let part : IsLineOf (get_or (split_lines w) k d) w = subst (λ (w : List ℕ). IsLineOf (get_or (split_lines w) k d) w) (sym ends) (block_parts p k d (subst (λ (w : List ℕ). k < length (split_lines w)) ends less)) in
+    line_clear ms e text w more (get_or (split_lines w) k d) end clear is short part
 
 -- what is known of the bytes to come
-known_left : (ahead : List ℕ) (known : Option (List ℕ)) (ls : List (List ℕ)) → option_map lines (prepend_known ahead known) ≡ Some ls → (xs : List ℕ) × (known ≡ Some xs) × (ls ≡ lines (ahead ++ xs))
+known_left : (ahead : List ℕ) (known : Option (List ℕ)) (ls : List (List ℕ)) → option_map split_lines (prepend_known ahead known) ≡ Some ls → (xs : List ℕ) × (known ≡ Some xs) × (ls ≡ split_lines (ahead ++ xs))
 known_left ahead None ls is = cc
-known_left ahead (Some xs) ls is = (xs, refl, let same : lines (ahead ++ xs) ≡ ls = cc in sym same)
+known_left ahead (Some xs) ls is = (xs, refl, let same : split_lines (ahead ++ xs) ≡ ls = cc in sym same)
 
-some_left : (bytes : List ℕ) → 0 < length bytes → none_left (lines bytes) ≡ false
-some_left bytes some = some_of (lines bytes) (λ none. let no = ap length (lines_none bytes none) in omega arith)
+some_left : (bytes : List ℕ) → 0 < length bytes → none_left (split_lines bytes) ≡ false
+some_left bytes some = some_of (split_lines bytes) (λ none. let no = ap length (lines_none bytes none) in omega arith)
   where
     some_of : (ls : List (List ℕ)) → (ls ≡ [] → ⊥) → none_left ls ≡ false
     some_of [] h = absurd (h refl)
     some_of (l ∷ ls) h = refl
 
 -- a block that is passed over is left alone, whatever comes after what is ahead
-alone_of : (e : RunState) (files : ℕ → List ℕ) (ahead xs : List ℕ) (b : IdleLines) → PassesOver e ahead b → BlockLeftAlone (run_setting e files) b.reached e.state.number (lines (take b.bytes ahead)) (lines (drop b.bytes ahead ++ xs))
+alone_of : (e : RunState) (files : ℕ → List ℕ) (ahead xs : List ℕ) (b : IdleLines) → PassesLinesOver e ahead b → BlockLeftAlone (run_setting e files) b.reached e.state.number (split_lines (take b.bytes ahead)) (split_lines (drop b.bytes ahead ++ xs))
 alone_of e files ahead xs b h = record {
   matches = h.matches;
   numbers = λ n asked. subst (λ (k : ℕ). (n ≤ e.state.number) ⊎ (e.state.number + k < n)) h.count (h.clear n asked);
@@ -95,20 +95,20 @@ alone_of e files ahead xs b h = record {
 
 -- the first lines of a block that may be passed over may be
 abbrev pub shorter : IdleLines → ℕ → ℕ → IdleLines
-shorter b bytes lines = record b { bytes = bytes; lines = lines }
+shorter b bytes split_lines = record b { bytes = bytes; lines = split_lines }
 
 All-first : {X : Type 0} (P : X → Type 0) (xs ys : List X) → All P (xs ++ ys) → All P xs
 All-first {X} P xs ys h = λ k d less. let low : k < length (xs ++ ys) = omega (arith, less, length-append xs ys) in subst P (get_or_append_left xs ys d k less) (h k d low)
 
-pub passes_fewer : (e : RunState) (ahead w : List ℕ) (b : IdleLines) (n : ℕ) → PassesOver e ahead b → n ≤ b.bytes → w ≡ take n ahead → AreWholeLines w → 0 < length (lines w) → PassesOver e ahead (shorter b n (length (lines w)))
+pub passes_fewer : (e : RunState) (ahead w : List ℕ) (b : IdleLines) (n : ℕ) → PassesLinesOver e ahead b → n ≤ b.bytes → w ≡ take n ahead → AreWholeLines w → 0 < length (split_lines w) → PassesLinesOver e ahead (shorter b n (length (split_lines w)))
 passes_fewer e ahead w b n h fewer is whole some =
     let within : n ≤ length ahead = omega (arith, h.within) in
     let rest : List ℕ = take (b.bytes - n) (drop n ahead) in
     let size : n + (b.bytes - n) ≡ b.bytes = omega (arith, fewer) in
     let parts : take b.bytes ahead ≡ w ++ rest = ap (λ k. take k ahead) (sym size) ∙ take-add n (b.bytes - n) ahead ∙ ap (λ w. w ++ rest) (sym is) in
-    let all : lines (take b.bytes ahead) ≡ lines w ++ lines rest = ap lines parts ∙ whole_then w rest whole in
-    let few : length (lines w) ≤ b.lines = let n = ap length all in omega (arith, h.count, n, length-append (lines w) (lines rest)) in
-    let cost : length (lines w) * (b.reached + 1) ≤ b.lines * (b.reached + 1) = mul_le (length (lines w)) b.lines (b.reached + 1) few in
+    let all : split_lines (take b.bytes ahead) ≡ split_lines w ++ split_lines rest = ap split_lines parts ∙ whole_then w rest whole in
+    let few : length (split_lines w) ≤ b.lines = let n = ap length all in omega (arith, h.count, n, length-append (split_lines w) (split_lines rest)) in
+    let cost : length (split_lines w) * (b.reached + 1) ≤ b.lines * (b.reached + 1) = mul_le (length (split_lines w)) b.lines (b.reached + 1) few in
     record {
       idle = h.idle;
       ranges = h.ranges;
@@ -119,11 +119,11 @@ passes_fewer e ahead w b n h fewer is whole some =
       some = some;
       within = within;
       whole = subst AreWholeLines is whole;
-      count = ap (λ w. length (lines w)) is;
+      count = ap (λ w. length (split_lines w)) is;
       short = omega (arith, h.short, fewer);
       turns = omega (arith, h.turns, cost);
-      clear = λ k asked. fewer_clear k e.state.number b.lines (length (lines w)) few (h.clear k asked);
-      matches = λ x asked. subst (λ (w : List ℕ). All (λ line. finds_in e.script.expressions x line ≡ false) (lines w)) is (All-first (λ line. finds_in e.script.expressions x line ≡ false) (lines w) (lines rest) (subst (λ (ls : List (List ℕ)). All (λ line. finds_in e.script.expressions x line ≡ false) ls) all (h.matches x asked)));
+      clear = λ k asked. fewer_clear k e.state.number b.lines (length (split_lines w)) few (h.clear k asked);
+      matches = λ x asked. subst (λ (w : List ℕ). All (λ line. finds_in e.script.expressions x line ≡ false) (split_lines w)) is (All-first (λ line. finds_in e.script.expressions x line ≡ false) (split_lines w) (split_lines rest) (subst (λ (ls : List (List ℕ)). All (λ line. finds_in e.script.expressions x line ≡ false) ls) all (h.matches x asked)));
       last = λ asked. let more = h.last asked in omega (arith, more, fewer);
     }
 
@@ -138,7 +138,7 @@ same_engine e files b k used count = cc
 
 -- A block of the lines ahead was passed over.
 pub passes : {R : Type 0} (remaining : R → Option (List ℕ)) (from to : Stream R) (ls : List (List ℕ)) (e e' : RunState) (files : ℕ → List ℕ) (b : IdleLines) (old new : SinkView) →
-    lines_left remaining from ≡ Some ls → PassesOver e from.ahead b → WithinLimits e.limits (at_lines e ls) → e.state.tasks ≡ begin ∷ [] → e.state.pattern ≡ [] → to ≡ record from { ahead = drop b.bytes from.ahead } → e' ≡ counted_block e b →
+    lines_left remaining from ≡ Some ls → PassesLinesOver e from.ahead b → WithinLimits e.limits (at_lines e ls) → e.state.tasks ≡ begin ∷ [] → e.state.pattern ≡ [] → to ≡ record from { ahead = drop b.bytes from.ahead } → e' ≡ counted_block e b →
     Sent old new (cond e.script.quiet [] (to_sink 0 (take b.bytes from.ahead))) → StepsPassing remaining from to ls e.limits (run_setting e files) (at_lines e ls) e' old new (Ok tt)
 passes {R} remaining from to ls e e' files b old new known h fits begins empty taken counted sent =
     let n : ℕ = b.bytes in
@@ -149,20 +149,20 @@ passes {R} remaining from to ls e e' files b old new known h fits begins empty t
     let was : left remaining from ≡ Some ((p.0 ++ 10 ∷ []) ++ bytes) =
     ap (prepend_known from.ahead) k.1 ∙ ap (λ a. Some (a ++ k.0)) (sym (take-append-drop n from.ahead)) ∙ ap Some (append_assoc w (drop n from.ahead) k.0) ∙ ap (λ w. Some (w ++ bytes)) p.1 in
     let is : left remaining to ≡ Some bytes = ap (left remaining) taken ∙ ap (prepend_known (drop n from.ahead)) k.1 in
-    let all : ls ≡ lines (p.0 ++ 10 ∷ []) ++ lines bytes =
-    k.2 ∙ ap (λ a. lines (a ++ k.0)) (sym (take-append-drop n from.ahead)) ∙ ap lines (append_assoc w (drop n from.ahead) k.0) ∙ whole_then w bytes h.whole ∙ ap (λ w. lines w ++ lines bytes) p.1 in
-    let count : b.lines ≡ length (lines (p.0 ++ 10 ∷ [])) = h.count ∙ ap (λ w. length (lines w)) p.1 in
+    let all : ls ≡ split_lines (p.0 ++ 10 ∷ []) ++ split_lines bytes =
+    k.2 ∙ ap (λ a. split_lines (a ++ k.0)) (sym (take-append-drop n from.ahead)) ∙ ap split_lines (append_assoc w (drop n from.ahead) k.0) ∙ whole_then w bytes h.whole ∙ ap (λ w. split_lines w ++ split_lines bytes) p.1 in
+    let count : b.lines ≡ length (split_lines (p.0 ++ 10 ∷ [])) = h.count ∙ ap (λ w. length (split_lines w)) p.1 in
     let size : length (p.0 ++ 10 ∷ []) ≤ e.limits.space = let n = ap length p.1 in omega (arith, n, length-take-le b.bytes from.ahead h.within, h.short) in
-    rw all (rw (← (same_engine e files b (length (lines (p.0 ++ 10 ∷ []))) h.judged count ∙ sym counted))
+    rw all (rw (← (same_engine e files b (length (split_lines (p.0 ++ 10 ∷ []))) h.judged count ∙ sym counted))
     (block_passed remaining from to p.0 bytes e (run_setting e files) b.reached old new was is (program_finds e.script files) h.idle
     (record { fits = record { pattern = fits.pattern; hold = fits.hold; queue = fits.queue; turns = fits.turns }; begins = begins; empty = empty; none = h.none; ranges = h.ranges })
-    (subst (λ (w : List ℕ). BlockLeftAlone (run_setting e files) b.reached e.state.number (lines w) (lines bytes)) p.1 (alone_of e files from.ahead k.0 b h))
+    (subst (λ (w : List ℕ). BlockLeftAlone (run_setting e files) b.reached e.state.number (split_lines w) (split_lines bytes)) p.1 (alone_of e files from.ahead k.0 b h))
     (block_short p.0 e.limits.space size) (subst (λ (k : ℕ). e.state.turns + k * (b.reached + 1) ≤ e.limits.turns) count h.turns)
     (subst (λ (w : List ℕ). Sent old new (cond e.script.quiet [] (to_sink 0 w))) p.1 sent)))
 
 -- A sink took no more within a block.
 pub breaks : {R : Type 0} (remaining : R → Option (List ℕ)) (from to : Stream R) (ls : List (List ℕ)) (e e' : RunState) (files : ℕ → List ℕ) (b : IdleLines) (done : ℕ) (old new : SinkView) (end : Ended) →
-    lines_left remaining from ≡ Some ls → PassesOver e from.ahead b → WithinLimits e.limits (at_lines e ls) → e.state.tasks ≡ begin ∷ [] → e.state.pattern ≡ [] → (x : BreaksOff from to e e' done) → x.start + length x.line < b.bytes → done < b.bytes →
+    lines_left remaining from ≡ Some ls → PassesLinesOver e from.ahead b → WithinLimits e.limits (at_lines e ls) → e.state.tasks ≡ begin ∷ [] → e.state.pattern ≡ [] → (x : BreaksOff from to e e' done) → x.start + length x.line < b.bytes → done < b.bytes →
     e.script.quiet ≡ false → Sent old new (to_sink 0 (take done (take b.bytes from.ahead))) → named_sink end ≡ Some 0 → StepsPassing remaining from to ls e.limits (run_setting e files) (at_lines e ls) e' old new (Err end)
 breaks {R} remaining from to ls e e' files b done old new end known h fits begins empty x ends less loud sent names =
     let n : ℕ = x.start + length x.line + 1 in
@@ -175,30 +175,30 @@ breaks {R} remaining from to ls e e' files b done old new end known h fits begin
     x.are ∙ sym (append_assoc first x.line (newline ∷ x.rest)) ∙ sym (append_assoc p (10 ∷ []) x.rest) in
     let long : length (p ++ 10 ∷ []) ≡ n = omega (arith, size, length-append p (10 ∷ [])) in
     let taken_is : p ++ 10 ∷ [] ≡ take n from.ahead = sym (take-append_seam (p ++ 10 ∷ []) x.rest) ∙ ap₂ (λ k a. take k a) long (sym are) in
-    let line_is : lines (p ++ 10 ∷ []) ≡ lines first ++ x.line ∷ [] =
-    ap lines (append_assoc first x.line (10 ∷ [])) ∙ whole_then first (x.line ++ 10 ∷ []) x.whole ∙ ap (λ ls. lines first ++ ls) (lines_at x.line [] x.clear ∙ ap (λ ls. x.line ∷ ls) lines_nil) in
-    let some : 0 < length (lines (p ++ 10 ∷ [])) = let n = ap length line_is in omega (arith, n, length-append (lines first) (x.line ∷ [])) in
-    let b' : IdleLines = shorter b n (length (lines (p ++ 10 ∷ []))) in
-    let h' : PassesOver e from.ahead b' = passes_fewer e from.ahead (p ++ 10 ∷ []) b n h (omega (arith, ends)) taken_is (inr (p, refl)) some in
+    let line_is : split_lines (p ++ 10 ∷ []) ≡ split_lines first ++ x.line ∷ [] =
+    ap split_lines (append_assoc first x.line (10 ∷ [])) ∙ whole_then first (x.line ++ 10 ∷ []) x.whole ∙ ap (λ ls. split_lines first ++ ls) (lines_at x.line [] x.clear ∙ ap (λ ls. x.line ∷ ls) lines_nil) in
+    let some : 0 < length (split_lines (p ++ 10 ∷ [])) = let n = ap length line_is in omega (arith, n, length-append (split_lines first) (x.line ∷ [])) in
+    let b' : IdleLines = shorter b n (length (split_lines (p ++ 10 ∷ []))) in
+    let h' : PassesLinesOver e from.ahead b' = passes_fewer e from.ahead (p ++ 10 ∷ []) b n h (omega (arith, ends)) taken_is (inr (p, refl)) some in
     let d : ℕ = done - x.start in
-    let before_size : length (bytes_of (lines first)) ≡ x.start = ap length (whole_bytes first x.whole) ∙ length-take-le x.start from.ahead start_within in
-    let at : done ≡ length (bytes_of (lines first)) + d = omega (arith, before_size, x.before) in
+    let before_size : length (bytes_of_lines (split_lines first)) ≡ x.start = ap length (whole_bytes first x.whole) ∙ length-take-le x.start from.ahead start_within in
+    let at : done ≡ length (bytes_of_lines (split_lines first)) + d = omega (arith, before_size, x.before) in
     let rest_left : drop n from.ahead ≡ x.rest = let n' = sym long in ap₂ (λ k a. drop k a) n' are ∙ seam (p ++ 10 ∷ []) x.rest in
     let was : left remaining from ≡ Some ((p ++ 10 ∷ []) ++ (x.rest ++ k.0)) =
     ap (prepend_known from.ahead) k.1 ∙ ap (λ a. Some (a ++ k.0)) are ∙ ap Some (append_assoc (p ++ 10 ∷ []) x.rest k.0) in
     let is : left remaining to ≡ Some (x.rest ++ k.0) = ap (left remaining) x.taken ∙ ap (prepend_known x.rest) k.1 in
-    let all : ls ≡ lines (p ++ 10 ∷ []) ++ lines (x.rest ++ k.0) =
-    k.2 ∙ ap (λ a. lines (a ++ k.0)) are ∙ ap lines (append_assoc (p ++ 10 ∷ []) x.rest k.0) ∙ whole_then (p ++ 10 ∷ []) (x.rest ++ k.0) (inr (p, refl)) in
+    let all : ls ≡ split_lines (p ++ 10 ∷ []) ++ split_lines (x.rest ++ k.0) =
+    k.2 ∙ ap (λ a. split_lines (a ++ k.0)) are ∙ ap split_lines (append_assoc (p ++ 10 ∷ []) x.rest k.0) ∙ whole_then (p ++ 10 ∷ []) (x.rest ++ k.0) (inr (p, refl)) in
     let piece : take done (take b.bytes from.ahead) ≡ take done from.ahead = take-take done b.bytes from.ahead (omega (arith, less)) in
-    let took : Sent old new (take (length (bytes_of (lines first)) + d) (to_sink 0 ((p ++ 10 ∷ []) ++ x.rest))) =
+    let took : Sent old new (take (length (bytes_of_lines (split_lines first)) + d) (to_sink 0 ((p ++ 10 ∷ []) ++ x.rest))) =
     subst (λ (k : ℕ). Sent old new (take k (to_sink 0 ((p ++ 10 ∷ []) ++ x.rest)))) at (subst (λ (a : List ℕ). Sent old new (take done (to_sink 0 a))) are
     (subst (λ (o : List (ℕ × ℕ)). Sent old new o) (ap (to_sink 0) piece ∙ sym (take-to_sink 0 done from.ahead)) sent)) in
     let short : length (p ++ 10 ∷ []) ≤ e.limits.space = omega (arith, long, ends, h.short) in
-    let alone : BlockLeftAlone (run_setting e files) b.reached e.state.number (lines (p ++ 10 ∷ [])) (lines (x.rest ++ k.0)) =
-    subst (λ (r : List ℕ). BlockLeftAlone (run_setting e files) b.reached e.state.number (lines (p ++ 10 ∷ [])) (lines (r ++ k.0))) rest_left
-    (subst (λ (w : List ℕ). BlockLeftAlone (run_setting e files) b.reached e.state.number (lines w) (lines (drop n from.ahead ++ k.0))) (sym taken_is) (alone_of e files from.ahead k.0 b' h')) in
+    let alone : BlockLeftAlone (run_setting e files) b.reached e.state.number (split_lines (p ++ 10 ∷ [])) (split_lines (x.rest ++ k.0)) =
+    subst (λ (r : List ℕ). BlockLeftAlone (run_setting e files) b.reached e.state.number (split_lines (p ++ 10 ∷ [])) (split_lines (r ++ k.0))) rest_left
+    (subst (λ (w : List ℕ). BlockLeftAlone (run_setting e files) b.reached e.state.number (split_lines w) (split_lines (drop n from.ahead ++ k.0))) (sym taken_is) (alone_of e files from.ahead k.0 b' h')) in
     rw all
-    (block_broken remaining from to p x.rest k.0 e e' (run_setting e files) b.reached (lines first) x.line d old new end was is line_is (program_finds e.script files) h.idle
+    (block_broken remaining from to p x.rest k.0 e e' (run_setting e files) b.reached (split_lines first) x.line d old new end was is line_is (program_finds e.script files) h.idle
     (record { fits = record { pattern = fits.pattern; hold = fits.hold; queue = fits.queue; turns = fits.turns }; begins = begins; empty = empty; none = h.none; ranges = h.ranges })
     alone (block_short p e.limits.space short) h'.turns loud (omega (arith, at, before_size, x.inside)) took names
     (ap (λ (e : RunState). e.state.pattern) x.brought) (ap (λ (e : RunState). e.state.hold) x.brought) (ap (λ (e : RunState). e.state.queue) x.brought))
@@ -245,7 +245,7 @@ turns_left turns limit c most m within fewer cost =
     let less : m * (c + 1) ≤ (limit - turns) / (c + 1) * (c + 1) = mul_le m ((limit - turns) / (c + 1)) (c + 1) cost in
     omega (arith, whole, less, within)
 
-pub allows : (a : Inside) (e : RunState) (c most m : ℕ) → run_of a ≡ e → IsConsistent a → length a.queue.items ≤ 0 → RangesIdle a.script.commands c a.ranges.items → IsClear a.script.commands a.script.substitutions c a.number most → m ≤ most → m ≤ (a.limits.turns - a.turns) / (c + 1) → AllowsLines e c m
+pub allows : (a : Inside) (e : RunState) (c most m : ℕ) → run_state_of a ≡ e → IsConsistent a → length a.queue.items ≤ 0 → RangesIdle a.script.commands c a.ranges.items → AsksNoNumber a.script.commands a.script.substitutions c a.number most → m ≤ most → m ≤ (a.limits.turns - a.turns) / (c + 1) → AllowsLines e c m
 allows a e c most m seen i none ranges clear fewer cost =
     rw (← seen) (record {
       none = no_entries a none;
@@ -254,7 +254,7 @@ allows a e c most m seen i none ranges clear fewer cost =
       turns = turns_left a.turns a.limits.turns c most m i.turns fewer cost;
     })
 
-pub turns_fit : (a : Inside) (e : RunState) (k : ℕ) → run_of a ≡ e → e.state.turns + k ≤ e.limits.turns → a.turns + k ≤ a.limits.turns
+pub turns_fit : (a : Inside) (e : RunState) (k : ℕ) → run_state_of a ≡ e → e.state.turns + k ≤ e.limits.turns → a.turns + k ≤ a.limits.turns
 turns_fit a e k seen h = rw (← seen) at h
 
 pub le_mul : (n c : ℕ) → n ≤ n * (c + 1)
@@ -265,11 +265,11 @@ take_none [] = refl
 take_none (x ∷ xs) = refl
 
 -- What was found is passed over: so many bytes are seen, the lines of which end by a place before which no line has a match.
-pub found_lines : (a : Inside) (e : RunState) (ahead : List ℕ) (i : Idle) (most seen end whole : ℕ) (x : Extent) → run_of a ≡ e → IsConsistent a → a.idle ≡ Some i → AllowsLines e i.reached most → seen ≤ length ahead → seen ≤ a.limits.space →
+pub found_lines : (a : Inside) (e : RunState) (ahead : List ℕ) (i : Idle) (most seen end whole : ℕ) (x : Extent) → run_state_of a ≡ e → IsConsistent a → a.idle ≡ Some i → AllowsLines e i.reached most → seen ≤ length ahead → seen ≤ a.limits.space →
     end ≤ seen → ((e : ℕ) → Contains i.expressions.items e → ClearTo a.matchers.items e (take seen ahead) end) → whole ≤ end → AreWholeLines (take whole ahead) → (i.asks_last ≡ true → (whole ≡ 0) ⊎ (whole < length ahead)) → IsExtent (take whole ahead) most x → (x.lines ≡ 0 → ⊥) →
-    PassesOver e ahead (record { bytes = x.bytes; lines = x.lines; reached = i.reached; judged = i.judged })
+    PassesLinesOver e ahead (record { bytes = x.bytes; lines = x.lines; reached = i.reached; judged = i.judged })
 found_lines a e ahead i most seen end whole x was known is allowed inside space low clear whole_low wholes last extent some =
-    let Q : RunState → Type 0 = λ e. AllowsLines e i.reached most → PassesOver e ahead (record { bytes = x.bytes; lines = x.lines; reached = i.reached; judged = i.judged }) in
+    let Q : RunState → Type 0 = λ e. AllowsLines e i.reached most → PassesLinesOver e ahead (record { bytes = x.bytes; lines = x.lines; reached = i.reached; judged = i.judged }) in
     subst Q was (λ allowed.
     let told : IfSome (Some i) (IsIdleOf a.script) = subst (λ (o : Option Idle). IfSome o (IsIdleOf a.script)) is known.idle in
     let d = told.describes in
@@ -280,7 +280,7 @@ found_lines a e ahead i most seen end whole x was known is allowed inside space 
     let few : x.lines * (i.reached + 1) ≤ most * (i.reached + 1) = mul_le x.lines most (i.reached + 1) extent.few in
     let long : length (take x.bytes ahead) ≡ x.bytes = length-take-le x.bytes ahead (omega (arith, bytes_low, whole_low, low, inside)) in
     let ends : AreWholeLines (take x.bytes ahead) = subst AreWholeLines same extent.whole in
-    let count : x.lines ≡ length (lines (take x.bytes ahead)) = extent.count ∙ ap (λ w. length (lines w)) same in
+    let count : x.lines ≡ length (split_lines (take x.bytes ahead)) = extent.count ∙ ap (λ w. length (split_lines w)) same in
     let sought_is = sought a.script.expressions a.limits.nodes a.matchers.items known.matchers in
     record {
       idle = d.idle;
@@ -296,7 +296,7 @@ found_lines a e ahead i most seen end whole x was known is allowed inside space 
       short = omega (arith, bytes_low, whole_low, low, space);
       turns = omega (arith, few, allowed.turns);
       clear = λ n asked. fewer_clear n a.number most x.lines extent.few (allowed.clear n asked);
-      matches = λ k asked. subst (λ (ms : List WrittenExpression). All (λ line. finds_in ms k line ≡ false) (lines (take x.bytes ahead))) sought_is
+      matches = λ k asked. subst (λ (ms : List WrittenExpression). All (λ line. finds_in ms k line ≡ false) (split_lines (take x.bytes ahead))) sought_is
           (lines_clear a.matchers.items k (take seen ahead) (take x.bytes ahead) (take (seen - x.bytes) (drop x.bytes ahead)) end (clear k (d.expressions k asked)) parts (omega (arith, long, bytes_low, whole_low)) ends);
       last = λ asked. some_behind (last (d.last asked)) (positive x.lines some) count bytes_low;
     }) allowed
@@ -305,11 +305,11 @@ found_lines a e ahead i most seen end whole x was known is allowed inside space 
     positive zero h = absurd (h refl)
     positive (suc n) h = omega arith
 
-    some_behind : (whole ≡ 0) ⊎ (whole < length ahead) → 0 < x.lines → x.lines ≡ length (lines (take x.bytes ahead)) → x.bytes ≤ whole → x.bytes < length ahead
+    some_behind : (whole ≡ 0) ⊎ (whole < length ahead) → 0 < x.lines → x.lines ≡ length (split_lines (take x.bytes ahead)) → x.bytes ≤ whole → x.bytes < length ahead
     some_behind (inr more) some count low = omega (arith, low, more)
     some_behind (inl none) some count low =
         let zero : x.bytes ≡ 0 = omega (arith, low, none) in
-        let nothing : length (lines (take x.bytes ahead)) ≡ 0 = ap (λ n. length (lines (take n ahead))) zero ∙ ap (λ w. length (lines w)) (take_none ahead) ∙ ap length lines_nil in
+        let nothing : length (split_lines (take x.bytes ahead)) ≡ 0 = ap (λ n. length (split_lines (take n ahead))) zero ∙ ap (λ w. length (split_lines w)) (take_none ahead) ∙ ap length lines_nil in
         absurd (omega (arith, some, count, nothing))
 
 -- Bytes that end in a newline hold one from a place on.
@@ -403,24 +403,24 @@ breaks_off_seen {R} old new e e' ahead start n done bytes same before less withi
     (n ≡ length (take (bytes - start) (drop start w))) ⊎ (slice_get (take (bytes - start) (drop start w)) n ≡ Some 10) → e' ≡ line_brought e (take n (drop start w)) → BreaksOffBy old new e e' done bytes in
     subst P (sym same) (λ first rest clear ends brought. breaks_off old new e e' start n done bytes before less within whole first rest clear ends taken brought) first rest clear ends brought
 
-pub brought_is : (a : Inside) (e : RunState) (pattern : Contents) (k : ℕ) (line : List ℕ) → run_of a ≡ e → pattern.bytes ≡ line → k ≡ length a.script.commands → run_of (record a { pattern = pattern; next_step = p.Do k }) ≡ line_brought e line
+pub brought_is : (a : Inside) (e : RunState) (pattern : Contents) (k : ℕ) (line : List ℕ) → run_state_of a ≡ e → pattern.bytes ≡ line → k ≡ length a.script.commands → run_state_of (record a { pattern = pattern; next_step = p.Do k }) ≡ line_brought e line
 brought_is a e pattern k line seen bytes all =
-    rw (← seen) (ap₂ (λ (b : List ℕ) (k : ℕ). record (run_of a) { state = record (run_of a).state { pattern = b; tasks = do_at k ∷ [] } }) bytes all)
+    rw (← seen) (ap₂ (λ (b : List ℕ) (k : ℕ). record (run_state_of a) { state = record (run_state_of a).state { pattern = b; tasks = do_at k ∷ [] } }) bytes all)
 
 -- the same where the block was found under other names
 module _ {R : Type 0} (remaining : R → Option (List ℕ)) (from to : Stream R) (ls : List (List ℕ)) (e e₁ e' : RunState) (files : ℕ → List ℕ) (b : IdleLines) (ahead : List ℕ) where
-  pub passes_seen : (old new : SinkView) → lines_left remaining from ≡ Some ls → e₁ ≡ e → ahead ≡ from.ahead → PassesOver e ahead b → WithinLimits e.limits (at_lines e ls) → e.state.tasks ≡ begin ∷ [] → e.state.pattern ≡ [] →
+  pub passes_seen : (old new : SinkView) → lines_left remaining from ≡ Some ls → e₁ ≡ e → ahead ≡ from.ahead → PassesLinesOver e ahead b → WithinLimits e.limits (at_lines e ls) → e.state.tasks ≡ begin ∷ [] → e.state.pattern ≡ [] →
       to ≡ record from { ahead = drop b.bytes from.ahead } → e' ≡ counted_block e₁ b → Sent old new (cond e₁.script.quiet [] (to_sink 0 (take b.bytes ahead))) → StepsPassing remaining from to ls e.limits (run_setting e files) (at_lines e ls) e' old new (Ok tt)
   passes_seen old new known same is h fits begins empty taken counted sent =
-      passes remaining from to ls e e' files b old new known (subst (λ (w : List ℕ). PassesOver e w b) is h) fits begins empty taken (counted ∙ ap (λ (e : RunState). counted_block e b) same)
+      passes remaining from to ls e e' files b old new known (subst (λ (w : List ℕ). PassesLinesOver e w b) is h) fits begins empty taken (counted ∙ ap (λ (e : RunState). counted_block e b) same)
       (subst (λ (e : RunState). Sent old new (cond e.script.quiet [] (to_sink 0 (take b.bytes from.ahead)))) same (subst (λ (w : List ℕ). Sent old new (cond e₁.script.quiet [] (to_sink 0 (take b.bytes w)))) is sent))
 
-  pub breaks_seen : (cut : Cut) (old new : SinkView) → lines_left remaining from ≡ Some ls → e₁ ≡ e → ahead ≡ from.ahead → PassesOver e ahead b → WithinLimits e.limits (at_lines e ls) → e.state.tasks ≡ begin ∷ [] → e.state.pattern ≡ [] →
+  pub breaks_seen : (cut : CutShort) (old new : SinkView) → lines_left remaining from ≡ Some ls → e₁ ≡ e → ahead ≡ from.ahead → PassesLinesOver e ahead b → WithinLimits e.limits (at_lines e ls) → e.state.tasks ≡ begin ∷ [] → e.state.pattern ≡ [] →
       BreaksOffBy from to e₁ e' cut.done b.bytes → WritesLines old new e₁.script.quiet (take b.bytes ahead) (Err cut) → StepsPassing remaining from to ls e.limits (run_setting e files) (at_lines e ls) e' old new (Err cut.end)
   breaks_seen cut old new known same is h fits begins empty off wrote =
       let x : BreaksOffBy from to e e' cut.done b.bytes = subst (λ (e : RunState). BreaksOffBy from to e e' cut.done b.bytes) same off in
       let loud : e.script.quiet ≡ false = subst (λ (e : RunState). e.script.quiet ≡ false) same wrote.0 in
-      let over : PassesOver e from.ahead b = subst (λ (w : List ℕ). PassesOver e w b) is h in
+      let over : PassesLinesOver e from.ahead b = subst (λ (w : List ℕ). PassesLinesOver e w b) is h in
       let less : cut.done < b.bytes = let low = wrote.1.0 in omega (arith, low, length-take b.bytes ahead) in
       breaks remaining from to ls e e' files b cut.done old new cut.end known over fits begins empty x.0 x.1 less loud (subst (λ (w : List ℕ). Sent old new (to_sink 0 (take cut.done (take b.bytes w)))) is wrote.1.2) wrote.1.1
 

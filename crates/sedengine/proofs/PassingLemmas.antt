@@ -19,9 +19,9 @@ use Rattle.sedscript.specs.declared.types.Action.TheVariants.{Block, Branch, Sub
 use Rattle.sedscript.specs.declared.types.BranchUse.TheVariants.{Always, IfReplaced}
 use Rattle.sedscript.specs.declared.substitution.Substitution.{Substitution}
 use Rattle.sedengine.specs.State.{Limits, Task, begin, do_at, flush, empty_pattern, State, Move, Setting, search_for, setting_of, occurrence_at_span}
-use Rattle.sedengine.specs.Select.{Current, Selection, answer, selects, stands_for}
-use Rattle.sedengine.specs.Substitute.{Occurrence, occurrences, occurrences_from, to_replace}
-use Rattle.sedengine.specs.Move.{acts, after, begins, current_of, flushes, line_to, next_move, newline, none_left, passes, quietly, reach, reached, replaces, substitutes, writes_text_at, then_do, to_sink, writing, written}
+use Rattle.sedengine.specs.Select.{CurrentLine, Selection, answer, selects, stands_for}
+use Rattle.sedengine.specs.Substitute.{Occurrence, each_occurrence, occurrences_from, to_replace}
+use Rattle.sedengine.specs.Move.{acts, after, begun_cycle, current_of, flushes, line_to, next_move, newline, none_left, goes_past, quietly, reach, having_reached, replaces, substitutes, writes_text_at, then_do, to_sink, writing, written}
 use Rattle.sedengine.specs.Meters.{Sent, SinkView}
 use Rattle.sedengine.specs.Ends.{BrokenOff, WithinLimits, Within, named_sink}
 use Rattle.sedengine.specs.Held.{HoldsAt, SameLengths}
@@ -29,7 +29,7 @@ use Rattle.sedengine.specs.declared.ends.Ended.{Ended}
 use Rattle.sedengine.specs.declared.idle.Need.{Need}
 use Rattle.sedengine.specs.declared.idle.Need.TheVariants.{NoMatch, OtherNumber, NotLast, Nothing}
 use Rattle.sedengine.proofs.Writing.{slice_get-append_add}
-use Rattle.sedengine.specs.Passing.{need_of_address, need_of_substitution, need_of_action, need_of, behind_by, behind, place_at, need_at, judged_by, judged, IsIdleIn, judged_in, Meets, LeftAlone, AllLeftAlone, BlockLeftAlone, FindsAsItSearches, bytes_of, passed_out, passed, moves_of, line_due, Went, CanPass, MovesLedTo, StoppedPassing}
+use Rattle.sedengine.specs.Passing.{need_of_address, need_of_substitution, need_of_action, need_of, behind_by, behind, place_at, need_at, judged_by, judged, IsIdleIn, judged_in, MeetsNeed, LeftAlone, AllLeftAlone, BlockLeftAlone, FindsAsItSearches, bytes_of_lines, passed_out, after_passing, moves_of, line_due, Went, CanPass, MovesLedTo, StoppedPassing}
 use Rattle.sedengine.proofs.Gains.{to_sink-append}
 use Rattle.sedengine.proofs.Moves.{after-add, written-add, Within-add, move_at, after_none}
 use Rattle.sedengine.specs.Choose.{performs, is_active}
@@ -68,7 +68,7 @@ went_one l g s now out f is n =
 -- what a need asks for is met, and it is known
 abbrev Allows : Setting → ℕ → Bool → List ℕ → Option Need → Type 0
 Allows g number last line None = ⊥
-Allows g number last line (Some need) = Meets g number last line need
+Allows g number last line (Some need) = MeetsNeed g number last line need
 
 -- how an address answers that selects nothing
 answers_no : (g : Setting) (s : State) (a : Address) → Allows g s.number (none_left s.lines) s.pattern (need_of_address a) →
@@ -83,25 +83,25 @@ abbrev command_of : Option Address → Option Address → Action → Command
 command_of first second action = record { first = first; second = second; negate = false; action = action }
 
 -- it selects nothing
-selects_no : (c : Current) (first : Address) (second : Option Address) (action : Action) (used : Option ℕ) → answer c first ≡ Some (record { yes = false; used = used }) →
+selects_no : (c : CurrentLine) (first : Address) (second : Option Address) (action : Action) (used : Option ℕ) → answer c first ≡ Some (record { yes = false; used = used }) →
     selects c false (command_of (Some first) second action) ≡ Some (record { yes = false; end = false; active = false; used = used })
 unfolding selects
 selects_no c first None action used h = simp h
 selects_no c first (Some second) action used h = simp h
 
 -- it selects all
-selects_all : (c : Current) (second : Option Address) (action : Action) →
+selects_all : (c : CurrentLine) (second : Option Address) (action : Action) →
     selects c false (command_of None second action) ≡ Some (record { yes = true; end = false; active = false; used = c.used })
 unfolding selects
 selects_all c second action = refl
 
 -- a command that doesn't apply
-passes_by : (s : State) (first : Address) (action : Action) (k : ℕ) → s.tasks ≡ do_at (k + 1) ∷ [] → passes s action ≡ quietly (then_do (do_at (behind_by (Some first) action k) ∷ []) s)
+passes_by : (s : State) (first : Address) (action : Action) (k : ℕ) → s.tasks ≡ do_at (k + 1) ∷ [] → goes_past s action ≡ quietly (then_do (do_at (behind_by (Some first) action k) ∷ []) s)
 passes_by s first (Block next) k t = refl
 passes_by s first other k t = ap (λ ts. quietly (then_do ts s)) t
 
 -- a substitution that finds nothing
-none_occurs : (search : ℕ → Option Occurrence) (n : ℕ) → search 0 ≡ None → occurrences search n ≡ []
+none_occurs : (search : ℕ → Option Occurrence) (n : ℕ) → search 0 ≡ None → each_occurrence search n ≡ []
 unfolding occurrences_from
 none_occurs search n h = rw add-one (ap (λ o. with_rest o (λ m. occurrences_from search n n (Some m.end))) h)
 
@@ -150,14 +150,14 @@ reach_parts g s k (Some first) second false action finds fresh idle h =
     let none : Selection = record { yes = false; end = false; active = false; used = used } in
     ap (λ b. option_and_then (performs g s k c) (selects (current_of g s) b c)) idle
     ∙ ap (option_and_then (performs g s k c)) (selects_no (current_of g s) first second action used (answers_no g s first h))
-    ∙ passes_by (reached s k none) first action k refl
+    ∙ passes_by (having_reached s k none) first action k refl
     ∙ ap (λ rs. quietly (record s { ranges = rs; used = used; tasks = do_at (behind_by (Some first) action k) ∷ []; turns = s.turns + 1 })) (idle_set s.ranges k idle)
 reach_parts g s k None second false action finds fresh idle h =
     let c : Command = command_of None second action in
     let all : Selection = record { yes = true; end = false; active = false; used = s.used } in
     ap (λ b. option_and_then (performs g s k c) (selects (current_of g s) b c)) idle
     ∙ ap (option_and_then (performs g s k c)) (selects_all (current_of g s) second action)
-    ∙ acts_by g (reached s k all) (writes_text_at c false) action k finds refl fresh h
+    ∙ acts_by g (having_reached s k all) (writes_text_at c false) action k finds refl fresh h
     ∙ ap (λ rs. quietly (record s { ranges = rs; used = option_or (judged_by (need_of_action g.substitutions action)) s.used; tasks = do_at (behind_by None action k) ∷ []; turns = s.turns + 1 })) (idle_set s.ranges k idle)
 
 reach_idle : (g : Setting) (s : State) (k : ℕ) (o : Option Command) → FindsAsItSearches g → s.replaced ≡ false → is_active s k ≡ false → Allows g s.number (none_left s.lines) s.pattern (need_of g.substitutions o) →
@@ -165,7 +165,7 @@ reach_idle : (g : Setting) (s : State) (k : ℕ) (o : Option Command) → FindsA
 reach_idle g s k None finds fresh idle h = absurd h
 reach_idle g s k (Some c) finds fresh idle h = reach_parts g s k c.first c.second c.negate c.action finds fresh idle h
 
-allows_of : (g : Setting) (number : ℕ) (last : Bool) (line : List ℕ) (o : Option Need) → is_some o ≡ true → ((need : Need) → o ≡ Some need → Meets g number last line need) → Allows g number last line o
+allows_of : (g : Setting) (number : ℕ) (last : Bool) (line : List ℕ) (o : Option Need) → is_some o ≡ true → ((need : Need) → o ≡ Some need → MeetsNeed g number last line need) → Allows g number last line o
 allows_of g number last line None some h = cc
 allows_of g number last line (Some need) some h = h need refl
 
@@ -209,7 +209,7 @@ module _ (l : Limits) (g : Setting) (c : ℕ) (finds : FindsAsItSearches g) (idl
 
   begins_cycle : next_move g s ≡ quietly (at_command 0)
   begins_cycle =
-      move_at g s (begin ∷ []) can.begins ∙ ap (begins s) is
+      move_at g s (begin ∷ []) can.begins ∙ ap (begun_cycle s) is
       ∙ ap quietly (same_cycle s line line rest s.used (option_or (judged_in g 0) s.used) (s.turns + 1) (s.turns + 1 + 0) (do_at 0 ∷ []) (do_at (place_at g.commands 0) ∷ []) refl (rw judged_zero refl) (omega arith) (rw place_zero refl))
 
   command_moves : (j : ℕ) → j < c → next_move g (at_command j) ≡ quietly (at_command (suc j))
@@ -254,11 +254,11 @@ module _ (l : Limits) (g : Setting) (c : ℕ) (finds : FindsAsItSearches g) (idl
   empties : next_move g (at_last line (empty_pattern ∷ begin ∷ [])) ≡ quietly (at_last [] (begin ∷ []))
   empties = move_at g (at_last line (empty_pattern ∷ begin ∷ [])) (empty_pattern ∷ begin ∷ []) refl
 
-  passed_is : at_last [] (begin ∷ []) ≡ passed g c 1 rest s
+  passed_is : at_last [] (begin ∷ []) ≡ after_passing g c 1 rest s
   passed_is = same_cycle s [] s.pattern rest (option_or (judged_in g c) s.used) (option_or (judged_in g c) s.used) (s.turns + 1 + c) (s.turns + 1 * (c + 1)) (begin ∷ []) s.tasks (sym can.empty) refl (omega arith) (sym can.begins)
 
   -- one cycle
-  pub idle_cycle : Went l g s (passed g c 1 rest s) (passed_out g.quiet (line ∷ [])) (moves_of c)
+  pub idle_cycle : Went l g s (after_passing g c 1 rest s) (passed_out g.quiet (line ∷ [])) (moves_of c)
   idle_cycle =
       let a : State = at_last line at_end in
       let b : State = at_last line (flush ∷ empty_pattern ∷ begin ∷ []) in
@@ -279,7 +279,7 @@ module _ (l : Limits) (g : Setting) (c : ℕ) (finds : FindsAsItSearches g) (idl
 -- the lines of a block
 outs-append : (quiet : Bool) (line : List ℕ) (lines : List (List ℕ)) → passed_out quiet (line ∷ []) ++ passed_out quiet lines ≡ passed_out quiet (line ∷ lines)
 outs-append true line lines = refl
-outs-append false line lines = sym (to_sink-append 0 (line ++ newline ∷ []) (bytes_of lines)) ∙ ap (to_sink 0) (append_assoc line (newline ∷ []) (bytes_of lines))
+outs-append false line lines = sym (to_sink-append 0 (line ++ newline ∷ []) (bytes_of_lines lines)) ∙ ap (to_sink 0) (append_assoc line (newline ∷ []) (bytes_of_lines lines))
 
 used_twice : (a b : Option ℕ) → option_or a (option_or a b) ≡ option_or a b
 used_twice None b = refl
@@ -289,7 +289,7 @@ same_passed : (s : State) (rest : List (List ℕ)) (number number' : ℕ) (used 
     (let a : State = record s { lines = rest; number = number; replaced = false; used = used; turns = turns } in a) ≡ record s { lines = rest; number = number'; replaced = false; used = used'; turns = turns' }
 same_passed s rest number number' used used' turns turns' n u t = cc
 
-passed_more : (g : Setting) (c n : ℕ) (more rest : List (List ℕ)) (s : State) → passed g c n rest (passed g c 1 more s) ≡ passed g c (suc n) rest s
+passed_more : (g : Setting) (c n : ℕ) (more rest : List (List ℕ)) (s : State) → after_passing g c n rest (after_passing g c 1 more s) ≡ after_passing g c (suc n) rest s
 passed_more g c n more rest s =
     same_passed s rest (s.number + 1 + n) (s.number + suc n) (option_or (judged_in g c) (option_or (judged_in g c) s.used)) (option_or (judged_in g c) s.used)
     (s.turns + 1 * (c + 1) + n * (c + 1)) (s.turns + suc n * (c + 1)) (omega arith) (used_twice (judged_in g c) s.used) (omega (arith, suc-mul n (c + 1)))
@@ -297,15 +297,15 @@ passed_more g c n more rest s =
 module _ (l : Limits) (g : Setting) (c : ℕ) (finds : FindsAsItSearches g) (idle : IsIdleIn g c) where
   pub idle_block : (s : State) (can : CanPass l g c s) (line : List ℕ) (lines rest : List (List ℕ)) → s.lines ≡ line ∷ (lines ++ rest) → AllLeftAlone g c s.number (line ∷ lines) rest →
       All (λ x. length x ≤ l.space) (line ∷ lines) → s.turns + length (line ∷ lines) * (c + 1) ≤ l.turns →
-      Went l g s (passed g c (length (line ∷ lines)) rest s) (passed_out g.quiet (line ∷ lines)) (length (line ∷ lines) * moves_of c)
+      Went l g s (after_passing g c (length (line ∷ lines)) rest s) (passed_out g.quiet (line ∷ lines)) (length (line ∷ lines) * moves_of c)
   idle_block s can line [] rest is alone short turns =
       let once : 1 * moves_of c ≡ moves_of c = omega arith in
       rw once (idle_cycle l g c finds idle s can line rest is alone.0 (All-head (λ x. length x ≤ l.space) line [] short) (omega arith))
   idle_block s can line (next ∷ lines) rest is alone short turns =
       let more : List (List ℕ) = next ∷ (lines ++ rest) in
       let n : ℕ = length (next ∷ lines) in
-      let m : State = passed g c 1 more s in
-      let there : State = passed g c n rest m in
+      let m : State = after_passing g c 1 more s in
+      let there : State = after_passing g c n rest m in
       let fewer : s.turns + 1 * (c + 1) + n * (c + 1) ≤ l.turns = omega (arith, suc-mul n (c + 1)) in
       let fits = can.fits in
       let can' : CanPass l g c m = record { fits = record { pattern = fits.pattern; hold = fits.hold; queue = fits.queue; turns = omega arith }; begins = can.begins; empty = can.empty; none = can.none; ranges = can.ranges } in
@@ -400,13 +400,13 @@ pub length-to_sink : (k : ℕ) (bs : List ℕ) → length (to_sink k bs) ≡ len
 length-to_sink k [] = refl
 length-to_sink k (b ∷ bs) = ap suc (length-to_sink k bs)
 
-pub bytes_of-append : (before lines : List (List ℕ)) → bytes_of (before ++ lines) ≡ bytes_of before ++ bytes_of lines
+pub bytes_of-append : (before lines : List (List ℕ)) → bytes_of_lines (before ++ lines) ≡ bytes_of_lines before ++ bytes_of_lines lines
 bytes_of-append [] lines = refl
-bytes_of-append (line ∷ before) lines = ap (λ bs. line ++ newline ∷ bs) (bytes_of-append before lines) ∙ sym (append_assoc line (newline ∷ bytes_of before) (bytes_of lines))
+bytes_of-append (line ∷ before) lines = ap (λ bs. line ++ newline ∷ bs) (bytes_of-append before lines) ∙ sym (append_assoc line (newline ∷ bytes_of_lines before) (bytes_of_lines lines))
 
 out_parts : (before : List (List ℕ)) (line : List ℕ) (more : List (List ℕ)) → passed_out false (before ++ line ∷ more) ≡ (passed_out false before ++ line_to 0 line) ++ passed_out false more
 out_parts before line more =
-    ap (to_sink 0) (bytes_of-append before (line ∷ more)) ∙ to_sink-append 0 (bytes_of before) (bytes_of (line ∷ more))
+    ap (to_sink 0) (bytes_of-append before (line ∷ more)) ∙ to_sink-append 0 (bytes_of_lines before) (bytes_of_lines (line ∷ more))
     ∙ ap (λ w. passed_out false before ++ w) (sym (outs-append false line more)) ∙ sym (append_assoc (passed_out false before) (line_to 0 line) (passed_out false more))
 
 -- A sink took no more in the move after those that lead to the state a, which writes this line.
@@ -456,7 +456,7 @@ module _ (l : Limits) (g : Setting) (c : ℕ) (finds : FindsAsItSearches g) (idl
       moved (in_cycle s line rest (option_or (judged_in g c) s.used) (s.turns + 1 + c) at_end) (line_due g c 0 line rest s) now [] (passed_out g.quiet []) (sym (none_out g.quiet)) (c + 2) (0 * moves_of c + (c + 2)) t l g s went
   line_comes s can (first ∷ before) line rest is others alone shorts short turns =
       let n : ℕ = length (first ∷ before) in
-      let m : State = passed g c n (line ∷ rest) s in
+      let m : State = after_passing g c n (line ∷ rest) s in
       let went = idle_block l g c finds idle s can first before (line ∷ rest) is others shorts (omega arith) in
       let can' : CanPass l g c m = record { fits = went_fits l g s m (passed_out g.quiet (first ∷ before)) (n * moves_of c) went; begins = can.begins; empty = can.empty; none = can.none; ranges = can.ranges } in
       let last = idle_to_print l g c finds idle m can' line rest refl alone short turns in
@@ -472,7 +472,7 @@ module _ (l : Limits) (g : Setting) (c : ℕ) (finds : FindsAsItSearches g) (idl
   pub broken_block : (s : State) (can : CanPass l g c s) (before : List (List ℕ)) (line : List ℕ) (more rest : List (List ℕ)) (now : State) (d : ℕ) (old new : SinkView) (end : Ended) →
       s.lines ≡ (before ++ line ∷ more) ++ rest → AllLeftAlone g c s.number (before ++ line ∷ more) rest → All (λ x. length x ≤ l.space) (before ++ line ∷ more) →
       s.turns + length before * (c + 1) + 1 + c ≤ l.turns → g.quiet ≡ false → d ≤ length line →
-      Sent old new (take (length (bytes_of before) + d) (to_sink 0 (bytes_of (before ++ line ∷ more)))) → named_sink end ≡ Some 0 →
+      Sent old new (take (length (bytes_of_lines before) + d) (to_sink 0 (bytes_of_lines (before ++ line ∷ more)))) → named_sink end ≡ Some 0 →
       SameLengths (line_due g c (length before) line (more ++ rest) s) now → now.lines ≡ more ++ rest → StoppedPassing l g s now old new end
   broken_block s can before line more rest now d old new end is alone shorts turns loud inside took names same lines =
       let parts = alone-append g c s.number before (line ∷ more) rest alone in
@@ -485,9 +485,9 @@ module _ (l : Limits) (g : Setting) (c : ℕ) (finds : FindsAsItSearches g) (idl
       let b : State = record a { tasks = flush ∷ empty_pattern ∷ begin ∷ [] } in
       let prints_it : next_move g a ≡ writing (line_to 0 line) b = move_at g a at_end refl ∙ ap (λ q. writing (cond q [] (line_to 0 line)) b) loud in
       let fits = went_fits l g s a (passed_out false before) (length before * moves_of c + (c + 2)) went' in
-      stopped_printing l g s a b now (passed_out false before) (passed_out false more) line (length before * moves_of c + (c + 2)) (length (bytes_of before)) d old new end
-      went' prints_it (record { pattern = fits.pattern; hold = fits.hold; queue = fits.queue; turns = fits.turns }) (length-to_sink 0 (bytes_of before)) inside
-      (subst (λ (w : List (ℕ × ℕ)). Sent old new (take (length (bytes_of before) + d) w)) (out_parts before line more) took) names same (sym lines)
+      stopped_printing l g s a b now (passed_out false before) (passed_out false more) line (length before * moves_of c + (c + 2)) (length (bytes_of_lines before)) d old new end
+      went' prints_it (record { pattern = fits.pattern; hold = fits.hold; queue = fits.queue; turns = fits.turns }) (length-to_sink 0 (bytes_of_lines before)) inside
+      (subst (λ (w : List (ℕ × ℕ)). Sent old new (take (length (bytes_of_lines before) + d) w)) (out_parts before line more) took) names same (sym lines)
 
 -- lines of which all that they write was written are passed over
 pub all_passed : (l : Limits) (g : Setting) (s now : State) (out : List (ℕ × ℕ)) (t : ℕ) (old new : SinkView) → Went l g s now out t → Sent old new out → MovesLedTo l g s now old new

@@ -5,7 +5,7 @@ use Rattle.std.proofs.lemmas.List.{take-append-le}
 use Rattle.std.specs.Prelude.{max}
 use Rattle.std.specs.List.{All}
 use Rattle.std.specs.Option.{option_map}
-use Rattle.sedspace.specs.Lines.{lines}
+use Rattle.sedspace.specs.Lines.{split_lines}
 use Rattle.sedspace.specs.Reading.{TakesAtMost}
 use Rattle.sedspace.specs.Stream.{Stream, left}
 use Rattle.sedengine.specs.State.{Limits, State, Setting}
@@ -17,7 +17,7 @@ use Rattle.std.proofs.KnownBytes.{prepend_known-nil}
 use Rattle.sedengine.specs.Run.{SameRun, RunState, run_setting, at_lines, lost, input_of, Ending}
 use Rattle.sedengine.specs.DevicesAfter.{more_at}
 use Rattle.sedengine.specs.Steps.{TakesLines}
-use Rattle.sedengine.specs.Passing.{IsIdleIn, AllLeftAlone, BlockLeftAlone, FindsAsItSearches, bytes_of, passed_out, moves_of, CanPass, MovesLedTo, HaltedPassing, StepsPassing, engine_after}
+use Rattle.sedengine.specs.Passing.{IsIdleIn, AllLeftAlone, BlockLeftAlone, FindsAsItSearches, bytes_of_lines, passed_out, moves_of, CanPass, MovesLedTo, HaltedPassing, StepsPassing, engine_after}
 use Rattle.sedengine.specs.declared.ends.Ended.{Ended}
 use Rattle.sedengine.specs.declared.ends.Ended.TheVariants.{PatternFull, InputBroken}
 use Rattle.sedengine.proofs.Sending.{Sent-append}
@@ -84,17 +84,17 @@ module _ {R : Type 0} (remaining : R → Option (List ℕ)) (from at to : Stream
 
 -- a block that is taken from what is still to come
 block_gone : {R : Type 0} (remaining : R → Option (List ℕ)) (old new : Stream R) (block bytes : List ℕ) → left remaining old ≡ Some ((block ++ 10 ∷ []) ++ bytes) → left remaining new ≡ Some bytes →
-    TakesAtMost (left remaining old) (left remaining new) (size_of (lines (block ++ 10 ∷ [])))
+    TakesAtMost (left remaining old) (left remaining new) (size_of (split_lines (block ++ 10 ∷ [])))
 block_gone {R} remaining old new block bytes was is =
-    let T : Option (List ℕ) → Option (List ℕ) → Type 0 = λ a b. TakesAtMost a b (size_of (lines (block ++ 10 ∷ []))) in
-    let size : length (block ++ 10 ∷ []) ≡ size_of (lines (block ++ 10 ∷ [])) = ap length (sym (block_bytes block)) ∙ length-bytes_of (lines (block ++ 10 ∷ [])) in
+    let T : Option (List ℕ) → Option (List ℕ) → Type 0 = λ a b. TakesAtMost a b (size_of (split_lines (block ++ 10 ∷ []))) in
+    let size : length (block ++ 10 ∷ []) ≡ size_of (split_lines (block ++ 10 ∷ [])) = ap length (sym (block_bytes block)) ∙ length-bytes_of (split_lines (block ++ 10 ∷ [])) in
     subst (λ a. T a (left remaining new)) (sym was) (subst (λ b. T (Some ((block ++ 10 ∷ []) ++ bytes)) b) (sym is) ((block ++ 10 ∷ []), refl, omega arith))
 
 pub block_taken : {R : Type 0} (remaining : R → Option (List ℕ)) (old new : Stream R) (block bytes : List ℕ) → left remaining old ≡ Some ((block ++ 10 ∷ []) ++ bytes) → left remaining new ≡ Some bytes →
-    TakesLines remaining old new (lines (block ++ 10 ∷ []) ++ lines bytes) (lines bytes)
+    TakesLines remaining old new (split_lines (block ++ 10 ∷ []) ++ split_lines bytes) (split_lines bytes)
 block_taken {R} remaining old new block bytes was is = record {
-  known = ap (option_map lines) is;
-  lines = lines (block ++ 10 ∷ []);
+  known = ap (option_map split_lines) is;
+  lines = split_lines (block ++ 10 ∷ []);
   are = refl;
   bytes = block_gone remaining old new block bytes was is;
 }
@@ -110,14 +110,14 @@ lines_passed e g c old new (line ∷ lines) rest some finds idle can alone short
 
 pub block_passed : {R : Type 0} (remaining : R → Option (List ℕ)) (from to : Stream R) (block bytes : List ℕ) (e : RunState) (g : Setting) (c : ℕ) (old new : SinkView) →
     left remaining from ≡ Some ((block ++ 10 ∷ []) ++ bytes) → left remaining to ≡ Some bytes → FindsAsItSearches g → IsIdleIn g c →
-    CanPass e.limits g c (at_lines e (lines (block ++ 10 ∷ []) ++ lines bytes)) → BlockLeftAlone g c e.state.number (lines (block ++ 10 ∷ [])) (lines bytes) →
-    All (λ x. length x ≤ e.limits.space) (lines (block ++ 10 ∷ [])) → e.state.turns + length (lines (block ++ 10 ∷ [])) * (c + 1) ≤ e.limits.turns → Sent old new (cond g.quiet [] (to_sink 0 (block ++ 10 ∷ []))) →
-    StepsPassing remaining from to (lines (block ++ 10 ∷ []) ++ lines bytes) e.limits g (at_lines e (lines (block ++ 10 ∷ []) ++ lines bytes)) (engine_after e g c (length (lines (block ++ 10 ∷ [])))) old new (Ok tt)
+    CanPass e.limits g c (at_lines e (split_lines (block ++ 10 ∷ []) ++ split_lines bytes)) → BlockLeftAlone g c e.state.number (split_lines (block ++ 10 ∷ [])) (split_lines bytes) →
+    All (λ x. length x ≤ e.limits.space) (split_lines (block ++ 10 ∷ [])) → e.state.turns + length (split_lines (block ++ 10 ∷ [])) * (c + 1) ≤ e.limits.turns → Sent old new (cond g.quiet [] (to_sink 0 (block ++ 10 ∷ []))) →
+    StepsPassing remaining from to (split_lines (block ++ 10 ∷ []) ++ split_lines bytes) e.limits g (at_lines e (split_lines (block ++ 10 ∷ []) ++ split_lines bytes)) (engine_after e g c (length (split_lines (block ++ 10 ∷ [])))) old new (Ok tt)
 block_passed {R} remaining from to block bytes e g c old new was is finds idle can alone short turns took =
-    let out : cond g.quiet [] (to_sink 0 (block ++ 10 ∷ [])) ≡ passed_out g.quiet (lines (block ++ 10 ∷ [])) = ap (λ bs. cond g.quiet [] (to_sink 0 bs)) (sym (block_bytes block)) in (
-      lines bytes,
+    let out : cond g.quiet [] (to_sink 0 (block ++ 10 ∷ [])) ≡ passed_out g.quiet (split_lines (block ++ 10 ∷ [])) = ap (λ bs. cond g.quiet [] (to_sink 0 bs)) (sym (block_bytes block)) in (
+      split_lines bytes,
       block_taken remaining from to block bytes was is,
-      lines_passed e g c old new (lines (block ++ 10 ∷ [])) (lines bytes) (some_lines block []) finds idle can alone short turns (subst (λ (w : List (ℕ × ℕ)). Sent old new w) out took),
+      lines_passed e g c old new (split_lines (block ++ 10 ∷ [])) (split_lines bytes) (some_lines block []) finds idle can alone short turns (subst (λ (w : List (ℕ × ℕ)). Sent old new w) out took),
     )
 
 -- an end that names a sink loses nothing
@@ -128,32 +128,32 @@ nothing_lost l other names = refl
 
 -- A sink took no more inside the last of the lines that end here; `tail` is the rest of what was to be written.
 pub block_broken : {R : Type 0} (remaining : R → Option (List ℕ)) (from to : Stream R) (block tail bytes : List ℕ) (e e' : RunState) (g : Setting) (c : ℕ) (before : List (List ℕ)) (line : List ℕ) (d : ℕ) (old new : SinkView) (end : Ended) →
-    left remaining from ≡ Some ((block ++ 10 ∷ []) ++ (tail ++ bytes)) → left remaining to ≡ Some (tail ++ bytes) → lines (block ++ 10 ∷ []) ≡ before ++ line ∷ [] → FindsAsItSearches g → IsIdleIn g c →
-    CanPass e.limits g c (at_lines e (lines (block ++ 10 ∷ []) ++ lines (tail ++ bytes))) → BlockLeftAlone g c e.state.number (lines (block ++ 10 ∷ [])) (lines (tail ++ bytes)) →
-    All (λ x. length x ≤ e.limits.space) (lines (block ++ 10 ∷ [])) → e.state.turns + length (lines (block ++ 10 ∷ [])) * (c + 1) ≤ e.limits.turns → g.quiet ≡ false → d ≤ length line →
-    Sent old new (take (length (bytes_of before) + d) (to_sink 0 ((block ++ 10 ∷ []) ++ tail))) → named_sink end ≡ Some 0 →
+    left remaining from ≡ Some ((block ++ 10 ∷ []) ++ (tail ++ bytes)) → left remaining to ≡ Some (tail ++ bytes) → split_lines (block ++ 10 ∷ []) ≡ before ++ line ∷ [] → FindsAsItSearches g → IsIdleIn g c →
+    CanPass e.limits g c (at_lines e (split_lines (block ++ 10 ∷ []) ++ split_lines (tail ++ bytes))) → BlockLeftAlone g c e.state.number (split_lines (block ++ 10 ∷ [])) (split_lines (tail ++ bytes)) →
+    All (λ x. length x ≤ e.limits.space) (split_lines (block ++ 10 ∷ [])) → e.state.turns + length (split_lines (block ++ 10 ∷ [])) * (c + 1) ≤ e.limits.turns → g.quiet ≡ false → d ≤ length line →
+    Sent old new (take (length (bytes_of_lines before) + d) (to_sink 0 ((block ++ 10 ∷ []) ++ tail))) → named_sink end ≡ Some 0 →
     e'.state.pattern ≡ line → e'.state.hold ≡ e.state.hold → e'.state.queue ≡ e.state.queue →
-    HaltedPassing remaining from to e.limits g (at_lines e (lines (block ++ 10 ∷ []) ++ lines (tail ++ bytes))) e' old new end
+    HaltedPassing remaining from to e.limits g (at_lines e (split_lines (block ++ 10 ∷ []) ++ split_lines (tail ++ bytes))) e' old new end
 block_broken {R} remaining from to block tail bytes e e' g c before line d old new end was is parts finds idle can alone short turns loud inside took names pattern hold queue =
-    let rest : List (List ℕ) = lines (tail ++ bytes) in
-    let s : State = at_lines e (lines (block ++ 10 ∷ []) ++ rest) in
-    let many : length (lines (block ++ 10 ∷ [])) ≡ suc (length before) = ap length parts ∙ (let n = length-append before (line ∷ []) in omega arith) in
+    let rest : List (List ℕ) = split_lines (tail ++ bytes) in
+    let s : State = at_lines e (split_lines (block ++ 10 ∷ []) ++ rest) in
+    let many : length (split_lines (block ++ 10 ∷ [])) ≡ suc (length before) = ap length parts ∙ (let n = length-append before (line ∷ []) in omega arith) in
     let enough : e.state.turns + length before * (c + 1) + 1 + c ≤ e.limits.turns = let all = subst (λ (n : ℕ). e.state.turns + n * (c + 1) ≤ e.limits.turns) many turns in omega (arith, suc-mul (length before) (c + 1)) in
-    let whole : bytes_of (before ++ line ∷ []) ≡ block ++ 10 ∷ [] = ap bytes_of (sym parts) ∙ block_bytes block in
-    let size : length (bytes_of before) + d ≤ length (to_sink 0 (block ++ 10 ∷ [])) =
+    let whole : bytes_of_lines (before ++ line ∷ []) ≡ block ++ 10 ∷ [] = ap bytes_of_lines (sym parts) ∙ block_bytes block in
+    let size : length (bytes_of_lines before) + d ≤ length (to_sink 0 (block ++ 10 ∷ [])) =
     let a = ap length whole in let b = ap length (bytes_of-append before (line ∷ [])) in
-    omega (arith, length-append (bytes_of before) (bytes_of (line ∷ [])), length-append line (10 ∷ []), length-to_sink 0 (block ++ 10 ∷ [])) in
-    let first : take (length (bytes_of before) + d) (to_sink 0 ((block ++ 10 ∷ []) ++ tail)) ≡ take (length (bytes_of before) + d) (to_sink 0 (bytes_of (before ++ line ∷ []))) =
-    ap (take (length (bytes_of before) + d)) (to_sink-append 0 (block ++ 10 ∷ []) tail) ∙ take-append-le (length (bytes_of before) + d) (to_sink 0 (block ++ 10 ∷ [])) (to_sink 0 tail) size
-    ∙ ap (λ bs. take (length (bytes_of before) + d) (to_sink 0 bs)) (sym whole) in
+    omega (arith, length-append (bytes_of_lines before) (bytes_of_lines (line ∷ [])), length-append line (10 ∷ []), length-to_sink 0 (block ++ 10 ∷ [])) in
+    let first : take (length (bytes_of_lines before) + d) (to_sink 0 ((block ++ 10 ∷ []) ++ tail)) ≡ take (length (bytes_of_lines before) + d) (to_sink 0 (bytes_of_lines (before ++ line ∷ []))) =
+    ap (take (length (bytes_of_lines before) + d)) (to_sink-append 0 (block ++ 10 ∷ []) tail) ∙ take-append-le (length (bytes_of_lines before) + d) (to_sink 0 (block ++ 10 ∷ [])) (to_sink 0 tail) size
+    ∙ ap (λ bs. take (length (bytes_of_lines before) + d) (to_sink 0 bs)) (sym whole) in
     let same_queue = ap length queue in
     record {
       rest = rest;
       stopped = broken_block e.limits g c finds idle s can before line [] rest (at_lines e' rest) d old new end (ap (λ ls. ls ++ rest) parts)
-          (subst (λ (ls : List (List ℕ)). AllLeftAlone g c e.state.number ls rest) parts (block_left_alone g c e.state.number (lines (block ++ 10 ∷ [])) rest alone))
+          (subst (λ (ls : List (List ℕ)). AllLeftAlone g c e.state.number ls rest) parts (block_left_alone g c e.state.number (split_lines (block ++ 10 ∷ [])) rest alone))
           (subst (λ (ls : List (List ℕ)). All (λ x. length x ≤ e.limits.space) ls) parts short) enough loud inside (subst (λ (w : List (ℕ × ℕ)). Sent old new w) first took) names
           (record { pattern = ap length pattern; hold = ap length hold; queue = λ _. same_queue; entries = omega arith }) refl;
-      lines = lines (block ++ 10 ∷ []);
+      lines = split_lines (block ++ 10 ∷ []);
       are = refl;
-      bytes = subst (λ (n : ℕ). LosesPartAfter (left remaining from) (left remaining to) (size_of (lines (block ++ 10 ∷ []))) n) (sym (nothing_lost e.limits end names)) (LosesPartAfter-bytes _ _ _ (block_gone remaining from to block (tail ++ bytes) was is));
+      bytes = subst (λ (n : ℕ). LosesPartAfter (left remaining from) (left remaining to) (size_of (split_lines (block ++ 10 ∷ []))) n) (sym (nothing_lost e.limits end names)) (LosesPartAfter-bytes _ _ _ (block_gone remaining from to block (tail ++ bytes) was is));
     }

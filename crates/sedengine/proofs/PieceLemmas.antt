@@ -7,11 +7,11 @@ use Rattle.std.proofs.Math.Seq.{drop-cons}
 use Rattle.sedmatch.specs.Groups.{Groups}
 use Rattle.sedscript.specs.declared.substitution.Piece.{Piece}
 use Rattle.sedscript.specs.declared.substitution.Piece.TheVariants.{Literal as literal, Whole as whole, Group as group}
-use Rattle.sedscript.specs.Pieces.{pieces_in, GroupsWithin}
+use Rattle.sedscript.specs.Pieces.{pieces_in, PieceGroupsWithin}
 use Rattle.sedscript.specs.declared.substitution.ReplacementPart.{ReplacementPart}
 use Rattle.sedscript.specs.declared.substitution.ReplacementPart.TheVariants.{Literal, Whole, Group}
 use Rattle.sedengine.specs.Substitute.{Occurrence, put_for}
-use Rattle.sedengine.specs.SubstituteParts.{has_group, with_groups}
+use Rattle.sedengine.specs.SubstituteParts.{names_group, with_groups}
 
 -- the parts from a place on are the one there and those after it
 drop_next : {A : Type 0} (xs : List A) (k : ℕ) (x : A) → k < length xs → x ≡ get_or xs k x →
@@ -27,60 +27,60 @@ put_literals w m (b ∷ bytes) ps = ap (λ (rest : List ℕ). b ∷ rest) (put_l
 pub put_bytes : (w : List ℕ) (m : Occurrence) (bytes : List ℕ) → bytes ≡ put_for w m (map literal bytes ++ [])
 put_bytes w m bytes = sym (put_literals w m bytes [] ∙ append-nil bytes)
 
-literals_have : (bytes : List ℕ) (ps : List Piece) → has_group (map literal bytes ++ ps) ≡ has_group ps
+literals_have : (bytes : List ℕ) (ps : List Piece) → names_group (map literal bytes ++ ps) ≡ names_group ps
 literals_have [] ps = refl
 literals_have (b ∷ bytes) ps = literals_have bytes ps
 
-literals_within : (bytes : List ℕ) (ps : List Piece) → GroupsWithin 9 (map literal bytes ++ ps) → GroupsWithin 9 ps
+literals_within : (bytes : List ℕ) (ps : List Piece) → PieceGroupsWithin 9 (map literal bytes ++ ps) → PieceGroupsWithin 9 ps
 literals_within [] ps within = within
 literals_within (b ∷ bytes) ps within = literals_within bytes ps within
 
-literals_alone : (bytes : List ℕ) → GroupsWithin 9 (map literal bytes ++ [])
+literals_alone : (bytes : List ℕ) → PieceGroupsWithin 9 (map literal bytes ++ [])
 literals_alone [] = tt
 literals_alone (b ∷ bytes) = literals_alone bytes
 
 -- a part that is no group of the match tells nothing of groups
 no_group : (p : ReplacementPart) (ps : List ReplacementPart) → ((k : ℕ) → p ≡ Group k → ⊥) →
-    has_group (pieces_in (p ∷ ps)) ≡ has_group (pieces_in ps)
+    names_group (pieces_in (p ∷ ps)) ≡ names_group (pieces_in ps)
 no_group (Literal bytes) ps other = literals_have bytes.items (pieces_in ps)
 no_group Whole ps other = refl
 no_group (Group k) ps other = absurd (other k refl)
 
 pub none_here : (parts : List ReplacementPart) (k : ℕ) (p : ReplacementPart) → k < length parts → p ≡ get_or parts k p →
-    ((g : ℕ) → p ≡ Group g → ⊥) → has_group (pieces_in (drop k parts)) ≡ has_group (pieces_in parts) →
-    has_group (pieces_in (drop (k + 1) parts)) ≡ has_group (pieces_in parts)
+    ((g : ℕ) → p ≡ Group g → ⊥) → names_group (pieces_in (drop k parts)) ≡ names_group (pieces_in parts) →
+    names_group (pieces_in (drop (k + 1) parts)) ≡ names_group (pieces_in parts)
 none_here parts k p inside is other before =
     sym (no_group p (drop (k + 1) parts) other)
-    ∙ ap (λ (ps : List ReplacementPart). has_group (pieces_in ps)) (sym (drop_next parts k p inside is)) ∙ before
+    ∙ ap (λ (ps : List ReplacementPart). names_group (pieces_in ps)) (sym (drop_next parts k p inside is)) ∙ before
 
 -- the groups of a part, and of those after it
-within_parts : (p : ReplacementPart) (ps : List ReplacementPart) → GroupsWithin 9 (pieces_in (p ∷ ps)) →
-    GroupsWithin 9 (pieces_in (p ∷ [])) × GroupsWithin 9 (pieces_in ps)
+within_parts : (p : ReplacementPart) (ps : List ReplacementPart) → PieceGroupsWithin 9 (pieces_in (p ∷ ps)) →
+    PieceGroupsWithin 9 (pieces_in (p ∷ [])) × PieceGroupsWithin 9 (pieces_in ps)
 within_parts (Literal bytes) ps within = (literals_alone bytes.items, literals_within bytes.items (pieces_in ps) within)
 within_parts Whole ps within = (tt, within)
 within_parts (Group k) ps within = ((within.0, within.1, tt), within.2)
 
 pub within_next : (parts : List ReplacementPart) (k : ℕ) (p : ReplacementPart) → k < length parts → p ≡ get_or parts k p →
-    GroupsWithin 9 (pieces_in (drop k parts)) →
-    GroupsWithin 9 (pieces_in (p ∷ [])) × GroupsWithin 9 (pieces_in (drop (k + 1) parts))
+    PieceGroupsWithin 9 (pieces_in (drop k parts)) →
+    PieceGroupsWithin 9 (pieces_in (p ∷ [])) × PieceGroupsWithin 9 (pieces_in (drop (k + 1) parts))
 within_next parts k p inside is within =
     within_parts p (drop (k + 1) parts)
-    (subst (λ (ps : List ReplacementPart). GroupsWithin 9 (pieces_in ps)) (drop_next parts k p inside is) within)
+    (subst (λ (ps : List ReplacementPart). PieceGroupsWithin 9 (pieces_in ps)) (drop_next parts k p inside is) within)
 
 -- what is known where one of the parts is a group is known where this one is, and where one of those after it is
-wanted_parts : (X : Type 0) (p : ReplacementPart) (ps : List ReplacementPart) → (has_group (pieces_in (p ∷ ps)) ≡ true → X) →
-    (has_group (pieces_in (p ∷ [])) ≡ true → X) × (has_group (pieces_in ps) ≡ true → X)
+wanted_parts : (X : Type 0) (p : ReplacementPart) (ps : List ReplacementPart) → (names_group (pieces_in (p ∷ ps)) ≡ true → X) →
+    (names_group (pieces_in (p ∷ [])) ≡ true → X) × (names_group (pieces_in ps) ≡ true → X)
 wanted_parts X (Literal bytes) ps h =
     (λ some. absurd (true≢false (sym some ∙ literals_have bytes.items [])), λ some. h (literals_have bytes.items (pieces_in ps) ∙ some))
 wanted_parts X Whole ps h = (λ some. absurd (true≢false (sym some)), h)
 wanted_parts X (Group k) ps h = (λ some. h refl, λ some. h refl)
 
 pub wanted_next : (X : Type 0) (parts : List ReplacementPart) (k : ℕ) (p : ReplacementPart) → k < length parts → p ≡ get_or parts k p →
-    (has_group (pieces_in (drop k parts)) ≡ true → X) →
-    (has_group (pieces_in (p ∷ [])) ≡ true → X) × (has_group (pieces_in (drop (k + 1) parts)) ≡ true → X)
+    (names_group (pieces_in (drop k parts)) ≡ true → X) →
+    (names_group (pieces_in (p ∷ [])) ≡ true → X) × (names_group (pieces_in (drop (k + 1) parts)) ≡ true → X)
 wanted_next X parts k p inside is h =
     wanted_parts X p (drop (k + 1) parts)
-    (λ some. h (ap (λ (ps : List ReplacementPart). has_group (pieces_in ps)) (drop_next parts k p inside is) ∙ some))
+    (λ some. h (ap (λ (ps : List ReplacementPart). names_group (pieces_in ps)) (drop_next parts k p inside is) ∙ some))
 
 -- what stands for a part, and for those after it
 put_parts : (w : List ℕ) (m : Occurrence) (p : ReplacementPart) (ps : List ReplacementPart) →
@@ -97,7 +97,7 @@ put_next w m parts k p inside is =
     ∙ put_parts w m p (drop (k + 1) parts)
 
 -- the groups of a match tell only where the replacement has one
-pub put_same : (w : List ℕ) (span : ℕ × ℕ) (g h : Groups) (ps : List Piece) → (has_group ps ≡ true → g ≡ h) →
+pub put_same : (w : List ℕ) (span : ℕ × ℕ) (g h : Groups) (ps : List Piece) → (names_group ps ≡ true → g ≡ h) →
     put_for w (with_groups span g) ps ≡ put_for w (with_groups span h) ps
 put_same w span g h [] same = refl
 put_same w span g h (literal b ∷ ps) same = ap (λ (rest : List ℕ). b ∷ rest) (put_same w span g h ps same)

@@ -8,10 +8,10 @@ use Rattle.sedengine.specs.Move.{after, written}
 use Rattle.sedengine.specs.Meters.{Sent, SinkView}
 use Rattle.sedengine.specs.Ends.{WithinLimits, Within, named_sink, size_of, LosesPartAfter}
 use Rattle.sedengine.specs.Held.{HoldsAt, SameLengths}
-use Rattle.sedengine.specs.Inside.{run_of}
+use Rattle.sedengine.specs.Inside.{run_state_of}
 use Rattle.sedengine.specs.Run.{SameRun, RunState, run_setting, at_lines, lost, input_of, TakesLeft, Ending, Cycled, InOneCycle, starts_cycle}
 use Rattle.sedengine.specs.DevicesAfter.{more_at}
-use Rattle.sedengine.specs.Steps.{Ran, TakesLines, Halted, Steps}
+use Rattle.sedengine.specs.Steps.{Ran, TakesLines, Halted, StepsOf}
 use Rattle.sedengine.specs.declared.ends.Ended.{Ended}
 use Rattle.sedengine.specs.declared.machine.Machine.TheInside.{Inside}
 use Rattle.sedengine.specs.declared.ends.Ended.TheVariants.{InputBroken}
@@ -54,7 +54,7 @@ pub same_setting : (old new : RunState) (files : ℕ → List ℕ) → SameRun o
 same_setting old new files s = ap (λ p. setting_of p files) s.script
 
 -- the engine that fields with the same script and the same limits stand for
-pub same_seen : (a : Inside) (e e' : RunState) → run_of a ≡ e → e'.script ≡ a.script → e'.limits ≡ a.limits → SameRun e e'
+pub same_seen : (a : Inside) (e e' : RunState) → run_state_of a ≡ e → e'.script ≡ a.script → e'.limits ≡ a.limits → SameRun e e'
 same_seen a e e' seen script limits = rw (← seen) (record { script = script; limits = limits })
 
 pub SameRun-then : {a b c : RunState} → SameRun a b → SameRun b c → SameRun a c
@@ -90,7 +90,7 @@ module _ {R : Type 0} (remaining : R → Option (List ℕ)) (from at to : Stream
   halted_on e' end h =
       rw r.is (rw (← (same_setting a e files same)) (rw (← same.limits) h))
 
-  abbrev pub step_on : (e' : RunState) → Steps remaining at to r.rest e.limits (run_setting e files) e e' mid new (Ok tt) → Reached remaining from to a.limits (run_setting a files) s e' old new
+  abbrev pub step_on : (e' : RunState) → StepsOf remaining at to r.rest e.limits (run_setting e files) e e' mid new (Ok tt) → Reached remaining from to a.limits (run_setting a files) s e' old new
   step_on e' (rest, taken, ran) =
       let g : Setting = run_setting a files in
       let h = ran_on e' rest ran in
@@ -103,7 +103,7 @@ module _ {R : Type 0} (remaining : R → Option (List ℕ)) (from at to : Stream
         gained = rw written-add (Sent-append r.gained h.sinks);
       }
 
-  abbrev pub stop_on : (e' : RunState) (end : Ended) → Steps remaining at to r.rest e.limits (run_setting e files) e e' mid new (Err end) →
+  abbrev pub stop_on : (e' : RunState) (end : Ended) → StepsOf remaining at to r.rest e.limits (run_setting e files) e e' mid new (Err end) →
       (k : ℕ) × TakesAtMost (remaining from.source) (remaining to.source) k → length to.ahead ≤ max (length from.ahead) from.read_ahead → from.read_ahead ≡ a.limits.look → (end ≡ InputBroken → to.ahead ≡ []) →
       (out : List (ℕ × ℕ)) × Sent old new out × Ending a.limits (run_setting a files) s out (input_of remaining from) (input_of remaining to) e'.state end
   stop_on e' end halted shrinks ahead look drained =
@@ -130,13 +130,13 @@ module _ {R : Type 0} (remaining : R → Option (List ℕ)) (from at to : Stream
       )
 
   -- no cycle starts meanwhile
-  pub one_on : (e' : RunState) (h : Steps remaining at to r.rest e.limits (run_setting e files) e e' mid new (Ok tt)) → InOneCycle (run_setting a files) s (r.t + 1) → InOneCycle (run_setting a files) s (step_on e' h).t
+  pub one_on : (e' : RunState) (h : StepsOf remaining at to r.rest e.limits (run_setting e files) e e' mid new (Ok tt)) → InOneCycle (run_setting a files) s (r.t + 1) → InOneCycle (run_setting a files) s (step_on e' h).t
   one_on e' (rest, taken, ran) one = let h = ran_on e' rest ran in InOneCycle-add (run_setting a files) s r.t h.t one h.one
 
-  pub some_on : (e' : RunState) (h : Steps remaining at to r.rest e.limits (run_setting e files) e e' mid new (Ok tt)) → 0 < (step_on e' h).t
+  pub some_on : (e' : RunState) (h : StepsOf remaining at to r.rest e.limits (run_setting e files) e e' mid new (Ok tt)) → 0 < (step_on e' h).t
   some_on e' (rest, taken, ran) = let h = ran_on e' rest ran in let some = h.some in omega arith
 
-  pub one_stop : (e' : RunState) (end : Ended) (h : Steps remaining at to r.rest e.limits (run_setting e files) e e' mid new (Err end)) → InOneCycle (run_setting a files) s (r.t + 1) →
+  pub one_stop : (e' : RunState) (end : Ended) (h : StepsOf remaining at to r.rest e.limits (run_setting e files) e e' mid new (Err end)) → InOneCycle (run_setting a files) s (r.t + 1) →
       InOneCycle (run_setting a files) s (r.t + (halted_on e' end h).stopped.t + 1)
   one_stop e' end halted one =
       let h = halted_on e' end halted in

@@ -2,7 +2,7 @@
 use Rattle.std.proofs.Common.{◌≡◌, ◌≢◌, ℕ, ◌+◌, ◌⊎◌, inl, inr, List, [], ◌++◌, length, Option, Some, None, refl, sym, arith, length-append}
 use Rattle.std.specs.Io.KnownBytes.{Appends, Keeps}
 use Rattle.sedengine.specs.Move.{to_sink}
-use Rattle.sedengine.specs.Ends.{part}
+use Rattle.sedengine.specs.Ends.{bytes_of_sink}
 use Rattle.sedengine.specs.Meters.{Counts, Sent, SinkView}
 use Rattle.sedengine.proofs.Gains.{Gained-append, Gained-none, Gained-one, part-append, part-same, part-other, same_or_not}
 
@@ -16,7 +16,7 @@ Counts-none : (a : Option ℕ) → Counts a a 0
 Counts-none None = tt
 Counts-none (Some x) = omega arith
 
-length-part : (k : ℕ) (xs ys : List (ℕ × ℕ)) → length (part k (xs ++ ys)) ≡ length (part k xs) + length (part k ys)
+length-part : (k : ℕ) (xs ys : List (ℕ × ℕ)) → length (bytes_of_sink k (xs ++ ys)) ≡ length (bytes_of_sink k xs) + length (bytes_of_sink k ys)
 length-part k xs ys = rw (part-append, length-append) refl
 
 -- one gain after another
@@ -29,7 +29,7 @@ Sent-append {old} {mid} {new} {xs} {ys} a b = record {
 pub Sent-none : (old : SinkView) → Sent old old []
 Sent-none old = record { gained = Gained-none old.contents; counts = λ k. Counts-none (old.sent k) }
 
-counts_at : (old new : ℕ → Option ℕ) (s k : ℕ) (bs : List ℕ) → Counts (old s) (new s) (length bs) → ((j : ℕ) → j ≢ s → new j ≡ old j) → (s ≡ k) ⊎ (s ≢ k) → Counts (old k) (new k) (length (part k (to_sink s bs)))
+counts_at : (old new : ℕ → Option ℕ) (s k : ℕ) (bs : List ℕ) → Counts (old s) (new s) (length bs) → ((j : ℕ) → j ≢ s → new j ≡ old j) → (s ≡ k) ⊎ (s ≢ k) → Counts (old k) (new k) (length (bytes_of_sink k (to_sink s bs)))
 counts_at old new s k bs h others (inl same) = rw (← same, part-same) h
 counts_at old new s k bs h others (inr other) = rw (part-other s k bs other, others k (λ e. other (sym e))) (Counts-none (old k))
 

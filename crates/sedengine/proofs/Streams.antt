@@ -10,7 +10,7 @@ use Rattle.std.proofs.Math.Seq.{drop-append-add}
 use Rattle.std.proofs.lemmas.List.{drop-drop, drop_all}
 use Rattle.std.proofs.lemmas.List.Elements.{All-drop}
 use Rattle.std.proofs.lemmas.List.Splits.{slice_split-cons_yes, slice_split-cons_no, length-slice_split}
-use Rattle.sedspace.specs.Lines.{lines, is_newline, without_empty_last, HasNoNewline}
+use Rattle.sedspace.specs.Lines.{split_lines, is_newline, without_empty_last, HasNoNewline}
 use Rattle.sedspace.specs.Reading.{TakesAtMost}
 use Rattle.sedspace.specs.Stream.{Stream, left, lines_left, FailsIfBroken, GivesLine, KeepsFault, NoLineLeft, KeepsLines, LosesPart, ReadsOn, TakesLine, TellsLast}
 use Rattle.sedspace.specs.declared.errors.LineFault.{LineFault}
@@ -37,8 +37,8 @@ split_none b bs true h e =
 split_none b bs false h e =
     some_piece b (slice_split is_newline bs) (omega (arith, length-slice_split is_newline bs)) (ap without_empty_last (sym (slice_split-cons_no is_newline b bs h)) ∙ e)
 
-lines_none : (bytes : List ℕ) → lines bytes ≡ [] → bytes ≡ []
-unfolding lines
+lines_none : (bytes : List ℕ) → split_lines bytes ≡ [] → bytes ≡ []
+unfolding split_lines
 lines_none [] e = refl
 lines_none (b ∷ bs) e = absurd (split_none b bs (is_newline b) refl e)
 
@@ -94,9 +94,9 @@ no_lines None ls e h = cc
 no_lines (Some ms) ls e h = let same : ms ≡ ls = cc in sym same ∙ h
 
 -- Nothing is left.
-all_taken : (ahead ahead' : List ℕ) (old new : Option (List ℕ)) (n : ℕ) → TakesAtMost old new n → (ls : List (List ℕ)) → option_map lines (prepend_known ahead old) ≡ Some ls →
-    NoLineLeft (option_map lines (prepend_known ahead old)) → NoLineLeft (option_map lines (prepend_known ahead' new)) →
-    (option_map lines (prepend_known ahead' new) ≡ Some []) × TakesAtMost (prepend_known ahead old) (prepend_known ahead' new) 0
+all_taken : (ahead ahead' : List ℕ) (old new : Option (List ℕ)) (n : ℕ) → TakesAtMost old new n → (ls : List (List ℕ)) → option_map split_lines (prepend_known ahead old) ≡ Some ls →
+    NoLineLeft (option_map split_lines (prepend_known ahead old)) → NoLineLeft (option_map split_lines (prepend_known ahead' new)) →
+    (option_map split_lines (prepend_known ahead' new) ≡ Some []) × TakesAtMost (prepend_known ahead old) (prepend_known ahead' new) 0
 all_taken ahead ahead' None new n t ls known none none' = absurd (none_some ls known)
   where
     none_some : (ls : List (List ℕ)) → None ≡ Some ls → ⊥

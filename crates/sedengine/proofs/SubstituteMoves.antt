@@ -11,7 +11,7 @@ use Rattle.sedscript.specs.declared.substitution.Substitution.{Substitution}
 use Rattle.sedspace.specs.Spaces.{Contents}
 use Rattle.sedspace.specs.declared.errors.Full.{Full}
 use Rattle.sedengine.specs.State.{Task, do_at, State, Move, Setting, search_in}
-use Rattle.sedengine.specs.Substitute.{Occurrence, to_replace, occurrences, replaced_from}
+use Rattle.sedengine.specs.Substitute.{Occurrence, to_replace, each_occurrence, replaced_from}
 use Rattle.sedengine.specs.Select.{stands_for}
 use Rattle.sedengine.specs.Move.{next_move, quietly, writing, line_to, replaces}
 use Rattle.sedengine.specs.Ends.{WithinLimits}
@@ -22,7 +22,7 @@ use Rattle.sedengine.specs.Run.{RunState, at_lines, run_setting}
 use Rattle.sedengine.specs.Steps.{Leads, reaches, line_at, ReachesCommand, Moves, MakesMove}
 use Rattle.sedengine.specs.SubstituteCalls.{written_by, Makes, ReplacesIn, same_but_replaced, to_replace_in}
 use Rattle.sedengine.specs.Fitting.{RoomToSeek}
-use Rattle.sedengine.specs.Inside.{run_of, tasks_of, IsConsistent}
+use Rattle.sedengine.specs.Inside.{run_state_of, tasks_of, IsConsistent}
 use Rattle.sedengine.specs.declared.machine.Machine.TheInside.{Inside}
 use Rattle.sedengine.specs.declared.substitute.Findings.{Findings}
 use Rattle.sedengine.specs.declared.ends.Ended.{Ended}
@@ -90,7 +90,7 @@ made_in old new limit made (Ok false) u ms becomes h = (h, becomes)
 made_in old new limit made (Err f) u ms becomes h = (h.0, rw becomes at h.1)
 
 -- there is a substitution
-pub some_substitution : (a : Inside) (e : RunState) (k : ℕ) → run_of a ≡ e → k < length e.script.substitutions → 0 < length a.script.substitutions
+pub some_substitution : (a : Inside) (e : RunState) (k : ℕ) → run_state_of a ≡ e → k < length e.script.substitutions → 0 < length a.script.substitutions
 some_substitution a e k seen h = let there = ap (λ (e : RunState). length e.script.substitutions) seen in omega arith
 
 -- spaces that were exchanged keep their limits
@@ -125,11 +125,11 @@ module _ (a : Inside) (i : IsConsistent a) (w : List ℕ) (same : w ≡ a.patter
 
   -- what was made of it
   pub made_by : (ms : List WrittenExpression) (k e : ℕ) (t : Substitution) (new : Contents) (limit : ℕ) (made : List ℕ) (r : Result Bool Full) → slice_get a.script.substitutions k ≡ Some t → IsMade a.pattern new limit made r →
-      ReplacesThese w t.replacement (to_replace t.number t.global (occurrences (search_in ms e w) (length w))) limit made r →
-      (u : Substitution) → slice_get a.script.substitutions k ≡ Some u → ReplacesIn u (to_replace u.number u.global (occurrences (search_in ms e a.pattern.bytes) (length a.pattern.bytes))) a.pattern new r
+      ReplacesThese w t.replacement (to_replace t.number t.global (each_occurrence (search_in ms e w) (length w))) limit made r →
+      (u : Substitution) → slice_get a.script.substitutions k ≡ Some u → ReplacesIn u (to_replace u.number u.global (each_occurrence (search_in ms e a.pattern.bytes) (length a.pattern.bytes))) a.pattern new r
   made_by ms k e t new limit made r is becomes h u is' =
-      let Q : List ℕ → Type 0 = λ w. ReplacesThese w u.replacement (to_replace u.number u.global (occurrences (search_in ms e w) (length w))) limit made r in
-      let S : Substitution → Type 0 = λ t. ReplacesThese w t.replacement (to_replace t.number t.global (occurrences (search_in ms e w) (length w))) limit made r in
+      let Q : List ℕ → Type 0 = λ w. ReplacesThese w u.replacement (to_replace u.number u.global (each_occurrence (search_in ms e w) (length w))) limit made r in
+      let S : Substitution → Type 0 = λ t. ReplacesThese w t.replacement (to_replace t.number t.global (each_occurrence (search_in ms e w) (length w))) limit made r in
       made_in a.pattern new limit made r u _ becomes (subst Q same (subst S (same_Some t u (sym is ∙ is')) h))
 
 -- a move whose pattern space has no room for what it makes
@@ -138,20 +138,20 @@ leads_full : (s : State) (t : Substitution) (ms : List Occurrence) (space : ℕ)
 leads_full s t [] space some more = absurd (omega arith)
 leads_full s t (m ∷ ms) space some more = (_, refl, more)
 
-pub makes_full : (a : Inside) (r : RunState) (seen : run_of a ≡ r) (es : List WrittenExpression) (same : es ≡ a.script.expressions) (k e : ℕ) (files : ℕ → List ℕ) (ls : List (List ℕ)) (t : Substitution) (new : Contents) (now : State) (f : Full) → a.pattern.limit ≡ a.limits.space →
+pub makes_full : (a : Inside) (r : RunState) (seen : run_state_of a ≡ r) (es : List WrittenExpression) (same : es ≡ a.script.expressions) (k e : ℕ) (files : ℕ → List ℕ) (ls : List (List ℕ)) (t : Substitution) (new : Contents) (now : State) (f : Full) → a.pattern.limit ≡ a.limits.space →
     slice_get r.script.substitutions k ≡ Some t →
-    ((t : Substitution) → slice_get a.script.substitutions k ≡ Some t → ReplacesIn t (to_replace t.number t.global (occurrences (search_in es e a.pattern.bytes) (length a.pattern.bytes))) a.pattern new (Err f)) →
+    ((t : Substitution) → slice_get a.script.substitutions k ≡ Some t → ReplacesIn t (to_replace t.number t.global (each_occurrence (search_in es e a.pattern.bytes) (length a.pattern.bytes))) a.pattern new (Err f)) →
     Makes r.limits (replaces (record (at_lines r ls) { used = Some e }) t (to_replace_in (run_setting r files) t e r.state.pattern)) t (at_lines r ls) now (Err (PatternFull a.number))
 makes_full a r seen es same k e files ls t new now f limit is h =
     let Q : RunState → Type 0 = λ r. slice_get r.script.substitutions k ≡ Some t → Makes r.limits (replaces (record (at_lines r ls) { used = Some e }) t (to_replace_in (run_setting r files) t e r.state.pattern)) t (at_lines r ls) now (Err (PatternFull a.number)) in
     subst Q seen
     (λ is.
     let made = rw same at (h t is) in
-    let more : a.limits.space < length (replaced_from a.pattern.bytes t.replacement 0 (to_replace_in (run_setting (run_of a) files) t e a.pattern.bytes)) = rw limit at made.1 in
-    (leads_full (record (at_lines (run_of a) ls) { used = Some e }) t (to_replace_in (run_setting (run_of a) files) t e a.pattern.bytes) a.limits.space made.0 more, refl)) is
+    let more : a.limits.space < length (replaced_from a.pattern.bytes t.replacement 0 (to_replace_in (run_setting (run_state_of a) files) t e a.pattern.bytes)) = rw limit at made.1 in
+    (leads_full (record (at_lines (run_state_of a) ls) { used = Some e }) t (to_replace_in (run_setting (run_state_of a) files) t e a.pattern.bytes) a.limits.space made.0 more, refl)) is
 
 -- the expression that the substitution k stands for, if any
-pub stands : (a : Inside) (r : RunState) (k : ℕ) (o : Option ℕ) (t t' : Substitution) → run_of a ≡ r → slice_get r.script.substitutions k ≡ Some t → slice_get a.script.substitutions k ≡ Some t' → o ≡ option_or t'.expression a.used →
+pub stands : (a : Inside) (r : RunState) (k : ℕ) (o : Option ℕ) (t t' : Substitution) → run_state_of a ≡ r → slice_get r.script.substitutions k ≡ Some t → slice_get a.script.substitutions k ≡ Some t' → o ≡ option_or t'.expression a.used →
     stands_for t.expression r.state.used ≡ o
 stands a r k o t t' seen is is' h =
     let Q : RunState → Type 0 = λ r. slice_get r.script.substitutions k ≡ Some t → stands_for t.expression r.state.used ≡ o in
@@ -221,17 +221,17 @@ pub puts_first : (t : Substitution) (w : List ℕ) (old new : SinkView) (end : E
 puts_first t w old new end h = Puts-left old new (cond t.print (line_to 0 w) []) (line_to_file t.file w) end h
 
 -- the substitution of a number, as the engine is seen
-one_seen : (a : Inside) (e : RunState) (k : ℕ) (s t : Substitution) → run_of a ≡ e → slice_get a.script.substitutions k ≡ Some s → slice_get e.script.substitutions k ≡ Some t → s ≡ t
+one_seen : (a : Inside) (e : RunState) (k : ℕ) (s t : Substitution) → run_state_of a ≡ e → slice_get a.script.substitutions k ≡ Some s → slice_get e.script.substitutions k ≡ Some t → s ≡ t
 one_seen a e k s t seen is is' = same_Some s t (sym is ∙ ap (λ (r : RunState). slice_get r.script.substitutions k) seen ∙ is')
 
 -- what its flags write
-pub filed_seen : (a : Inside) (e : RunState) (k : ℕ) (s t : Substitution) (sink : ℕ) (w : List ℕ) (sinks sinks' : SinkView) (r : Result Unit Ended) → run_of a ≡ e → slice_get a.script.substitutions k ≡ Some s →
+pub filed_seen : (a : Inside) (e : RunState) (k : ℕ) (s t : Substitution) (sink : ℕ) (w : List ℕ) (sinks sinks' : SinkView) (r : Result Unit Ended) → run_state_of a ≡ e → slice_get a.script.substitutions k ≡ Some s →
     slice_get e.script.substitutions k ≡ Some t → s.file ≡ Some sink → Puts sinks sinks' (line_to sink w) r → Puts sinks sinks' (line_to_file t.file w) r
 filed_seen a e k s t sink w sinks sinks' r seen is is' file h =
     let Q : Option ℕ → Type 0 = λ o. Puts sinks sinks' (line_to_file o w) r in
     subst Q (sym file ∙ ap (λ (x : Substitution). x.file) (one_seen a e k s t seen is is')) h
 
-pub printed_seen : (a : Inside) (e : RunState) (k : ℕ) (s t : Substitution) (w : List ℕ) (sinks sinks' : SinkView) (r : Result Unit Ended) → run_of a ≡ e → slice_get a.script.substitutions k ≡ Some s →
+pub printed_seen : (a : Inside) (e : RunState) (k : ℕ) (s t : Substitution) (w : List ℕ) (sinks sinks' : SinkView) (r : Result Unit Ended) → run_state_of a ≡ e → slice_get a.script.substitutions k ≡ Some s →
     slice_get e.script.substitutions k ≡ Some t → s.print ≡ true → Puts sinks sinks' (line_to 0 w) r → Puts sinks sinks' (cond t.print (line_to 0 w) []) r
 printed_seen a e k s t w sinks sinks' r seen is is' print h =
     let Q : Bool → Type 0 = λ b. Puts sinks sinks' (cond b (line_to 0 w) []) r in
@@ -246,30 +246,30 @@ replaces_some s t [] some = absurd (omega arith)
 replaces_some s t (m ∷ ms) some = refl
 
 -- a substitution that replaces something, and one that replaces nothing
-pub makes_some : (a : Inside) (r : RunState) (seen : run_of a ≡ r) (es : List WrittenExpression) (same : es ≡ a.script.expressions) (k e : ℕ) (files : ℕ → List ℕ) (ls : List (List ℕ)) (t : Substitution) (new : Contents) →
+pub makes_some : (a : Inside) (r : RunState) (seen : run_state_of a ≡ r) (es : List WrittenExpression) (same : es ≡ a.script.expressions) (k e : ℕ) (files : ℕ → List ℕ) (ls : List (List ℕ)) (t : Substitution) (new : Contents) →
     slice_get r.script.substitutions k ≡ Some t →
-    ((t : Substitution) → slice_get a.script.substitutions k ≡ Some t → ReplacesIn t (to_replace t.number t.global (occurrences (search_in es e a.pattern.bytes) (length a.pattern.bytes))) a.pattern new (Ok true)) →
+    ((t : Substitution) → slice_get a.script.substitutions k ≡ Some t → ReplacesIn t (to_replace t.number t.global (each_occurrence (search_in es e a.pattern.bytes) (length a.pattern.bytes))) a.pattern new (Ok true)) →
     Makes r.limits (replaces (record (at_lines r ls) { used = Some e }) t (to_replace_in (run_setting r files) t e r.state.pattern)) t (at_lines r ls)
-    (record (at_lines (run_of a) ls) { pattern = new.bytes; used = Some e; replaced = true }) (Ok true)
+    (record (at_lines (run_state_of a) ls) { pattern = new.bytes; used = Some e; replaced = true }) (Ok true)
 makes_some a r seen es same k e files ls t new is h =
-    let now : State = record (at_lines (run_of a) ls) { pattern = new.bytes; used = Some e; replaced = true } in
+    let now : State = record (at_lines (run_state_of a) ls) { pattern = new.bytes; used = Some e; replaced = true } in
     let Q : RunState → Type 0 = λ r. slice_get r.script.substitutions k ≡ Some t → replaces (record (at_lines r ls) { used = Some e }) t (to_replace_in (run_setting r files) t e r.state.pattern) ≡ writing (written_by t now.pattern) now in
-    let s : State = record (at_lines (run_of a) ls) { used = Some e } in
-    let ms = to_replace_in (run_setting (run_of a) files) t e a.pattern.bytes in
+    let s : State = record (at_lines (run_state_of a) ls) { used = Some e } in
+    let ms = to_replace_in (run_setting (run_state_of a) files) t e a.pattern.bytes in
     subst Q seen
     (λ is.
     let made = rw same at (h t is) in
     replaces_some s t ms made.0 ∙ ap (λ (w : List ℕ). becomes s t w) (sym (ap (λ (x : Contents). x.bytes) made.1))) is
 
-pub makes_none : (a : Inside) (r : RunState) (seen : run_of a ≡ r) (es : List WrittenExpression) (same : es ≡ a.script.expressions) (k e : ℕ) (files : ℕ → List ℕ) (ls : List (List ℕ)) (t : Substitution) (new : Contents) →
+pub makes_none : (a : Inside) (r : RunState) (seen : run_state_of a ≡ r) (es : List WrittenExpression) (same : es ≡ a.script.expressions) (k e : ℕ) (files : ℕ → List ℕ) (ls : List (List ℕ)) (t : Substitution) (new : Contents) →
     slice_get r.script.substitutions k ≡ Some t →
-    ((t : Substitution) → slice_get a.script.substitutions k ≡ Some t → ReplacesIn t (to_replace t.number t.global (occurrences (search_in es e a.pattern.bytes) (length a.pattern.bytes))) a.pattern new (Ok false)) →
+    ((t : Substitution) → slice_get a.script.substitutions k ≡ Some t → ReplacesIn t (to_replace t.number t.global (each_occurrence (search_in es e a.pattern.bytes) (length a.pattern.bytes))) a.pattern new (Ok false)) →
     Makes r.limits (replaces (record (at_lines r ls) { used = Some e }) t (to_replace_in (run_setting r files) t e r.state.pattern)) t (at_lines r ls)
-    (record (at_lines (run_of a) ls) { pattern = new.bytes; used = Some e }) (Ok false)
+    (record (at_lines (run_state_of a) ls) { pattern = new.bytes; used = Some e }) (Ok false)
 makes_none a r seen es same k e files ls t new is h =
-    let now : State = record (at_lines (run_of a) ls) { pattern = new.bytes; used = Some e } in
+    let now : State = record (at_lines (run_state_of a) ls) { pattern = new.bytes; used = Some e } in
     let Q : RunState → Type 0 = λ r. slice_get r.script.substitutions k ≡ Some t → replaces (record (at_lines r ls) { used = Some e }) t (to_replace_in (run_setting r files) t e r.state.pattern) ≡ quietly now in
-    let s : State = record (at_lines (run_of a) ls) { used = Some e } in
+    let s : State = record (at_lines (run_state_of a) ls) { used = Some e } in
     subst Q seen
     (λ is.
     let made = rw same at (h t is) in

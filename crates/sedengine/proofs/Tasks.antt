@@ -14,8 +14,8 @@ use Rattle.sedengine.specs.Ends.{WithinLimits, reads, named_sink}
 use Rattle.sedengine.specs.Held.{SameLengths}
 use Rattle.sedengine.specs.Meters.{SinkView}
 use Rattle.sedengine.specs.Run.{RunState, at_lines, run_setting, lost}
-use Rattle.sedengine.specs.Steps.{costs, reaches, StopsTask, weight, line_at, takes_turn, Ran, Moves, TakesLines, Halted, Steps}
-use Rattle.sedengine.specs.Inside.{run_of, tasks_of, entries_of, AllQueue, IsConsistent, IsEmptied}
+use Rattle.sedengine.specs.Steps.{costs, reaches, StopsTask, weight, line_at, takes_turn, Ran, Moves, TakesLines, Halted, StepsOf}
+use Rattle.sedengine.specs.Inside.{run_state_of, tasks_of, entries_of, AllQueue, IsConsistent, IsEmptied}
 use Rattle.sedengine.specs.declared.machine.Machine.TheInside.{Inside}
 use Rattle.sedengine.specs.declared.next_step.NextStep.{NextStep}
 use Rattle.sedengine.specs.declared.next_step.NextStep.TheVariants as p
@@ -24,18 +24,18 @@ use Rattle.sedengine.specs.declared.ends.Ended.TheVariants.{Done, PatternFull, T
 use Rattle.sedengine.proofs.Streams.{line_taken, lines_end, lines_stay, lines_same, LosesPart-none, LosesPartAfter-none, TakesAtMost-none, TakesAtMost-kept}
 use Rattle.sedengine.proofs.Moves.{move_at, ran_quietly, stopped_here}
 
-pub fits_at : (a : Inside) (ls : List (List ℕ)) → length a.pattern.bytes ≤ a.limits.space → length a.hold.bytes ≤ a.limits.space → length a.queue.items ≤ a.limits.queue → a.turns ≤ a.limits.turns → WithinLimits a.limits (at_lines (run_of a) ls)
+pub fits_at : (a : Inside) (ls : List (List ℕ)) → length a.pattern.bytes ≤ a.limits.space → length a.hold.bytes ≤ a.limits.space → length a.queue.items ≤ a.limits.queue → a.turns ≤ a.limits.turns → WithinLimits a.limits (at_lines (run_state_of a) ls)
 fits_at a ls pattern hold queue turns = record { pattern = pattern; hold = hold; queue = rw length-map queue; turns = turns }
 
-pub fits_of : (a : Inside) (ls : List (List ℕ)) → IsConsistent a → WithinLimits a.limits (at_lines (run_of a) ls)
+pub fits_of : (a : Inside) (ls : List (List ℕ)) → IsConsistent a → WithinLimits a.limits (at_lines (run_state_of a) ls)
 fits_of a ls i = fits_at a ls i.pattern i.hold i.queue i.turns
 
 pub fits_tasks : (l : Limits) (s : State) (ts : List Task) → WithinLimits l s → WithinLimits l (then_do ts s)
 fits_tasks l s ts f = record { pattern = f.pattern; hold = f.hold; queue = f.queue; turns = f.turns }
 
 seen_steps : {R : Type 0} (remaining : R → Option (List ℕ)) (old new : Stream R) (a : Inside) (e e' : RunState) (ts : List Task) (files : ℕ → List ℕ) (ls : List (List ℕ)) (sinks sinks' : SinkView) (r : Result Unit Ended) →
-    run_of a ≡ e → e.state.tasks ≡ ts → (tasks_of a.next_step ≡ ts → Steps remaining old new ls a.limits (run_setting (run_of a) files) (run_of a) e' sinks sinks' r) →
-    Steps remaining old new ls e.limits (run_setting e files) e e' sinks sinks' r
+    run_state_of a ≡ e → e.state.tasks ≡ ts → (tasks_of a.next_step ≡ ts → StepsOf remaining old new ls a.limits (run_setting (run_state_of a) files) (run_state_of a) e' sinks sinks' r) →
+    StepsOf remaining old new ls e.limits (run_setting e files) e e' sinks sinks' r
 seen_steps {R} remaining old new a e e' ts files ls sinks sinks' r seen t h = rw (← seen) (h (rw (← seen) at t))
 
 -- The end comes at once, and no line was taken.
@@ -58,7 +58,7 @@ emptied_at (p.Do k) bytes t h = absurd (let e : do_at k ≡ begin = cc in other 
     other k e = cc
 emptied_at other bytes t h = cc
 
-pub begins_empty : (a : Inside) (e : RunState) → run_of a ≡ e → IsConsistent a → e.state.tasks ≡ begin ∷ [] → e.state.pattern ≡ []
+pub begins_empty : (a : Inside) (e : RunState) → run_state_of a ≡ e → IsConsistent a → e.state.tasks ≡ begin ∷ [] → e.state.pattern ≡ []
 begins_empty a e seen i at = rw (← seen) (emptied_at a.next_step a.pattern.bytes (rw (← seen) at at) i.empty)
 
 -- the line that is too long
@@ -67,7 +67,7 @@ longer [] h = absurd h
 longer (line ∷ rest) h = (line, rest, refl, h)
 
 -- The fields a of an engine that stands before a cycle; `sinks` are what sinks hold, of which none gains anything.
-module _ {R : Type 0} (remaining : R → Option (List ℕ)) (old new : Stream R) (a : Inside) (e : RunState) (seen : run_of a ≡ e) (i : IsConsistent a) (at : e.state.tasks ≡ begin ∷ [])
+module _ {R : Type 0} (remaining : R → Option (List ℕ)) (old new : Stream R) (a : Inside) (e : RunState) (seen : run_state_of a ≡ e) (i : IsConsistent a) (at : e.state.tasks ≡ begin ∷ [])
     (ls : List (List ℕ)) (known : lines_left remaining old ≡ Some ls) (files : ℕ → List ℕ) (sinks : SinkView) where
   -- the fields that a line leads to, and those where there is none
   abbrev with : Contents → Inside
@@ -76,94 +76,94 @@ module _ {R : Type 0} (remaining : R → Option (List ℕ)) (old new : Stream R)
   abbrev without : Contents → Inside
   without pattern = record a { next_step = p.Ended; pattern = pattern }
 
-  ends : (pattern : Contents) → ls ≡ [] → pattern ≡ a.pattern → tasks_of a.next_step ≡ begin ∷ [] → Ran a.limits (run_setting (run_of a) files) (at_lines (run_of a) ls) (at_lines (run_of (without pattern)) []) sinks sinks
+  ends : (pattern : Contents) → ls ≡ [] → pattern ≡ a.pattern → tasks_of a.next_step ≡ begin ∷ [] → Ran a.limits (run_setting (run_state_of a) files) (at_lines (run_state_of a) ls) (at_lines (run_state_of (without pattern)) []) sinks sinks
   ends pattern none same t =
-      let f : WithinLimits a.limits (at_lines (run_of (without a.pattern)) []) = fits_at (without a.pattern) [] i.pattern i.hold i.queue i.turns in
-      rw same (ran_quietly a.limits (run_setting (run_of a) files) (at_lines (run_of a) ls) (at_lines (run_of (without a.pattern)) []) sinks (fits_of a ls i) (rw none (move_at _ _ _ t)) f)
+      let f : WithinLimits a.limits (at_lines (run_state_of (without a.pattern)) []) = fits_at (without a.pattern) [] i.pattern i.hold i.queue i.turns in
+      rw same (ran_quietly a.limits (run_setting (run_state_of a) files) (at_lines (run_state_of a) ls) (at_lines (run_state_of (without a.pattern)) []) sinks (fits_of a ls i) (rw none (move_at _ _ _ t)) f)
 
   takes : (line : List ℕ) (rest : List (List ℕ)) (pattern : Contents) → ls ≡ line ∷ rest → pattern.bytes ≡ line → tasks_of a.next_step ≡ begin ∷ [] →
-      next_move (run_setting (run_of a) files) (at_lines (run_of a) ls) ≡ quietly (at_lines (run_of (with pattern)) rest)
+      next_move (run_setting (run_state_of a) files) (at_lines (run_state_of a) ls) ≡ quietly (at_lines (run_state_of (with pattern)) rest)
   takes line rest pattern is h t = rw (is, h) (move_at _ _ _ t)
 
   -- The end is asked for, and it has come.
   pub begins_last : ls ≡ [] → KeepsLines (lines_left remaining old) (lines_left remaining new) → Keeps (left remaining old) (left remaining new) →
-      Steps remaining old new ls e.limits (run_setting e files) e (run_of (record a { next_step = p.Ended })) sinks sinks (Ok tt)
+      StepsOf remaining old new ls e.limits (run_setting e files) e (run_state_of (record a { next_step = p.Ended })) sinks sinks (Ok tt)
   begins_last none kept bytes =
       let T : List (List ℕ) → Type 0 = λ ms. TakesLines remaining old new ls ms in
-      seen_steps remaining old new a e (run_of (without a.pattern)) (begin ∷ []) files ls sinks sinks (Ok tt) seen at
+      seen_steps remaining old new a e (run_state_of (without a.pattern)) (begin ∷ []) files ls sinks sinks (Ok tt) seen at
       (λ t. ([], subst T none (lines_stay remaining old new ls known kept bytes), ends a.pattern none refl t))
 
   pub begins_none : (n : ℕ) (pattern : Contents) → pattern ≡ a.pattern →
       TakesAtMost (remaining old.source) (remaining new.source) n → NoLineLeft (lines_left remaining old) → NoLineLeft (lines_left remaining new) →
-      Steps remaining old new ls e.limits (run_setting e files) e (run_of (record a { next_step = p.Ended; pattern = pattern })) sinks sinks (Ok tt)
+      StepsOf remaining old new ls e.limits (run_setting e files) e (run_state_of (record a { next_step = p.Ended; pattern = pattern })) sinks sinks (Ok tt)
   begins_none n pattern same taken none none' =
       let r = lines_end remaining old new n ls known taken none none' in
-      seen_steps remaining old new a e (run_of (without pattern)) (begin ∷ []) files ls sinks sinks (Ok tt) seen at (λ t. ([], r.1, ends pattern r.0 same t))
+      seen_steps remaining old new a e (run_state_of (without pattern)) (begin ∷ []) files ls sinks sinks (Ok tt) seen at (λ t. ([], r.1, ends pattern r.0 same t))
 
   pub begins_takes : (pattern : Contents) (line : List ℕ) → (a.turns ≡ a.limits.turns → ⊥) → pattern ≡ record a.pattern { bytes = a.pattern.bytes ++ line } → length pattern.bytes ≤ pattern.limit →
       TakesLine (left remaining old) (left remaining new) line → GivesLine (lines_left remaining old) (lines_left remaining new) line →
-      Steps remaining old new ls e.limits (run_setting e files) e (run_of (record a { next_step = p.Do 0; pattern = pattern; number = a.number + 1; replaced = false; turns = a.turns + 1 })) sinks sinks (Ok tt)
+      StepsOf remaining old new ls e.limits (run_setting e files) e (run_state_of (record a { next_step = p.Do 0; pattern = pattern; number = a.number + 1; replaced = false; turns = a.turns + 1 })) sinks sinks (Ok tt)
   begins_takes pattern line turns is within bytes given =
       let r = line_taken remaining old new ls line known bytes given in
       let most = i.turns in
       let room = i.pattern_limit in
       let limit : pattern.limit ≡ a.pattern.limit = ap (λ (c : Contents). c.limit) is in
-      seen_steps remaining old new a e (run_of (with pattern)) (begin ∷ []) files ls sinks sinks (Ok tt) seen at
+      seen_steps remaining old new a e (run_state_of (with pattern)) (begin ∷ []) files ls sinks sinks (Ok tt) seen at
       (λ t.
       let none : a.pattern.bytes ≡ [] = emptied_at a.next_step a.pattern.bytes t i.empty in
       let bytes : pattern.bytes ≡ line = ap (λ (c : Contents). c.bytes) is ∙ ap (λ bs. bs ++ line) none in (
         r.0,
         r.2,
-        ran_quietly a.limits (run_setting (run_of a) files) (at_lines (run_of a) ls) (at_lines (run_of (with pattern)) r.0) sinks (fits_of a ls i) (takes line r.0 pattern r.1 bytes t)
+        ran_quietly a.limits (run_setting (run_state_of a) files) (at_lines (run_state_of a) ls) (at_lines (run_state_of (with pattern)) r.0) sinks (fits_of a ls i) (takes line r.0 pattern r.1 bytes t)
             (fits_at (with pattern) r.0 (omega arith) i.hold i.queue (omega arith)),
       ))
 
   pub begins_stops : (pattern : Contents) → pattern ≡ a.pattern → (a.turns ≡ a.limits.turns → ⊥) → FirstIsLonger (lines_left remaining old) (a.pattern.limit - length a.pattern.bytes) →
       LosesPart (left remaining old) (left remaining new) a.pattern.limit →
-      Steps remaining old new ls e.limits (run_setting e files) e (run_of (record a { pattern = pattern })) sinks sinks (Err (PatternFull (a.number + 1)))
+      StepsOf remaining old new ls e.limits (run_setting e files) e (run_state_of (record a { pattern = pattern })) sinks sinks (Err (PatternFull (a.number + 1)))
   begins_stops pattern same turns long gone =
       let r = longer ls (subst (λ (o : Option (List (List ℕ))). FirstIsLonger o (a.pattern.limit - length a.pattern.bytes)) known long) in
       let limit = i.pattern_limit in
       let most = i.turns in
       let made : Contents = record { bytes = r.0; limit = 0 } in
-      seen_steps remaining old new a e (run_of (record a { pattern = pattern })) (begin ∷ []) files ls sinks sinks (Err (PatternFull (a.number + 1))) seen at
+      seen_steps remaining old new a e (run_state_of (record a { pattern = pattern })) (begin ∷ []) files ls sinks sinks (Err (PatternFull (a.number + 1))) seen at
       (λ t.
       let none : length a.pattern.bytes ≡ 0 = ap length (emptied_at a.next_step a.pattern.bytes t i.empty) in
-      halts_here remaining old new a.limits (run_setting (run_of a) files) (at_lines (run_of a) ls) (run_of (record a { pattern = pattern })) sinks (PatternFull (a.number + 1)) (fits_of a ls i) refl
-      (ap (line_at (at_lines (run_of a) ls)) (sym t), (λ _. omega arith), (record { next = at_lines (run_of (with made)) r.1; writes = [] }, takes r.0 r.1 made r.2 refl t, omega (arith, r.3)))
+      halts_here remaining old new a.limits (run_setting (run_state_of a) files) (at_lines (run_state_of a) ls) (run_state_of (record a { pattern = pattern })) sinks (PatternFull (a.number + 1)) (fits_of a ls i) refl
+      (ap (line_at (at_lines (run_state_of a) ls)) (sym t), (λ _. omega arith), (record { next = at_lines (run_state_of (with made)) r.1; writes = [] }, takes r.0 r.1 made r.2 refl t, omega (arith, r.3)))
       (record { pattern = ap (λ (c : Contents). length c.bytes) same; hold = refl; queue = λ _. refl; entries = omega arith }) (rw i.pattern_limit at gone))
 
   -- A line is left, and no turn.
   pub begins_spent : not (none_left ls) ≡ true → a.turns ≡ a.limits.turns → Keeps (left remaining old) (left remaining new) →
-      Steps remaining old new ls e.limits (run_setting e files) e e sinks sinks (Err TurnsSpent)
+      StepsOf remaining old new ls e.limits (run_setting e files) e e sinks sinks (Err TurnsSpent)
   begins_spent some spent kept =
-      let Q : RunState → Type 0 = λ e. e.state.tasks ≡ begin ∷ [] → Steps remaining old new ls e.limits (run_setting e files) e e sinks sinks (Err TurnsSpent) in
-      subst Q seen (λ t. halts_here remaining old new a.limits (run_setting (run_of a) files) (at_lines (run_of a) ls) (run_of a) sinks TurnsSpent (fits_of a ls i) refl
-      (spent, ap (takes_turn (run_setting (run_of a) files) (at_lines (run_of a) ls)) t ∙ some) (record { pattern = refl; hold = refl; queue = λ _. refl; entries = omega arith }) (LosesPart-none _ _ _ (TakesAtMost-kept _ _ kept))) at
+      let Q : RunState → Type 0 = λ e. e.state.tasks ≡ begin ∷ [] → StepsOf remaining old new ls e.limits (run_setting e files) e e sinks sinks (Err TurnsSpent) in
+      subst Q seen (λ t. halts_here remaining old new a.limits (run_setting (run_state_of a) files) (at_lines (run_state_of a) ls) (run_state_of a) sinks TurnsSpent (fits_of a ls i) refl
+      (spent, ap (takes_turn (run_setting (run_state_of a) files) (at_lines (run_state_of a) ls)) t ∙ some) (record { pattern = refl; hold = refl; queue = λ _. refl; entries = omega arith }) (LosesPart-none _ _ _ (TakesAtMost-kept _ _ kept))) at
 
   -- The source failed.
   pub begins_broken : (pattern : Contents) → pattern ≡ a.pattern → LosesPart (left remaining old) (left remaining new) a.limits.space →
-      Steps remaining old new ls e.limits (run_setting e files) e (run_of (record a { pattern = pattern })) sinks sinks (Err InputBroken)
+      StepsOf remaining old new ls e.limits (run_setting e files) e (run_state_of (record a { pattern = pattern })) sinks sinks (Err InputBroken)
   begins_broken pattern same gone =
-      seen_steps remaining old new a e (run_of (record a { pattern = pattern })) (begin ∷ []) files ls sinks sinks (Err InputBroken) seen at
-      (λ t. halts_here remaining old new a.limits (run_setting (run_of a) files) (at_lines (run_of a) ls) (run_of (record a { pattern = pattern })) sinks InputBroken (fits_of a ls i) refl
-      (ap (reads (run_setting (run_of a) files)) t) (record { pattern = ap (λ (c : Contents). length c.bytes) same; hold = refl; queue = λ _. refl; entries = omega arith }) gone)
+      seen_steps remaining old new a e (run_state_of (record a { pattern = pattern })) (begin ∷ []) files ls sinks sinks (Err InputBroken) seen at
+      (λ t. halts_here remaining old new a.limits (run_setting (run_state_of a) files) (at_lines (run_state_of a) ls) (run_state_of (record a { pattern = pattern })) sinks InputBroken (fits_of a ls i) refl
+      (ap (reads (run_setting (run_state_of a) files)) t) (record { pattern = ap (λ (c : Contents). length c.bytes) same; hold = refl; queue = λ _. refl; entries = omega arith }) gone)
 
-  pub begins_failed : Keeps (left remaining old) (left remaining new) → Steps remaining old new ls e.limits (run_setting e files) e e sinks sinks (Err InputBroken)
+  pub begins_failed : Keeps (left remaining old) (left remaining new) → StepsOf remaining old new ls e.limits (run_setting e files) e e sinks sinks (Err InputBroken)
   begins_failed kept =
-      let Q : RunState → Type 0 = λ e. e.state.tasks ≡ begin ∷ [] → Steps remaining old new ls e.limits (run_setting e files) e e sinks sinks (Err InputBroken) in
-      subst Q seen (λ t. halts_here remaining old new a.limits (run_setting (run_of a) files) (at_lines (run_of a) ls) (run_of a) sinks InputBroken (fits_of a ls i) refl
-      (ap (reads (run_setting (run_of a) files)) t) (record { pattern = refl; hold = refl; queue = λ _. refl; entries = omega arith }) (LosesPart-none _ _ _ (TakesAtMost-kept _ _ kept))) at
+      let Q : RunState → Type 0 = λ e. e.state.tasks ≡ begin ∷ [] → StepsOf remaining old new ls e.limits (run_setting e files) e e sinks sinks (Err InputBroken) in
+      subst Q seen (λ t. halts_here remaining old new a.limits (run_setting (run_state_of a) files) (at_lines (run_state_of a) ls) (run_state_of a) sinks InputBroken (fits_of a ls i) refl
+      (ap (reads (run_setting (run_state_of a) files)) t) (record { pattern = refl; hold = refl; queue = λ _. refl; entries = omega arith }) (LosesPart-none _ _ _ (TakesAtMost-kept _ _ kept))) at
 
 -- An engine with the fields a that stands before command k, or before the end of the script.
-module _ (a : Inside) (e : RunState) (seen : run_of a ≡ e) (i : IsConsistent a) (files : ℕ → List ℕ) (ls : List (List ℕ)) (k : ℕ) (at : e.state.tasks ≡ do_at k ∷ []) where
+module _ (a : Inside) (e : RunState) (seen : run_state_of a ≡ e) (i : IsConsistent a) (files : ℕ → List ℕ) (ls : List (List ℕ)) (k : ℕ) (at : e.state.tasks ≡ do_at k ∷ []) where
   -- a command with no turn left
   pub reach_spent : (sinks : SinkView) → k < length a.script.commands → a.turns ≡ a.limits.turns →
       Moves e.limits (run_setting e files) (at_lines e ls) (at_lines e ls) sinks sinks (Err TurnsSpent)
   reach_spent sinks there spent =
       let Q : RunState → Type 0 = λ e. e.state.tasks ≡ do_at k ∷ [] → Moves e.limits (run_setting e files) (at_lines e ls) (at_lines e ls) sinks sinks (Err TurnsSpent) in
-      subst Q seen (λ t. stopped_here a.limits (run_setting (run_of a) files) (at_lines (run_of a) ls) (at_lines (run_of a) ls) sinks TurnsSpent (fits_of a ls i) refl
-      (spent, ap (takes_turn (run_setting (run_of a) files) (at_lines (run_of a) ls)) t ∙ is_there a.script.commands k there) (record { pattern = refl; hold = refl; queue = λ _. refl; entries = omega arith }) refl) at
+      subst Q seen (λ t. stopped_here a.limits (run_setting (run_state_of a) files) (at_lines (run_state_of a) ls) (at_lines (run_state_of a) ls) sinks TurnsSpent (fits_of a ls i) refl
+      (spent, ap (takes_turn (run_setting (run_state_of a) files) (at_lines (run_state_of a) ls)) t ∙ is_there a.script.commands k there) (record { pattern = refl; hold = refl; queue = λ _. refl; entries = omega arith }) refl) at
     where
       is_there : {A : Type 0} (xs : List A) (k : ℕ) → k < length xs → is_some (slice_get xs k) ≡ true
       is_there [] k h = absurd (omega arith)
@@ -171,14 +171,14 @@ module _ (a : Inside) (e : RunState) (seen : run_of a ≡ e) (i : IsConsistent a
       is_there (x ∷ xs) (suc k) h = is_there xs k (omega arith)
 
 -- Nothing is moved where the run has ended.
-pub ends_here : {R : Type 0} (remaining : R → Option (List ℕ)) (old : Stream R) (a : Inside) (e : RunState) (seen : run_of a ≡ e) (i : IsConsistent a) (ls : List (List ℕ)) (files : ℕ → List ℕ) (sinks : SinkView) → a.next_step ≡ p.Ended →
-    Steps remaining old old ls e.limits (run_setting e files) e e sinks sinks (Err Done)
+pub ends_here : {R : Type 0} (remaining : R → Option (List ℕ)) (old : Stream R) (a : Inside) (e : RunState) (seen : run_state_of a ≡ e) (i : IsConsistent a) (ls : List (List ℕ)) (files : ℕ → List ℕ) (sinks : SinkView) → a.next_step ≡ p.Ended →
+    StepsOf remaining old old ls e.limits (run_setting e files) e e sinks sinks (Err Done)
 ends_here {R} remaining old a e seen i ls files sinks over =
-    rw (← seen) (halts_here remaining old old a.limits (run_setting (run_of a) files) (at_lines (run_of a) ls) (run_of a) sinks Done (fits_of a ls i) refl (ap tasks_of over) (record { pattern = refl; hold = refl; queue = λ _. refl; entries = omega arith }) (LosesPart-none _ _ _ (TakesAtMost-none _)))
+    rw (← seen) (halts_here remaining old old a.limits (run_setting (run_state_of a) files) (at_lines (run_state_of a) ls) (run_state_of a) sinks Done (fits_of a ls i) refl (ap tasks_of over) (record { pattern = refl; hold = refl; queue = λ _. refl; entries = omega arith }) (LosesPart-none _ _ _ (TakesAtMost-none _)))
 
 -- What takes no lines keeps those that are left.
 pub steps_by_moves : {R : Type 0} (remaining : R → Option (List ℕ)) (old : Stream R) (ls : List (List ℕ)) (l : Limits) (g : Setting) (e e' : RunState) (sinks sinks' : SinkView) (r : Result Unit Ended) → lines_left remaining old ≡ Some ls →
-    Moves l g (at_lines e ls) (at_lines e' ls) sinks sinks' r → Steps remaining old old ls l g e e' sinks sinks' r
+    Moves l g (at_lines e ls) (at_lines e' ls) sinks sinks' r → StepsOf remaining old old ls l g e e' sinks sinks' r
 steps_by_moves {R} remaining old ls l g e e' sinks sinks' (Ok u) known ran = (ls, lines_same remaining old ls known, ran)
 steps_by_moves {R} remaining old ls l g e e' sinks sinks' (Err end) known stopped = record {
   rest = ls;
@@ -278,25 +278,25 @@ begun_is_run a pattern line i more is within =
     moved a pattern a.build a.queue (p.Do 0) (a.number + 1) (a.turns + 1) false i (omega arith) (omega arith) limit (omega arith) refl refl i.queue i.queued tt
 
 -- a cycle was to begin, and began, or the run has ended
-pub begun_falls : (a : Inside) (e : RunState) (pattern : Contents) → run_of a ≡ e → IsConsistent a → e.state.tasks ≡ begin ∷ [] → (a.turns ≡ a.limits.turns → ⊥) →
-    weight (run_of (record a { pattern = pattern; number = a.number + 1; turns = a.turns + 1; replaced = false; next_step = p.Do 0 })) < weight e
+pub begun_falls : (a : Inside) (e : RunState) (pattern : Contents) → run_state_of a ≡ e → IsConsistent a → e.state.tasks ≡ begin ∷ [] → (a.turns ≡ a.limits.turns → ⊥) →
+    weight (run_state_of (record a { pattern = pattern; number = a.number + 1; turns = a.turns + 1; replaced = false; next_step = p.Do 0 })) < weight e
 begun_falls a e pattern seen i at more =
     let turns = i.turns in
     let was : costs (tasks_of a.next_step) ≡ 1 = ap costs (rw (← seen) at at) in
-    let less : weight (run_of (record a { pattern = pattern; number = a.number + 1; turns = a.turns + 1; replaced = false; next_step = p.Do 0 })) < weight (run_of a) = omega arith in
+    let less : weight (run_state_of (record a { pattern = pattern; number = a.number + 1; turns = a.turns + 1; replaced = false; next_step = p.Do 0 })) < weight (run_state_of a) = omega arith in
     rw (← seen) less
 
-pub ended_falls : (a : Inside) (e : RunState) (pattern : Contents) → run_of a ≡ e → e.state.tasks ≡ begin ∷ [] → weight (run_of (record a { pattern = pattern; next_step = p.Ended })) < weight e
+pub ended_falls : (a : Inside) (e : RunState) (pattern : Contents) → run_state_of a ≡ e → e.state.tasks ≡ begin ∷ [] → weight (run_state_of (record a { pattern = pattern; next_step = p.Ended })) < weight e
 ended_falls a e pattern seen at =
     let was : costs (tasks_of a.next_step) ≡ 1 = ap costs (rw (← seen) at at) in
-    let less : weight (run_of (record a { pattern = pattern; next_step = p.Ended })) < weight (run_of a) = omega arith in
+    let less : weight (run_state_of (record a { pattern = pattern; next_step = p.Ended })) < weight (run_state_of a) = omega arith in
     rw (← seen) less
 
-pub rebegun_falls : (a : Inside) (e : RunState) → run_of a ≡ e → IsConsistent a → e.state.tasks ≡ rebegin ∷ [] → (a.turns ≡ a.limits.turns → ⊥) → weight (run_of (record a { turns = a.turns + 1; next_step = p.Do 0 })) < weight e
+pub rebegun_falls : (a : Inside) (e : RunState) → run_state_of a ≡ e → IsConsistent a → e.state.tasks ≡ rebegin ∷ [] → (a.turns ≡ a.limits.turns → ⊥) → weight (run_state_of (record a { turns = a.turns + 1; next_step = p.Do 0 })) < weight e
 rebegun_falls a e seen i at more =
     let turns = i.turns in
     let was : costs (tasks_of a.next_step) ≡ 1 = ap costs (rw (← seen) at at) in
-    let less : weight (run_of (record a { turns = a.turns + 1; next_step = p.Do 0 })) < weight (run_of a) = omega arith in
+    let less : weight (run_state_of (record a { turns = a.turns + 1; next_step = p.Do 0 })) < weight (run_state_of a) = omega arith in
     rw (← seen) less
 
 empty_mapped : (p : NextStep) (bytes : List ℕ) (f : ℕ → ℕ) → IsEmptied p bytes → IsEmptied p (map f bytes)

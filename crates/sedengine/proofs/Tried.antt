@@ -9,14 +9,14 @@ use Rattle.sedscript.specs.declared.types.Address.TheVariants.{Match}
 use Rattle.sedscript.specs.declared.substitution.Substitution.{Substitution}
 use Rattle.sedspace.specs.declared.errors.Full.{Full}
 use Rattle.sedengine.specs.Choose.{current_in}
-use Rattle.sedengine.specs.Inside.{run_of, IsConsistent}
+use Rattle.sedengine.specs.Inside.{run_state_of, IsConsistent}
 use Rattle.std.specs.Prelude.{slice_get, slice_set}
 use Rattle.std.proofs.lemmas.List.{set-get_or}
 use Rattle.sedengine.specs.SubstituteParts.{ReplacesThese}
 use Rattle.sedengine.specs.Run.{RunState}
 use Rattle.sedengine.specs.State.{finds_in, search_for, search_in}
 use Rattle.sedengine.specs.Select.{AddressAnswer, answer, stands_for}
-use Rattle.sedengine.specs.Substitute.{to_replace, occurrences}
+use Rattle.sedengine.specs.Substitute.{to_replace, each_occurrence}
 use Rattle.sedengine.specs.declared.machine.Machine.TheInside.{Inside}
 
 pub standing : (named used : Option ℕ) → option_or named used ≡ stands_for named used
@@ -30,14 +30,14 @@ within_by n None (Some j) k h one is = let same : k ≡ j = same_Some k j is in 
 within_by n None None k h one is = cc
 
 -- an address tries an expression of the script
-pub tried_within : (a : Inside) (r : RunState) (named : Option ℕ) (k : ℕ) → run_of a ≡ r → IsConsistent a → AddressWithin (length r.script.expressions) (Some (Match named)) → Some k ≡ option_or named a.used →
+pub tried_within : (a : Inside) (r : RunState) (named : Option ℕ) (k : ℕ) → run_state_of a ≡ r → IsConsistent a → AddressWithin (length r.script.expressions) (Some (Match named)) → Some k ≡ option_or named a.used →
     k < length a.script.expressions
 tried_within a r named k seen i h is =
     let P : RunState → Type 0 = λ r. AddressWithin (length r.script.expressions) (Some (Match named)) in
     within_by (length a.script.expressions) named a.used k (subst P (sym seen) h) i.used is
 
 -- what it answers
-pub answered : (a : Inside) (r : RunState) (named : Option ℕ) (k : ℕ) (ms : List WrittenExpression) (b last : Bool) → run_of a ≡ r → ms ≡ a.script.expressions → Some k ≡ option_or named a.used → b ≡ finds_in ms k a.pattern.bytes →
+pub answered : (a : Inside) (r : RunState) (named : Option ℕ) (k : ℕ) (ms : List WrittenExpression) (b last : Bool) → run_state_of a ≡ r → ms ≡ a.script.expressions → Some k ≡ option_or named a.used → b ≡ finds_in ms k a.pattern.bytes →
     answer (current_in r last) (Match named) ≡ Some (record { yes = b; used = Some k })
 answered a r named k ms b last seen same is found =
     let f : ℕ → Option AddressAnswer = λ j. Some (record { yes = finds_in a.script.expressions j a.pattern.bytes; used = Some j }) in
@@ -48,10 +48,10 @@ answered a r named k ms b last seen same is found =
 
 -- what is replaced with the expression of a number
 pub replaces_by : (ms : List WrittenExpression) (e : ℕ) (m : WrittenExpression) (w : List ℕ) (t : Substitution) (limit : ℕ) (made : List ℕ) (r : Result Bool Full) → e < length ms → m ≡ get_or ms e m →
-    ReplacesThese w t.replacement (to_replace t.number t.global (occurrences (search_for m w) (length w))) limit made r →
-    ReplacesThese w t.replacement (to_replace t.number t.global (occurrences (search_in ms e w) (length w))) limit made r
+    ReplacesThese w t.replacement (to_replace t.number t.global (each_occurrence (search_for m w) (length w))) limit made r →
+    ReplacesThese w t.replacement (to_replace t.number t.global (each_occurrence (search_in ms e w) (length w))) limit made r
 replaces_by ms e m w t limit made r inside is h =
-    let P : Option WrittenExpression → Type 0 = λ o. ReplacesThese w t.replacement (to_replace t.number t.global (occurrences (λ from. option_and_then (λ e. search_for e w from) o) (length w))) limit made r in
+    let P : Option WrittenExpression → Type 0 = λ o. ReplacesThese w t.replacement (to_replace t.number t.global (each_occurrence (λ from. option_and_then (λ e. search_for e w from) o) (length w))) limit made r in
     subst P (sym (slice_get_read ms (length ms) e m refl inside is)) h
 
 -- the matcher of a number is the one that stands there

@@ -9,7 +9,7 @@ use Rattle.sedengine.specs.Run.{FailedSource}
 use Rattle.sedengine.specs.Ends.{named_sink}
 use Rattle.sedengine.specs.Meters.{Sent, SinkView, FullSink}
 use Rattle.sedengine.specs.Move.{to_sink}
-use Rattle.sedengine.specs.declared.meter.Cut.{Cut}
+use Rattle.sedengine.specs.declared.meter.CutShort.{CutShort}
 use Rattle.sedengine.specs.Types.{Ended, InputBroken, OutputBroken, OutputFull}
 
 -- All of these bytes were written, or a sink failed or was full where one of them was due.
@@ -19,15 +19,15 @@ Puts old new out (Err end) =
     (k : ℕ) × (b : ℕ) × (byte : ℕ) × (named_sink end ≡ Some k) × (slice_get out b ≡ Some (k, byte)) × Sent old new (take b out)
 
 -- All of these bytes were written to this sink, or it gained so many of them and took no more.
-abbrev pub WritesPart : SinkView → SinkView → ℕ → List ℕ → Result Unit Cut → Type 0
+abbrev pub WritesPart : SinkView → SinkView → ℕ → List ℕ → Result Unit CutShort → Type 0
 WritesPart old new sink bytes (Ok u) = Sent old new (to_sink sink bytes)
 WritesPart old new sink bytes (Err cut) =
     (cut.done < length bytes) × (named_sink cut.end ≡ Some sink) × Sent old new (to_sink sink (take cut.done bytes))
 
 -- the same answer without the number of bytes
-abbrev pub end_of : Result Unit Cut → Result Unit Ended
-end_of (Ok u) = Ok tt
-end_of (Err cut) = Err cut.end
+abbrev pub without_count : Result Unit CutShort → Result Unit Ended
+without_count (Ok u) = Ok tt
+without_count (Err cut) = Err cut.end
 
 -- A sink that an answer names as broken has failed, and no other.
 abbrev pub FailedSink : (ℕ → ℕ) → (ℕ → ℕ) → Result Unit Ended → Type 0

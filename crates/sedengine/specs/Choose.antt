@@ -6,9 +6,9 @@ use Rattle.std.specs.Borrow.{GName}
 use Rattle.sedspace.specs.Stream.{Stream, lines_left}
 use Rattle.sedengine.specs.Calls.{NamesNone, ReadsAlone}
 use Rattle.sedengine.specs.Types.{Address, Line, Last, Match, Command, Ended, NoPrevious, InputBroken}
-use Rattle.sedengine.specs.Select.{Current, AddressAnswer, Selection, answer, ends_at_once, selects}
+use Rattle.sedengine.specs.Select.{CurrentLine, AddressAnswer, Selection, answer, ends_at_once, selects}
 use Rattle.sedengine.specs.State.{do_at, Move, Setting, State, finds_in}
-use Rattle.sedengine.specs.Move.{acts, none_left, passes, reached, writes_text_at}
+use Rattle.sedengine.specs.Move.{acts, none_left, goes_past, having_reached, writes_text_at}
 use Rattle.sedengine.specs.Steps.{TakesLines}
 use Rattle.sedengine.specs.Ends.{is_dollar}
 use Rattle.sedengine.specs.Run.{RunState}
@@ -45,8 +45,8 @@ choice_by_match (Some first) (Some second) active number matched = choice_in_ran
 choice_by_match first second active number matched = record { yes = matched; end = false; active = active }
 
 -- `!` turns the yes alone
-abbrev pub turned : Bool → Chosen → Chosen
-turned negate c = record c { yes = if negate then not c.yes else c.yes }
+abbrev pub turned_by_bang : Bool → Chosen → Chosen
+turned_by_bang negate c = record c { yes = if negate then not c.yes else c.yes }
 
 -- Whether a command applies, if it has no address or one that is a line number: the line number alone decides.
 abbrev pub yes_by_number : Option Address → Option Address → Bool → ℕ → Option Bool
@@ -55,12 +55,12 @@ yes_by_number (Some (Line n)) None negate number = Some (if negate then not (nat
 yes_by_number other second negate number = None
 
 -- where no address decides, the answer is yes
-abbrev pub decides : Current → Option Address → Option AddressAnswer
+abbrev pub decides : CurrentLine → Option Address → Option AddressAnswer
 decides c None = Some (record { yes = true; used = c.used })
 decides c (Some a) = answer c a
 
 -- what addresses are judged by, in this state of the engine
-abbrev pub current_in : RunState → Bool → Current
+abbrev pub current_in : RunState → Bool → CurrentLine
 current_in e last = record {
   number = e.state.number;
   last = last;
@@ -80,10 +80,10 @@ with_used e used = record e { state = record e.state { used = used } }
 -- what a command does, given what its addresses select
 abbrev pub performs : Setting → State → ℕ → Command → Selection → Option Move
 performs g s k c choice =
-    if choice.yes then acts g (reached s k choice) (writes_text_at c choice.end) c.action else passes (reached s k choice) c.action
+    if choice.yes then acts g (having_reached s k choice) (writes_text_at c choice.end) c.action else goes_past (having_reached s k choice) c.action
 
 -- What a call that judges one address answers, used being the expression last used after it.
-abbrev pub Answers : Current → Option AddressAnswer → Option ℕ → Bool → Result Bool Ended → Type 0
+abbrev pub Answers : CurrentLine → Option AddressAnswer → Option ℕ → Bool → Result Bool Ended → Type 0
 Answers c a used asks (Ok matched) = a ≡ Some (record { yes = matched; used = used })
 Answers c a used asks (Err (NoPrevious n)) = (a ≡ None) × (n ≡ c.number)
 Answers c a used asks (Err InputBroken) = asks ≡ true
@@ -98,7 +98,7 @@ abbrev pub names_last : Command → Bool
 names_last c = is_dollar c.first || is_dollar c.second
 
 -- What a call that judges the addresses of a command answers, used being the expression last used after it.
-abbrev pub Judges : Current → Bool → Command → Option ℕ → Result Chosen Ended → Type 0
+abbrev pub Judges : CurrentLine → Bool → Command → Option ℕ → Result Chosen Ended → Type 0
 Judges c active command used (Ok choice) = selects c active command ≡ Some (as_selection choice used)
 Judges c active command used (Err (NoPrevious n)) = (selects c active command ≡ None) × (n ≡ c.number)
 Judges c active command used (Err InputBroken) = names_last command ≡ true

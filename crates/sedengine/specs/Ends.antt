@@ -11,24 +11,24 @@ use Rattle.sedengine.specs.Move.{next_move, after, written}
 use Rattle.sedspace.specs.Lines.{HasNoNewline}
 
 -- the bytes of one sink among bytes for all
-abbrev pub part : ℕ → List (ℕ × ℕ) → List ℕ
-part k [] = []
-part k ((sink, byte) ∷ out) = if nat_eq sink k then byte ∷ part k out else part k out
+abbrev pub bytes_of_sink : ℕ → List (ℕ × ℕ) → List ℕ
+bytes_of_sink k [] = []
+bytes_of_sink k ((sink, byte) ∷ out) = if nat_eq sink k then byte ∷ bytes_of_sink k out else bytes_of_sink k out
 
 -- each sink whose contents are known has gained exactly its part
 pub record Gained (old new : ℕ → Option (List ℕ)) (out : List (ℕ × ℕ)) : Type 0 where
-  pub each : (k : ℕ) → Appends (old k) (new k) (part k out)
+  pub each : (k : ℕ) → Appends (old k) (new k) (bytes_of_sink k out)
 
 -- a sink that an end names as full has gained exactly the limit; `before` gives what each had gained already
 abbrev pub FillsSink : Option ℕ → (ℕ → ℕ) → List (ℕ × ℕ) → Result Unit Ended → Type 0
-FillsSink most before out (Err (OutputFull k)) = most ≡ Some (before k + length (part k out))
+FillsSink most before out (Err (OutputFull k)) = most ≡ Some (before k + length (bytes_of_sink k out))
 FillsSink most before out other = Unit {0}
 
 -- The sinks have gained these bytes, and since the engine was opened, with `before`, no more than the limit, where one is set.
 pub record GainedWithin (most : Option ℕ) (before : ℕ → ℕ) (old new : ℕ → Option (List ℕ)) (r : Result Unit Ended)
     (out : List (ℕ × ℕ)) : Type 0 where
   pub gained : Gained old new out
-  pub within : IfSome most (λ n. (k : ℕ) → before k + length (part k out) ≤ n)
+  pub within : IfSome most (λ n. (k : ℕ) → before k + length (bytes_of_sink k out) ≤ n)
   pub full : FillsSink most before out r
 
 -- The source has failed at an end that says so, and at no other.
@@ -59,25 +59,25 @@ is_dollar (Some Last) = true
 is_dollar other = false
 
 -- whether it is the function `n`, which does one thing or another by whether a line is left
-abbrev pub is_next : Action → Bool
-is_next (Plain simple.NextLine) = true
-is_next other = false
+abbrev pub is_next_line : Action → Bool
+is_next_line (Plain simple.NextLine) = true
+is_next_line other = false
 
 -- whether a command asks if a line is left
-abbrev pub asks_last : Command → Bool
-asks_last c = is_dollar c.first || is_dollar c.second || is_next c.action
+abbrev pub asks_if_last : Command → Bool
+asks_if_last c = is_dollar c.first || is_dollar c.second || is_next_line c.action
 
 -- whether the first task may read the input: it fetches a line, or reaches a command with an address `$` or an `n`
 abbrev pub reads : Setting → List Task → Bool
 reads g (begin ∷ rest) = true
 reads g (fetch ∷ rest) = true
 reads g (join ∷ rest) = true
-reads g (do_at k ∷ rest) = option_map_or asks_last (slice_get g.commands k) false
+reads g (do_at k ∷ rest) = option_map_or asks_if_last (slice_get g.commands k) false
 reads g other = false
 
 -- the next move takes no turn too many, and leads to line n and to a state of which this is so
-abbrev pub LeadsTo : Limits → Setting → State → ℕ → (State → Type 0) → Type 0
-LeadsTo l g s n P = (m : Move) × (next_move g s ≡ Some m) × (n ≡ m.next.number) × (m.next.turns ≤ l.turns) × P m.next
+abbrev pub LeadsWithin : Limits → Setting → State → ℕ → (State → Type 0) → Type 0
+LeadsWithin l g s n P = (m : Move) × (next_move g s ≡ Some m) × (n ≡ m.next.number) × (m.next.turns ≤ l.turns) × P m.next
 
 -- the sink that an end names, as broken or as full
 abbrev pub named_sink : Ended → Option ℕ
@@ -88,9 +88,9 @@ named_sink other = None
 -- The cause of an end that names no sink, at the state where it comes; `BrokenOff` is that of a broken or a full output.
 abbrev pub StopsAt : Limits → Setting → State → Ended → Type 0
 StopsAt l g s Done = s.tasks ≡ []
-StopsAt l g s (PatternFull n) = LeadsTo l g s n (λ now. l.space < length now.pattern)
-StopsAt l g s (HoldFull n) = LeadsTo l g s n (λ now. l.space < length now.hold)
-StopsAt l g s (QueueFull n) = LeadsTo l g s n (λ now. l.queue < length now.queue)
+StopsAt l g s (PatternFull n) = LeadsWithin l g s n (λ now. l.space < length now.pattern)
+StopsAt l g s (HoldFull n) = LeadsWithin l g s n (λ now. l.space < length now.hold)
+StopsAt l g s (QueueFull n) = LeadsWithin l g s n (λ now. l.queue < length now.queue)
 StopsAt l g s TurnsSpent =
     (s.turns ≡ l.turns) × (s.tasks ≢ []) × ((m : Move) → next_move g s ≡ Some m → l.turns < m.next.turns)
 StopsAt l g s (NoPrevious n) = (n ≡ s.number) × (s.turns < l.turns) × (s.tasks ≢ []) × (next_move g s ≡ None)

@@ -39,8 +39,8 @@ entry_by texts (Some c) = entry_for texts c.action
 abbrev pub entries_of : Program → List ℕ → List Entry
 entries_of p is = map (λ i. entry_by p.texts (slice_get p.commands i)) is
 
-abbrev pub run_of : Inside → RunState
-run_of a = record {
+abbrev pub run_state_of : Inside → RunState
+run_state_of a = record {
   script = a.script;
   limits = a.limits;
   state = record {
@@ -80,15 +80,15 @@ AllQueue p [] = Unit {0}
 AllQueue p (i ∷ is) = CommandQueues (slice_get p.commands i) × AllQueue p is
 
 -- whether an action puts something into the hold space
-abbrev pub holds : Action → Bool
-holds (Plain simple.Hold) = true
-holds (Plain simple.HoldMore) = true
-holds (Plain simple.Exchange) = true
-holds other = false
+abbrev pub keeps_in_hold : Action → Bool
+keeps_in_hold (Plain simple.Hold) = true
+keeps_in_hold (Plain simple.HoldMore) = true
+keeps_in_hold (Plain simple.Exchange) = true
+keeps_in_hold other = false
 
 abbrev pub CommandHolds : Option Command → Type 0
 CommandHolds None = ⊥
-CommandHolds (Some c) = holds c.action ≡ true
+CommandHolds (Some c) = keeps_in_hold c.action ≡ true
 
 -- One of the commands of a script puts something into the hold space, which is empty else.
 abbrev pub FillsHold : Program → Type 0

@@ -15,9 +15,9 @@ abbrev pub plain : ℕ → Bool
 plain b = nat_le 32 b && nat_le b 126 && not (b == 92)
 
 -- bytes that are listed as they are
-abbrev pub ArePlain : List ℕ → Type 0
-ArePlain [] = Unit {0}
-ArePlain (b ∷ bs) = (listed_byte b ≡ b ∷ []) × ArePlain bs
+abbrev pub AreListedPlain : List ℕ → Type 0
+AreListedPlain [] = Unit {0}
+AreListedPlain (b ∷ bs) = (listed_byte b ≡ b ∷ []) × AreListedPlain bs
 
 -- a listing goes on with bytes that need no fold
 abbrev pub with_run : Listing → List ℕ → Listing

@@ -3,7 +3,7 @@
 use Rattle.std.specs.Prelude.{◌≡◌, ℕ, ◌+◌, ◌≤◌, Option, Some, None, Result, Err, List, length, get_or}
 use Rattle.std.specs.List.{All}
 use Rattle.std.specs.Borrow.{GName}
-use Rattle.sedengine.specs.Ends.{part, Gained}
+use Rattle.sedengine.specs.Ends.{bytes_of_sink, Gained}
 use Rattle.sedengine.specs.Types.{Ended, OutputFull}
 
 -- a meter: the most bytes that each sink may gain, where a limit is set, and how many each has gained
@@ -27,9 +27,9 @@ Fills None sent sink n = ⊥
 Fills (Some most) sent sink n = get_or sent sink 0 + n ≡ most
 
 -- how many bytes a sink has gained, where they are counted
-abbrev pub counted : Option ℕ → List ℕ → ℕ → Option ℕ
-counted None sent k = None
-counted (Some most) sent k = Some (get_or sent k 0)
+abbrev pub counted_bytes : Option ℕ → List ℕ → ℕ → Option ℕ
+counted_bytes None sent k = None
+counted_bytes (Some most) sent k = Some (get_or sent k 0)
 
 -- a count, where there is one, grows by so many
 abbrev pub Counts : Option ℕ → Option ℕ → ℕ → Type 0
@@ -57,7 +57,7 @@ pub record SinkView : Type 0 where
 -- the sinks have gained these bytes, and they were counted
 pub record Sent (old new : SinkView) (out : List (ℕ × ℕ)) : Type 0 where
   pub gained : Gained old.contents new.contents out
-  pub counts : (k : ℕ) → Counts (old.sent k) (new.sent k) (length (part k out))
+  pub counts : (k : ℕ) → Counts (old.sent k) (new.sent k) (length (bytes_of_sink k out))
 
 -- a sink that an end names as full is
 abbrev pub FullSink : SinkView → Result Unit Ended → Type 0

@@ -9,9 +9,9 @@ use Rattle.sedscript.specs.declared.types.TextUse.TheVariants.{Append, Change, I
 use Rattle.sedscript.specs.declared.types.BranchUse.TheVariants.{Always, IfReplaced}
 use Rattle.sedscript.specs.declared.types.FileUse.TheVariants.{Read, Write}
 use Rattle.sedscript.specs.declared.types.Simple.TheVariants as simple
-use Rattle.sedengine.specs.Select.{◌>>=◌, Current, Selection, selects, stands_for}
+use Rattle.sedengine.specs.Select.{◌>>=◌, CurrentLine, Selection, selects, stands_for}
 use Rattle.sedengine.specs.Listing.{listed}
-use Rattle.sedengine.specs.Substitute.{Occurrence, occurrences, to_replace, replaced_from}
+use Rattle.sedengine.specs.Substitute.{Occurrence, each_occurrence, to_replace, replaced_from}
 use Rattle.sedengine.specs.State.{Entry, text_entry, file_entry, Task, begin, rebegin, do_at, print_pattern, empty_pattern, flush, copy, fetch, join, State, Move, Setting}
 
 abbrev pub newline : ℕ
@@ -42,9 +42,9 @@ abbrev pub with_line : List ℕ → List (List ℕ) → State → State
 with_line pattern rest s = record s { lines = rest; number = s.number + 1; pattern = pattern; replaced = false }
 
 -- a cycle starts with the next line; where there is none the run ends
-abbrev pub begins : State → List (List ℕ) → Option Move
-begins s [] = quietly (then_do [] s)
-begins s (line ∷ rest) = quietly (then_do (do_at 0 ∷ []) (record (with_line line rest s) { turns = s.turns + 1 }))
+abbrev pub begun_cycle : State → List (List ℕ) → Option Move
+begun_cycle s [] = quietly (then_do [] s)
+begun_cycle s (line ∷ rest) = quietly (then_do (do_at 0 ∷ []) (record (with_line line rest s) { turns = s.turns + 1 }))
 
 -- the queue is written in the order in which its entries were made
 abbrev pub flushes : State → List Task → List Entry → Option Move
@@ -53,14 +53,14 @@ flushes s rest (text_entry bytes ∷ queue) = writing (line_to 0 bytes) (record 
 flushes s rest (file_entry k ∷ queue) = quietly (record s { queue = queue; tasks = copy k 0 ∷ flush ∷ rest })
 
 -- A file's bytes, with no newline added; where it can't be read, or no further, those read till then (this project's own).
-abbrev pub copies : State → List Task → ℕ → ℕ → Option ℕ → Option Move
-copies s rest k o None = quietly (then_do rest s)
-copies s rest k o (Some b) = writing ((0, b) ∷ []) (record s { tasks = copy k (o + 1) ∷ rest; turns = s.turns + 1 })
+abbrev pub copies_byte : State → List Task → ℕ → ℕ → Option ℕ → Option Move
+copies_byte s rest k o None = quietly (then_do rest s)
+copies_byte s rest k o (Some b) = writing ((0, b) ∷ []) (record s { tasks = copy k (o + 1) ∷ rest; turns = s.turns + 1 })
 
 -- the next line, of which `made` makes the pattern space; without one, to which no run comes here, the run ends (this project's own)
-abbrev pub takes_line : State → List Task → (List ℕ → List ℕ) → List (List ℕ) → Option Move
-takes_line s rest made [] = quietly (then_do [] s)
-takes_line s rest made (line ∷ lines) = quietly (then_do rest (with_line (made line) lines s))
+abbrev pub takes_next_line : State → List Task → (List ℕ → List ℕ) → List (List ℕ) → Option Move
+takes_next_line s rest made [] = quietly (then_do [] s)
+takes_next_line s rest made (line ∷ lines) = quietly (then_do rest (with_line (made line) lines s))
 
 -- These occurrences are replaced, if any; what this makes is written with `p`, and then with `w` to the file (the order: this project's own).
 abbrev pub replaces : State → Substitution → List Occurrence → Option Move
@@ -75,7 +75,7 @@ abbrev pub substitutes : Setting → State → Option Substitution → Option Mo
 substitutes g s None = quietly s
 substitutes g s (Some t) = do
   e ← stands_for t.expression s.used
-  replaces (record s { used = Some e }) t (to_replace t.number t.global (occurrences (g.search e s.pattern) (length s.pattern)))
+  replaces (record s { used = Some e }) t (to_replace t.number t.global (each_occurrence (g.search e s.pattern) (length s.pattern)))
 
 -- the byte that a table has for a byte
 abbrev pub in_table : Option (List ℕ) → ℕ → ℕ
@@ -131,7 +131,7 @@ acts g s writes_text (Plain simple.NextLine) = quietly (
     if none_left s.lines then then_do (print_pattern ∷ flush ∷ []) s
     else then_do (print_pattern ∷ flush ∷ empty_pattern ∷ fetch ∷ s.tasks) s)
 -- `N`: "Append the next line of input, less its terminating <newline>, to the pattern space, using an embedded <newline>
--- to separate the appended material from the original material." Where no line is left, `takes_line` ends the run: "quit
+-- to separate the appended material from the original material." Where no line is left, `takes_next_line` ends the run: "quit
 -- without starting a new cycle or copying the pattern space to standard output".
 acts g s writes_text (Plain simple.AppendNext) = quietly (then_do (flush ∷ join ∷ s.tasks) s)
 -- `=`: writes the line number and a newline
@@ -156,17 +156,17 @@ acts g s writes_text (File Write k) = writing (line_to k s.pattern) s
 acts g s writes_text (Transliterate k) = quietly (record s { pattern = map (in_table (slice_get g.tables k)) s.pattern })
 
 -- What a command that doesn't apply does: `{` passes over its block.
-abbrev pub passes : State → Action → Option Move
-passes s (Block next) = quietly (then_do (do_at next ∷ []) s)
-passes s other = quietly s
+abbrev pub goes_past : State → Action → Option Move
+goes_past s (Block next) = quietly (then_do (do_at next ∷ []) s)
+goes_past s other = quietly s
 
 -- what addresses are judged by in this state
-abbrev pub current_of : Setting → State → Current
+abbrev pub current_of : Setting → State → CurrentLine
 current_of g s = record { number = s.number; last = none_left s.lines; pattern = s.pattern; finds = g.finds; used = s.used }
 
 -- the state that has reached command k: the turn is taken, its addresses are judged, and the next task is the next command
-abbrev pub reached : State → ℕ → Selection → State
-reached s k c =
+abbrev pub having_reached : State → ℕ → Selection → State
+having_reached s k c =
     record s { ranges = slice_set s.ranges k c.active; used = c.used; tasks = do_at (k + 1) ∷ []; turns = s.turns + 1 }
 
 -- whether `c` writes its text: without a range, at its end (never, if the input ends first), and with `!` (both this project's own)
@@ -178,22 +178,22 @@ abbrev pub reach : Setting → State → ℕ → Option Command → Option Move
 reach g s k None = quietly (then_do (print_pattern ∷ flush ∷ empty_pattern ∷ begin ∷ []) s)
 reach g s k (Some c) = do
   choice ← selects (current_of g s) (slice_index_or s.ranges k false) c
-  if choice.yes then acts g (reached s k choice) (writes_text_at c choice.end) c.action
-      else passes (reached s k choice) c.action
+  if choice.yes then acts g (having_reached s k choice) (writes_text_at c choice.end) c.action
+      else goes_past (having_reached s k choice) c.action
 
 -- by the first task
 abbrev pub first_task : Setting → State → List Task → Option Move
 first_task g s [] = None
-first_task g s (begin ∷ rest) = begins s s.lines
+first_task g s (begin ∷ rest) = begun_cycle s s.lines
 -- no line is read, so that what `t` asks for stays (this project's own)
 first_task g s (rebegin ∷ rest) = quietly (record s { tasks = do_at 0 ∷ []; turns = s.turns + 1 })
 first_task g s (do_at k ∷ rest) = reach g s k (slice_get g.commands k)
 first_task g s (print_pattern ∷ rest) = writing (if g.quiet then [] else line_to 0 s.pattern) (then_do rest s)
 first_task g s (empty_pattern ∷ rest) = quietly (record s { pattern = []; tasks = rest })
 first_task g s (flush ∷ rest) = flushes s rest s.queue
-first_task g s (copy k o ∷ rest) = copies s rest k o (slice_get (g.files k) o)
-first_task g s (fetch ∷ rest) = takes_line s rest (λ line. line) s.lines
-first_task g s (join ∷ rest) = takes_line s rest (λ line. s.pattern ++ newline ∷ line) s.lines
+first_task g s (copy k o ∷ rest) = copies_byte s rest k o (slice_get (g.files k) o)
+first_task g s (fetch ∷ rest) = takes_next_line s rest (λ line. line) s.lines
+first_task g s (join ∷ rest) = takes_next_line s rest (λ line. s.pattern ++ newline ∷ line) s.lines
 
 -- A state that has ended has no move. One that has tasks and no move needs an expression that isn't there.
 unfoldable pub next_move : Setting → State → Option Move

@@ -25,5 +25,5 @@ AreSeekers p l s = Seek p.expressions l.nodes s.matchers.items
     × RoomToSeek p.substitutions p.expressions l.space s.seeking
 
 -- all of them, what was found out of the commands, and no range active
-abbrev pub AreParts : Program → Limits → Parts → Type 0
-AreParts p l s = (s.ranges.items ≡ replicate (length p.commands) false) × IfSome s.idle (IsIdleOf p) × IsStore p l s.store × AreSeekers p l s.seekers
+abbrev pub AreEngineParts : Program → Limits → Parts → Type 0
+AreEngineParts p l s = (s.ranges.items ≡ replicate (length p.commands) false) × IfSome s.idle (IsIdleOf p) × IsStore p l s.store × AreSeekers p l s.seekers

@@ -11,12 +11,12 @@ use Rattle.sedscript.specs.declared.types.BranchUse.TheVariants.{Always}
 use Rattle.sedscript.specs.Ranges.{IsOneOf}
 use Rattle.sedscript.specs.Program.{Program}
 use Rattle.sedre.specs.Tree.{WrittenExpression}
-use Rattle.sedspace.specs.Lines.{lines, HasNoNewline}
+use Rattle.sedspace.specs.Lines.{split_lines, HasNoNewline}
 use Rattle.sedengine.specs.State.{Limits, begin, do_at, State, Setting, finds_in}
 use Rattle.sedengine.specs.Move.{after, newline, none_left, to_sink, written}
 use Rattle.sedengine.specs.Calls.{Delivers, ReadsLines, WritesPart}
 use Rattle.sedengine.specs.Meters.{Sent, SinkView}
-use Rattle.sedengine.specs.declared.meter.Cut.{Cut}
+use Rattle.sedengine.specs.declared.meter.CutShort.{CutShort}
 use Rattle.sedengine.specs.Ends.{IsCause, WithinLimits, Within, named_sink, LosesPartAfter, size_of}
 use Rattle.sedengine.specs.Held.{HoldsAt}
 use Rattle.sedengine.specs.Run.{RunState, SameRun, at_lines, lost, run_setting}
@@ -95,16 +95,16 @@ pub record IsIdle (cs : List Command) (ts : List Substitution) (c : ℕ) : Type 
   pub ends : slice_get cs (place_at cs c) ≡ None
 
 -- one of these commands has this need
-abbrev pub Asks : List Command → List Substitution → ℕ → Need → Type 0
-Asks cs ts c need = (j : ℕ) × (j < c) × (need_at cs ts j ≡ Some need)
+abbrev pub IsNeeded : List Command → List Substitution → ℕ → Need → Type 0
+IsNeeded cs ts c need = (j : ℕ) × (j < c) × (need_at cs ts j ≡ Some need)
 
 -- What was found out of the commands that are reached first, as far as all of them are known.
 pub record Walked (cs : List Command) (ts : List Substitution) (i : Idle) : Type 0 where
   pub place : i.place ≡ place_at cs i.reached
   pub needs : (j : ℕ) → j < i.reached → is_some (need_at cs ts j) ≡ true
   pub judged : i.judged ≡ judged cs ts i.reached
-  pub last : Asks cs ts i.reached NotLast → i.asks_last ≡ true
-  pub expressions : (e : ℕ) → Asks cs ts i.reached (NoMatch e) → Contains i.expressions.items e
+  pub last : IsNeeded cs ts i.reached NotLast → i.asks_last ≡ true
+  pub expressions : (e : ℕ) → IsNeeded cs ts i.reached (NoMatch e) → Contains i.expressions.items e
 
 -- One more command was found to have this need, behind which the script goes on at this place.
 pub record Notes (old new : Idle) (need : Need) (place : ℕ) : Type 0 where
@@ -120,8 +120,8 @@ pub record Notes (old new : Idle) (need : Need) (place : ℕ) : Type 0 where
 pub record Describes (cs : List Command) (ts : List Substitution) (i : Idle) : Type 0 where
   pub idle : IsIdle cs ts i.reached
   pub judged : i.judged ≡ judged cs ts i.reached
-  pub last : Asks cs ts i.reached NotLast → i.asks_last ≡ true
-  pub expressions : (e : ℕ) → Asks cs ts i.reached (NoMatch e) → Contains i.expressions.items e
+  pub last : IsNeeded cs ts i.reached NotLast → i.asks_last ≡ true
+  pub expressions : (e : ℕ) → IsNeeded cs ts i.reached (NoMatch e) → Contains i.expressions.items e
 
 -- an expression that is judged is one of so many
 abbrev pub NeedWithin : ℕ → Option Need → Type 0
@@ -139,35 +139,35 @@ abbrev pub RangesIdle : List Command → ℕ → List Bool → Type 0
 RangesIdle cs c ranges = (j : ℕ) → j < c → slice_index_or ranges (place_at cs j) false ≡ false
 
 -- none of these commands asks for the number of one of so many lines after the one of this number
-abbrev pub IsClear : List Command → List Substitution → ℕ → ℕ → ℕ → Type 0
-IsClear cs ts c number most = (n : ℕ) → Asks cs ts c (OtherNumber n) → (n ≤ number) ⊎ (number + most < n)
+abbrev pub AsksNoNumber : List Command → List Substitution → ℕ → ℕ → ℕ → Type 0
+AsksNoNumber cs ts c number most = (n : ℕ) → IsNeeded cs ts c (OtherNumber n) → (n ≤ number) ⊎ (number + most < n)
 
 -- What was found out of the first j commands that are reached, after which the one of this place is.
 pub record Cleared (cs : List Command) (ts : List Substitution) (ranges : List Bool) (number j place most : ℕ) : Type 0 where
   pub at : place ≡ place_at cs j
   pub idle : RangesIdle cs j ranges
-  pub clear : IsClear cs ts j number most
+  pub clear : AsksNoNumber cs ts j number most
 
 -- the same in a setting
 abbrev pub IsIdleIn : Setting → ℕ → Type 0
 IsIdleIn g c = IsIdle g.commands g.substitutions c
 
 abbrev pub AsksIn : Setting → ℕ → Need → Type 0
-AsksIn g c need = Asks g.commands g.substitutions c need
+AsksIn g c need = IsNeeded g.commands g.substitutions c need
 
 abbrev pub judged_in : Setting → ℕ → Option ℕ
 judged_in g c = judged g.commands g.substitutions c
 
 -- a line of a number has what a need asks for; `last` says whether it is the last one
-abbrev pub Meets : Setting → ℕ → Bool → List ℕ → Need → Type 0
-Meets g number last line (NoMatch e) = g.finds e line ≡ false
-Meets g number last line (OtherNumber n) = nat_eq n number ≡ false
-Meets g number last line NotLast = last ≡ false
-Meets g number last line Nothing = Unit {0}
+abbrev pub MeetsNeed : Setting → ℕ → Bool → List ℕ → Need → Type 0
+MeetsNeed g number last line (NoMatch e) = g.finds e line ≡ false
+MeetsNeed g number last line (OtherNumber n) = nat_eq n number ≡ false
+MeetsNeed g number last line NotLast = last ≡ false
+MeetsNeed g number last line Nothing = Unit {0}
 
 -- a line that each of these commands leaves alone
 abbrev pub LeftAlone : Setting → ℕ → ℕ → Bool → List ℕ → Type 0
-LeftAlone g c number last line = (need : Need) → AsksIn g c need → Meets g number last line need
+LeftAlone g c number last line = (need : Need) → AsksIn g c need → MeetsNeed g number last line need
 
 -- Lines after the one of this number, each of which is left alone; `rest` are those after them.
 abbrev pub AllLeftAlone : Setting → ℕ → ℕ → List (List ℕ) → List (List ℕ) → Type 0
@@ -187,9 +187,9 @@ abbrev pub FindsAsItSearches : Setting → Type 0
 FindsAsItSearches g = (e : ℕ) (w : List ℕ) → g.finds e w ≡ false → g.search e w 0 ≡ None
 
 -- lines, each with its newline
-abbrev pub bytes_of : List (List ℕ) → List ℕ
-bytes_of [] = []
-bytes_of (line ∷ lines) = line ++ newline ∷ bytes_of lines
+abbrev pub bytes_of_lines : List (List ℕ) → List ℕ
+bytes_of_lines [] = []
+bytes_of_lines (line ∷ lines) = line ++ newline ∷ bytes_of_lines lines
 
 -- a line that occurs in these bytes, with its newline
 pub record IsLineOf (line all : List ℕ) : Type 0 where
@@ -199,11 +199,11 @@ pub record IsLineOf (line all : List ℕ) : Type 0 where
 
 -- what is written of lines that are left alone
 abbrev pub passed_out : Bool → List (List ℕ) → List (ℕ × ℕ)
-passed_out quiet lines = if quiet then [] else to_sink 0 (bytes_of lines)
+passed_out quiet lines = if quiet then [] else to_sink 0 (bytes_of_lines lines)
 
 -- the state after k lines, one or more, that are left alone by c commands
-abbrev pub passed : Setting → ℕ → ℕ → List (List ℕ) → State → State
-passed g c k rest s = record s {
+abbrev pub after_passing : Setting → ℕ → ℕ → List (List ℕ) → State → State
+after_passing g c k rest s = record s {
   lines = rest;
   number = s.number + k;
   replaced = false;
@@ -213,7 +213,7 @@ passed g c k rest s = record s {
 
 -- the engine after k such lines
 abbrev pub engine_after : RunState → Setting → ℕ → ℕ → RunState
-engine_after e g c k = record e { state = record (passed g c k [] e.state) { lines = e.state.lines } }
+engine_after e g c k = record e { state = record (after_passing g c k [] e.state) { lines = e.state.lines } }
 
 -- the moves of one cycle in which c commands do nothing: it begins, reaches them and the end of the script, writes the pattern
 -- space and the queue, and empties the pattern space
@@ -294,7 +294,7 @@ pub record PassesLines {R O : Type 0} (remaining : R → Option (List ℕ)) (fai
 pub record IsExtent (bytes : List ℕ) (most : ℕ) (x : Extent) : Type 0 where
   pub within : x.bytes ≤ length bytes
   pub whole : AreWholeLines (take x.bytes bytes)
-  pub count : x.lines ≡ length (lines (take x.bytes bytes))
+  pub count : x.lines ≡ length (split_lines (take x.bytes bytes))
   pub few : x.lines ≤ most
 
 -- no line of the text that ends before a place has a match of this expression
@@ -304,7 +304,7 @@ ClearTo expressions e text end =
     finds_in expressions e line ≡ false
 
 -- The first of these bytes, as many as the block has, are lines that no command touches, and which may be passed over.
-pub record PassesOver (e : RunState) (ahead : List ℕ) (b : IdleLines) : Type 0 where
+pub record PassesLinesOver (e : RunState) (ahead : List ℕ) (b : IdleLines) : Type 0 where
   pub idle : IsIdle e.script.commands e.script.substitutions b.reached
   pub ranges : RangesIdle e.script.commands b.reached e.state.ranges
   pub none : e.state.queue ≡ []
@@ -314,13 +314,13 @@ pub record PassesOver (e : RunState) (ahead : List ℕ) (b : IdleLines) : Type 0
   pub some : 0 < b.lines
   pub within : b.bytes ≤ length ahead
   pub whole : AreWholeLines (take b.bytes ahead)
-  pub count : b.lines ≡ length (lines (take b.bytes ahead))
+  pub count : b.lines ≡ length (split_lines (take b.bytes ahead))
   pub short : b.bytes ≤ e.limits.space
   pub turns : e.state.turns + b.lines * (b.reached + 1) ≤ e.limits.turns
-  pub clear : IsClear e.script.commands e.script.substitutions b.reached e.state.number b.lines
-  pub matches : (x : ℕ) → Asks e.script.commands e.script.substitutions b.reached (NoMatch x) →
-      All (λ line. finds_in e.script.expressions x line ≡ false) (lines (take b.bytes ahead))
-  pub last : Asks e.script.commands e.script.substitutions b.reached NotLast → b.bytes < length ahead
+  pub clear : AsksNoNumber e.script.commands e.script.substitutions b.reached e.state.number b.lines
+  pub matches : (x : ℕ) → IsNeeded e.script.commands e.script.substitutions b.reached (NoMatch x) →
+      All (λ line. finds_in e.script.expressions x line ≡ false) (split_lines (take b.bytes ahead))
+  pub last : IsNeeded e.script.commands e.script.substitutions b.reached NotLast → b.bytes < length ahead
 
 -- the engine after a block was passed over
 abbrev pub counted_block : RunState → IdleLines → RunState
@@ -362,10 +362,10 @@ BreaksOffBy old new e e' done bytes = (x : BreaksOff old new e e' done) × (x.st
 pub record AllowsLines (e : RunState) (c most : ℕ) : Type 0 where
   pub none : e.state.queue ≡ []
   pub ranges : RangesIdle e.script.commands c e.state.ranges
-  pub clear : IsClear e.script.commands e.script.substitutions c e.state.number most
+  pub clear : AsksNoNumber e.script.commands e.script.substitutions c e.state.number most
   pub turns : e.state.turns + most * (c + 1) ≤ e.limits.turns
 
 -- Lines were written as they are, unless default output is suppressed, or the standard output took no more after so many bytes.
-abbrev pub WritesLines : SinkView → SinkView → Bool → List ℕ → Result Unit Cut → Type 0
+abbrev pub WritesLines : SinkView → SinkView → Bool → List ℕ → Result Unit CutShort → Type 0
 WritesLines old new quiet bytes (Ok u) = Sent old new (if quiet then [] else to_sink 0 bytes)
 WritesLines old new quiet bytes (Err cut) = (quiet ≡ false) × WritesPart old new 0 bytes (Err cut)

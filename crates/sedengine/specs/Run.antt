@@ -4,7 +4,7 @@ use Rattle.sedscript.specs.Program.{Program}
 use Rattle.sedspace.specs.Stream.{Stream, left}
 use Rattle.sedengine.specs.State.{Limits, Task, begin, rebegin, State, Setting, setting_of}
 use Rattle.sedengine.specs.Move.{after, written}
-use Rattle.sedengine.specs.Ends.{part, GainedWithin, SourceAtEnd, Within, IsCause, named_sink, BreaksInLine, LosesPartAfter, size_of}
+use Rattle.sedengine.specs.Ends.{bytes_of_sink, GainedWithin, SourceAtEnd, Within, IsCause, named_sink, BreaksInLine, LosesPartAfter, size_of}
 use Rattle.sedengine.specs.Held.{HoldsAt}
 use Rattle.sedengine.specs.Types.{Ended, PatternFull, InputBroken}
 use Rattle.sedengine.specs.declared.ends.Progress.{Progress}
@@ -27,7 +27,7 @@ sent_to e k = get_or e.sent k 0
 -- The sinks gained these bytes in a call that led from the engine e to the engine e', and e' has counted them.
 pub record Sends (e e' : RunState) (old new : ℕ → Option (List ℕ)) (r : Result Unit Ended) (out : List (ℕ × ℕ)) : Type 0 where
   pub gains : GainedWithin e.limits.output (sent_to e) old new r out
-  pub counts : IfSome e.limits.output (λ most. (k : ℕ) → sent_to e' k ≡ sent_to e k + length (part k out))
+  pub counts : IfSome e.limits.output (λ most. (k : ℕ) → sent_to e' k ≡ sent_to e k + length (bytes_of_sink k out))
 
 -- its state with the lines that are left
 abbrev pub at_lines : RunState → List (List ℕ) → State
@@ -109,9 +109,9 @@ end_answered progress.More = None
 end_answered (progress.Ended end) = Some end
 
 -- what a cycle answered, in the form in which single moves answer: Ok where the run goes on
-abbrev pub outcome : Progress → Result Unit Ended
-outcome progress.More = Ok tt
-outcome (progress.Ended end) = Err end
+abbrev pub as_moves_answer : Progress → Result Unit Ended
+as_moves_answer progress.More = Ok tt
+as_moves_answer (progress.Ended end) = Err end
 
 -- what a run leaves as it is
 pub record SameRun (old new : RunState) : Type 0 where

@@ -4,7 +4,7 @@ use Rattle.std.specs.Option.{option_and_then, option_map, option_map_or}
 use Rattle.sedengine.specs.Types.{Command, Substitution}
 use Rattle.sedengine.specs.Substitute.{Occurrence}
 use Rattle.sedre.specs.Tree.{WrittenExpression, expression_tree}
-use Rattle.sedmatch.specs.Matching.{leftmost_longest, report}
+use Rattle.sedmatch.specs.Matching.{leftmost_longest, reported_groups}
 use Rattle.sedscript.specs.Program.{Program}
 
 pub record Limits : Type 0 where
@@ -67,7 +67,7 @@ finds_in expressions k w = option_map_or (λ e. is_some (leftmost_longest (expre
 
 -- the match of an expression in a text, by its span, with its groups (XBD 9.1)
 abbrev pub occurrence_at_span : WrittenExpression → List ℕ → ℕ × ℕ → Occurrence
-occurrence_at_span e w span = record { start = span.0; end = span.1; groups = report (expression_tree e) w span.0 span.1 }
+occurrence_at_span e w span = record { start = span.0; end = span.1; groups = reported_groups (expression_tree e) w span.0 span.1 }
 
 -- the leftmost-longest match of an expression that begins at a place or later
 abbrev pub search_for : WrittenExpression → List ℕ → ℕ → Option Occurrence

@@ -16,7 +16,7 @@ use Rattle.sedengine.specs.Calls.{Delivers, DeliversAlone, NamesNone, ReadsAlone
 use Rattle.sedengine.specs.Move.{next_move, after, none_left, written}
 use Rattle.sedengine.specs.Ends.{WithinLimits, Within, IsCause, named_sink, reads, LosesPartAfter, size_of, Whole, BrokenOff}
 use Rattle.sedengine.specs.Held.{HoldsAt, SameLengths}
-use Rattle.sedengine.specs.Run.{Cycles, Ending, SameRun, RunState, InOneCycle, at_lines, input_of, lost, outcome, run_setting}
+use Rattle.sedengine.specs.Run.{Cycles, Ending, SameRun, RunState, InOneCycle, at_lines, input_of, lost, as_moves_answer, run_setting}
 
 -- a state that has no move stays, and writes nothing
 abbrev pub next_or_stay : State → Option Move → State
@@ -152,9 +152,9 @@ StepsFrom remaining old new ls l g s e' sinks sinks' (Ok u) =
 StepsFrom remaining old new ls l g s e' sinks sinks' (Err end) = Halted remaining old new l g s e' sinks sinks' end
 
 -- the same from the state of an engine
-abbrev pub Steps : {R : Type 0} → (R → Option (List ℕ)) → Stream R → Stream R → List (List ℕ) → Limits → Setting →
+abbrev pub StepsOf : {R : Type 0} → (R → Option (List ℕ)) → Stream R → Stream R → List (List ℕ) → Limits → Setting →
     RunState → RunState → SinkView → SinkView → Result Unit Ended → Type 0
-Steps remaining old new ls l g e e' sinks sinks' r = StepsFrom remaining old new ls l g (at_lines e ls) e' sinks sinks' r
+StepsOf remaining old new ls l g e e' sinks sinks' r = StepsFrom remaining old new ls l g (at_lines e ls) e' sinks sinks' r
 
 -- What a call answers that makes the move o, perhaps moves after it, and may take lines, from any state that has that move and
 -- reaches the command that acts in the state `there`; `asks` says whether that command asks if a line is left.
@@ -231,7 +231,7 @@ pub record Advances {R O T : Type 0} (remaining : R → Option (List ℕ)) (fail
     (lines lines' : Stream R) (outputs outputs' : O) (texts texts' : T) (result : Result Unit Ended) : Type 0 where
   pub steps : lines.fault ≡ None → ForSome (lines_left remaining lines) (λ ls.
       (files : ℕ → List ℕ) → TellsFiles (text texts) files →
-      Steps remaining lines lines' ls old.limits (run_setting old files) old new (tally outputs) (tally outputs') result)
+      StepsOf remaining lines lines' ls old.limits (run_setting old files) old new (tally outputs) (tally outputs') result)
   pub falls : OnOk result (weight new < weight old)
   pub leaves : LeavesLines remaining failures reference tally count text old new lines lines' outputs outputs' texts texts' result
 
@@ -247,7 +247,7 @@ pub record AdvancesHere {O T : Type 0} (tally : O → SinkView) (count : O → �
 pub record AdvancesReading {R : Type 0} (remaining : R → Option (List ℕ)) (failures : R → ℕ) (reference : R → List GName)
     (old new : RunState) (lines lines' : Stream R) (result : Result Unit Ended) : Type 0 where
   pub steps : lines.fault ≡ None → ForSome (lines_left remaining lines) (λ ls. (files : ℕ → List ℕ) (sinks : SinkView) →
-      Steps remaining lines lines' ls old.limits (run_setting old files) old new sinks sinks result)
+      StepsOf remaining lines lines' ls old.limits (run_setting old files) old new sinks sinks result)
   pub reads : ReadsAlone remaining failures reference lines lines' result
   pub falls : OnOk result (weight new < weight old)
   pub same : SameRun old new
@@ -278,4 +278,4 @@ pub record RunsCycle {R O T : Type 0} (remaining : R → Option (List ℕ)) (fai
       (files : ℕ → List ℕ) → TellsFiles (text texts) files → (out : List (ℕ × ℕ)) × Sent (tally outputs) (tally outputs') out
       × Cycles old.limits (run_setting old files) (at_lines old ls) out
       (input_of remaining lines) (input_of remaining lines') new (lines_left remaining lines') progress)
-  pub leaves : LeavesLines remaining failures reference tally count text old new lines lines' outputs outputs' texts texts' (outcome progress)
+  pub leaves : LeavesLines remaining failures reference tally count text old new lines lines' outputs outputs' texts texts' (as_moves_answer progress)

@@ -18,8 +18,8 @@ occurrences_from search n (suc most) last =
     option_map_or (λ m. m ∷ occurrences_from search n most (Some m.end)) (next_match (λ m. (m.start, m.end)) search n last) []
 
 -- all occurrences in a text of n bytes, from left to right. Each but the first ends after the one before
-abbrev pub occurrences : (ℕ → Option Occurrence) → ℕ → List Occurrence
-occurrences search n = occurrences_from search n (n + 1) None
+abbrev pub each_occurrence : (ℕ → Option Occurrence) → ℕ → List Occurrence
+each_occurrence search n = occurrences_from search n (n + 1) None
 
 -- those that are replaced: the one of a number, counted from 1 ("the nth occurrence only"), and with the flag `g`
 -- ("all non-overlapping instances") it and all later ones (the two together: this project's own)

@@ -6,7 +6,7 @@ use Rattle.sedengine.specs.Types.{Substitution, Ended, PatternFull, NoPrevious}
 use Rattle.sedspace.specs.declared.errors.Full.{Full}
 use Rattle.sedspace.specs.Spaces.{Contents}
 use Rattle.sedengine.specs.State.{Limits, State, Move, Setting}
-use Rattle.sedengine.specs.Substitute.{Occurrence, occurrences, to_replace, replaced_from}
+use Rattle.sedengine.specs.Substitute.{Occurrence, each_occurrence, to_replace, replaced_from}
 use Rattle.sedengine.specs.Move.{line_to, quietly, writing}
 use Rattle.sedengine.specs.Steps.{Leads}
 use Rattle.sedengine.specs.Run.{RunState}
@@ -17,7 +17,7 @@ written_by t w = (if t.print then line_to 0 w else []) ++ option_map_or (λ k. l
 
 -- the occurrences in a text that a substitution with the expression e replaces
 abbrev pub to_replace_in : Setting → Substitution → ℕ → List ℕ → List Occurrence
-to_replace_in g t e w = to_replace t.number t.global (occurrences (g.search e w) (length w))
+to_replace_in g t e w = to_replace t.number t.global (each_occurrence (g.search e w) (length w))
 
 -- A call replaces these occurrences in a space, and says whether there are any. Where there are none the space stays as
 -- it was; Full where it has no room for what would be made.

@@ -4,7 +4,7 @@ use Rattle.std.specs.Prelude.{◌≡◌, ℕ, ◌+◌, ◌-◌, ◌*◌, ◌<◌
 use Rattle.std.specs.Prelude.{Option, Some, None, option_map, IfSome, Result, Ok, Err, if◌then◌else◌}
 use Rattle.sedre.specs.Tree.{WrittenExpression, expression_tree}
 use Rattle.sedmatch.specs.Groups.{Groups, span_of}
-use Rattle.sedmatch.specs.Matching.{next_match, report}
+use Rattle.sedmatch.specs.Matching.{next_match, reported_groups}
 use Rattle.sedmatch.specs.Answer.{SpanIn}
 use Rattle.sedmatch.specs.Following.{EndsWithin, LiesOn}
 use Rattle.sedmatch.specs.Occurrences.{KeepsRoom, Serves, owed}
@@ -13,7 +13,7 @@ use Rattle.sedmatch.specs.declared.occurrences.Occurrences.{Occurrences}
 use Rattle.sedengine.specs.Types.{Piece, group}
 use Rattle.sedspace.specs.Spaces.{Contents}
 use Rattle.sedspace.specs.declared.errors.Full.{Full}
-use Rattle.sedengine.specs.Substitute.{Occurrence, occurrences_from, occurrences, replaced_from}
+use Rattle.sedengine.specs.Substitute.{Occurrence, occurrences_from, each_occurrence, replaced_from}
 use Rattle.sedengine.specs.State.{occurrence_at_span, search_for}
 
 -- The next occurrence in a text of n bytes, after one that ended at a place, where there was one; `search` gives the match
@@ -34,10 +34,10 @@ Appends old new bytes (Ok u) = new ≡ record old { bytes = old.bytes ++ bytes }
 Appends old new bytes (Err f) = (old.limit < length old.bytes + length bytes) × (new.limit ≡ old.limit)
 
 -- whether one of the pieces is a group of the match
-abbrev pub has_group : List Piece → Bool
-has_group [] = false
-has_group (group k ∷ ps) = true
-has_group (other ∷ ps) = has_group ps
+abbrev pub names_group : List Piece → Bool
+names_group [] = false
+names_group (group k ∷ ps) = true
+names_group (other ∷ ps) = names_group ps
 
 -- every group's span lies in a text of n bytes
 abbrev pub GroupsIn : ℕ → Groups → Type 0
@@ -51,7 +51,7 @@ with_groups span groups = record { start = span.0; end = span.1; groups = groups
 abbrev pub GroupsOf : WrittenExpression → List ℕ → Bool → Option (ℕ × ℕ) → Groups → Type 0
 GroupsOf e w wanted None groups = Unit {0}
 GroupsOf e w wanted (Some span) groups =
-    wanted ≡ true → (groups ≡ report (expression_tree e) w span.0 span.1) × GroupsIn (length w) groups
+    wanted ≡ true → (groups ≡ reported_groups (expression_tree e) w span.0 span.1) × GroupsIn (length w) groups
 
 -- what was found is the next occurrence in the text w after the one that ended at a place, or none where there is none; its
 -- span lies after that place
@@ -61,7 +61,7 @@ IsNextOccurrence e w last found =
 
 -- the occurrences after the one that ended at a place, or all
 abbrev pub occurrences_after : WrittenExpression → List ℕ → Option ℕ → List Occurrence
-occurrences_after e w None = occurrences (search_for e w) (length w)
+occurrences_after e w None = each_occurrence (search_for e w) (length w)
 occurrences_after e w (Some q) = occurrences_from (search_for e w) (length w) (length w - q) (Some q)
 
 -- the occurrences after a number of them, where the last of these ended if there are so many

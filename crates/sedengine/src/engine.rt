@@ -7,7 +7,7 @@ ghost use Rattle.sedengine.specs.Move.{start};
 ghost use Rattle.sedengine.specs.DevicesAfter.{SameSinks, SinksAtEnd};
 ghost use Rattle.sedengine.specs.Ends.{SourceAtEnd};
 ghost use Rattle.sedengine.specs.Held.{total_of, bound_of};
-ghost use Rattle.sedengine.specs.Run.{outcome, Cycles, Ending, SameRun, Sends, at_lines, end_answered, run_setting, input_of, FailedSource};
+ghost use Rattle.sedengine.specs.Run.{as_moves_answer, Cycles, Ending, SameRun, Sends, at_lines, end_answered, run_setting, input_of, FailedSource};
 ghost use Rattle.sedengine.specs.State.{TellsFiles};
 
 use crate::ends::{Ended, Held, Progress};
@@ -109,16 +109,16 @@ impl Engine {
             ForSome (lines_left R.remaining lines.old) (λ ls.
             (files : ℕ → List ℕ) → TellsFiles (T.text texts.old) files →
             (out : List (ℕ × ℕ))
-            × Sends self.old self.new (O.contents outputs.old) (O.contents outputs.new) (outcome result) out
+            × Sends self.old self.new (O.contents outputs.old) (O.contents outputs.new) (as_moves_answer result) out
             × Cycles self.old.limits (run_setting self.old files) (at_lines self.old ls) out
             (input_of R.remaining lines.old) (input_of R.remaining lines.new)
             self.new (lines_left R.remaining lines.new) result) }
         // A device that the end names has failed in this call, and no other source or sink has; where a next cycle is due
         // none has. A sink is full only where the limits have one on the output.
         ensures input { IsNone self.old.ended → lines.old.fault ≡ None →
-            FailedSource (R.failures lines.old.source) (R.failures lines.new.source) (outcome result) }
+            FailedSource (R.failures lines.old.source) (R.failures lines.new.source) (as_moves_answer result) }
         ensures output { IsNone self.old.ended →
-            SinksAtEnd self.old.limits.output (O.failures outputs.old) (O.failures outputs.new) (outcome result) }
+            SinksAtEnd self.old.limits.output (O.failures outputs.old) (O.failures outputs.new) (as_moves_answer result) }
         ensures sound { result ≡ Progress.More → lines.old.fault ≡ None → lines.new.fault ≡ None }
         ensures ended { self.new.ended ≡ end_answered result }
         ensures again { IfSome self.old.ended (λ end. (result ≡ Progress.Ended end) × (self.new ≡ self.old)

@@ -2,7 +2,7 @@
 ghost use Rattle.std.specs.Prelude.{◌≡◌, ◌<◌, ◌≤◌, ◌+◌, ◌^◌, ◌⊎◌, IfOk, IfSome, OnOk, Some, ℕ, false, is_some, length, true};
 ghost use Rattle.sedscript.specs.declared.types.Address.TheVariants.{Line};
 ghost use Rattle.sedscript.specs.Ranges.{AddressWithin, CommandWithin};
-ghost use Rattle.sedengine.specs.Passing.{IsClear, IsIdleOf, NeedWithin, Notes, RangesIdle, need_at, need_of, need_of_address};
+ghost use Rattle.sedengine.specs.Passing.{AsksNoNumber, IsIdleOf, NeedWithin, Notes, RangesIdle, need_at, need_of, need_of_address};
 
 use crate::machine::commands::{behind, need_of_action};
 use sedscript::{Address, Command, Script};
@@ -141,7 +141,7 @@ pub(crate) fn clear_lines(
     requires ranges { length ranges.now ≡ length script.now.commands }
     requires needs { (j : ℕ) → j < reached → is_some (need_at script.now.commands script.now.substitutions j) ≡ true }
     ensures idle { IfSome result (λ most. RangesIdle script.now.commands reached ranges.now) }
-    ensures clear { IfSome result (λ most. IsClear script.now.commands script.now.substitutions reached number most) }
+    ensures clear { IfSome result (λ most. AsksNoNumber script.now.commands script.now.substitutions reached number most) }
 {
     let mut place = 0;
     let mut most = u64::MAX - number;

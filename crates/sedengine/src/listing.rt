@@ -1,7 +1,7 @@
 //! The command `l` (XCU sed, "Editing Commands in sed"): the listing of a text.
 ghost use Rattle.std.specs.Prelude.{◌≡◌, ◌+◌, ◌*◌, ◌<◌, ◌≤◌, [], ◌++◌, length, take};
 ghost use Rattle.sedengine.specs.Listing.{listed_byte, listed};
-ghost use Rattle.sedengine.specs.ListingParts.{ArePlain, Lists, plain, with_item, with_run};
+ghost use Rattle.sedengine.specs.ListingParts.{AreListedPlain, Lists, plain, with_item, with_run};
 ghost use Rattle.sedengine.specs.Move.{to_sink};
 ghost use Rattle.sedengine.specs.Calls.{Puts, Delivers};
 
@@ -25,7 +25,7 @@ pub(crate) fn write_listing<O: MeteredSinks>(outputs: &mut O, bytes: &[u8]) -> R
     ensures puts { Puts (O.tally outputs.old) (O.tally outputs.new) (to_sink 0 (listed bytes.now)) result }
     ensures devices { Delivers O.tally O.count outputs.old outputs.new result }
 {
-    let mut gathered = Gathered::new();
+    let mut gathered = ListingBuffer::new();
     let mut rest = bytes;
     'parts: while rest.len() > PART {
         let (part, after) = rest.split_at(PART);
@@ -41,13 +41,13 @@ pub(crate) fn write_listing<O: MeteredSinks>(outputs: &mut O, bytes: &[u8]) -> R
 
 /// The bytes of a listing that are to be written, and how many bytes the current piece has.
 #[derive(Drop)]
-struct Gathered {
+struct ListingBuffer {
     held: [u8; ROOM],
     end: usize,
     column: usize,
 }
 
-impl Model for Gathered {
+impl Model for ListingBuffer {
     ghost use Rattle.std.specs.Prelude.{◌≤◌, take};
     ghost use Rattle.sedengine.specs.Listing.{most_listed};
     ghost use Rattle.sedengine.specs.ListingParts.{Listing};
@@ -59,12 +59,12 @@ impl Model for Gathered {
     ghost invariant = { λ s. (s.end ≤ 1024) × (s.column ≤ most_listed) };
 }
 
-impl Gathered {
+impl ListingBuffer {
     /// Nothing yet.
-    fn new() -> Gathered
+    fn new() -> ListingBuffer
         ensures { result ≡ record { bytes = []; column = 0 } }
     {
-        Gathered {
+        ListingBuffer {
             held: [0; ROOM],
             end: 0,
             column: 0,
@@ -187,7 +187,7 @@ fn copy_in(held: &mut [u8], end: usize, bytes: &[u8])
 /// How many bytes are listed as they are, before one that isn't.
 fn plain_run(bytes: &[u8]) -> usize
     ensures within { result ≤ length bytes.now }
-    ensures plain { ArePlain (take result bytes.now) }
+    ensures plain { AreListedPlain (take result bytes.now) }
 {
     'bytes: for i in 0..bytes.len() {
         if !is_plain(bytes[i]) {

@@ -2,7 +2,7 @@
 ghost use Rattle.std.specs.Prelude.{◌≡◌, ◌≤◌, [], None, IfOk, length};
 ghost use Rattle.sedengine.specs.Move.{start};
 ghost use Rattle.sedengine.specs.Held.{total_of, bound_of};
-ghost use Rattle.sedengine.specs.Parts.{AreParts};
+ghost use Rattle.sedengine.specs.Parts.{AreEngineParts};
 
 mod addresses;
 pub(crate) mod commands;
@@ -64,11 +64,11 @@ pub(crate) struct Machine {
 
 impl Model for Machine {
     ghost use Rattle.sedengine.specs.Run.{RunState};
-    ghost use Rattle.sedengine.specs.Inside.{run_of, IsConsistent};
+    ghost use Rattle.sedengine.specs.Inside.{run_state_of, IsConsistent};
 
     ghost Value = { RunState };
 
-    ghost view = { run_of };
+    ghost view = { run_state_of };
 
     ghost invariant = { IsConsistent };
 }
@@ -98,7 +98,7 @@ impl Machine {
     /// be refused.
     fn of(script: Script, limits: Limits, parts: Parts) -> Machine
         requires nodes { script.max_nodes ≤ limits.nodes }
-        requires parts { AreParts script limits parts }
+        requires parts { AreEngineParts script limits parts }
         ensures { result ≡ record {
           script = script;
           limits = limits;

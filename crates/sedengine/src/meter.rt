@@ -4,8 +4,8 @@
 //! gained since the engine was opened; where no limit is set nothing is counted.
 ghost use Rattle.std.specs.Prelude.{◌≡◌, ◌≢◌, ◌<◌, ◌≤◌, ℕ, IfOk, length, min, replicate};
 ghost use Rattle.sedengine.specs.Move.{to_sink};
-ghost use Rattle.sedengine.specs.Calls.{Delivers, Puts, WritesPart, end_of};
-ghost use Rattle.sedengine.specs.Meters.{Counts, Fills, FitsIn, InLimit, Meter, SinkView, counted};
+ghost use Rattle.sedengine.specs.Calls.{Delivers, Puts, WritesPart, without_count};
+ghost use Rattle.sedengine.specs.Meters.{Counts, Fills, FitsIn, InLimit, Meter, SinkView, counted_bytes};
 
 use crate::ends::Ended;
 use sedspace::{Outputs, write_all};
@@ -65,9 +65,9 @@ impl Meter {
     fn add(&mut self, sink: usize, bytes: usize)
         requires sink { sink < length self.old.sent }
         requires fits { FitsIn self.old.most self.old.sent sink bytes }
-        ensures counts { Counts (counted self.old.most self.old.sent sink) (counted self.new.most self.new.sent sink) bytes }
+        ensures counts { Counts (counted_bytes self.old.most self.old.sent sink) (counted_bytes self.new.most self.new.sent sink) bytes }
         ensures others { (k : ℕ) → k ≢ sink →
-            counted self.new.most self.new.sent k ≡ counted self.old.most self.old.sent k }
+            counted_bytes self.new.most self.new.sent k ≡ counted_bytes self.old.most self.old.sent k }
         ensures same_limit { self.new.most ≡ self.old.most }
         ensures same_length { length self.new.sent ≡ length self.old.sent }
     {
@@ -79,7 +79,7 @@ impl Meter {
 
 /// Where a write was refused.
 #[derive(Clone, Copy)]
-pub(crate) struct Cut {
+pub(crate) struct CutShort {
     /// How many bytes the sink had gained by then.
     pub(crate) done: usize,
     /// The end of the run.
@@ -102,10 +102,10 @@ pub(crate) trait MeteredSinks {
         ensures devices { Delivers tally count self.old self.new result };
 
     /// The same, which reports at an `Err` how many bytes the sink has gained.
-    fn write_part(&mut self, sink: usize, bytes: &[u8]) -> Result<(), Cut>
+    fn write_part(&mut self, sink: usize, bytes: &[u8]) -> Result<(), CutShort>
         requires { sink < count self.old }
         ensures writes { WritesPart (tally self.old) (tally self.new) sink bytes.now result }
-        ensures devices { Delivers tally count self.old self.new (end_of result) };
+        ensures devices { Delivers tally count self.old self.new (without_count result) };
 }
 
 /// Outputs with a meter.
@@ -121,7 +121,7 @@ impl<'a, O: Outputs> MeteredSinks for Metered<'a, O> {
     ghost tally = { λ m. record {
       contents = O.contents m.outputs.now;
       failures = O.failures m.outputs.now;
-      sent = counted m.meter.now.most m.meter.now.sent;
+      sent = counted_bytes m.meter.now.most m.meter.now.sent;
       frame = record {
         sinks = O.count m.outputs.now;
         counts = length m.meter.now.sent;
@@ -139,17 +139,17 @@ impl<'a, O: Outputs> MeteredSinks for Metered<'a, O> {
         }
     }
 
-    fn write_part(&mut self, sink: usize, bytes: &[u8]) -> Result<(), Cut> {
+    fn write_part(&mut self, sink: usize, bytes: &[u8]) -> Result<(), CutShort> {
         let room = self.meter.room(sink, bytes.len());
         if let Err(done) = write_all(&mut *self.outputs, sink, &bytes[..room]) {
             self.meter.add(sink, done);
             let end = Ended::OutputBroken(sink);
-            return Err(Cut { done, end });
+            return Err(CutShort { done, end });
         }
         self.meter.add(sink, room);
         if room < bytes.len() {
             let end = Ended::OutputFull(sink);
-            return Err(Cut { done: room, end });
+            return Err(CutShort { done: room, end });
         }
         Ok(())
     }

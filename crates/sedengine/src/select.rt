@@ -3,7 +3,7 @@
 //! At a line one address decides at most: the first of an idle range, the second of an active one. Only that one is
 //! judged, and the choice follows from whether it matches.
 ghost use Rattle.std.specs.Prelude.{◌≡◌, ◌<◌, ◌≤◌, length};
-ghost use Rattle.sedengine.specs.Choose.{choice_by_match, chosen_active, chosen_idle, deciding, turned, yes_by_number};
+ghost use Rattle.sedengine.specs.Choose.{choice_by_match, chosen_active, chosen_idle, deciding, turned_by_bang, yes_by_number};
 ghost use Rattle.sedengine.specs.Fitting.{AllFit};
 ghost use Rattle.sedengine.specs.State.{finds_in};
 
@@ -49,7 +49,7 @@ pub(crate) fn yes_by_number(command: &Command, number: u64) -> Option<bool>
 
 /// The choice, by whether the deciding address matches. `!` turns the yes alone.
 pub(crate) fn choose(command: &Command, active: bool, number: u64, matched: bool) -> Chosen
-    ensures { result ≡ turned command.now.negate
+    ensures { result ≡ turned_by_bang command.now.negate
         (choice_by_match command.now.first command.now.second active number matched) }
 {
     let choice = choose_straight(command.first, command.second, active, number, matched);

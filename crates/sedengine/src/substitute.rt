@@ -6,13 +6,13 @@ ghost use Rattle.sedre.specs.Steps.{Takes};
 ghost use Rattle.sedmatch.specs.Following.{EndsWithin, LiesOn};
 ghost use Rattle.sedmatch.specs.Occurrences.{KeepsRoom, Serves, ServesOn, owed, owed_after};
 ghost use Rattle.sedmatch.specs.SearchRoom.{FitInto};
-ghost use Rattle.sedmatch.specs.Matching.{report};
+ghost use Rattle.sedmatch.specs.Matching.{reported_groups};
 ghost use Rattle.sedmatch.specs.Spans.{Matches};
-ghost use Rattle.sedscript.specs.Pieces.{GroupsWithin, pieces_in};
-ghost use Rattle.sedengine.specs.Substitute.{to_replace, occurrences, put_for, replaced_from};
+ghost use Rattle.sedscript.specs.Pieces.{PieceGroupsWithin, pieces_in};
+ghost use Rattle.sedengine.specs.Substitute.{to_replace, each_occurrence, put_for, replaced_from};
 ghost use Rattle.sedengine.specs.State.{search_for};
 ghost use Rattle.sedengine.specs.SubstituteParts.{Appends, GroupsIn, GroupsOf, IsNextOccurrence, ReplacesThese};
-ghost use Rattle.sedengine.specs.SubstituteParts.{SeeksAsBefore, ServesAfter, Skips, has_group, later_cost, owed_skipped};
+ghost use Rattle.sedengine.specs.SubstituteParts.{SeeksAsBefore, ServesAfter, Skips, names_group, later_cost, owed_skipped};
 ghost use Rattle.sedengine.specs.SubstituteParts.{owed_groups, owed_groups_after, pending, told_cost, with_groups};
 
 use sedmatch::{Occurrences, Scratch, TableMatcher, Text};
@@ -21,7 +21,7 @@ use sedscript::{ReplacementPart, Substitution};
 use sedspace::{Full, Space};
 
 /// The span of each group of an occurrence.
-type Groups = [Option<(usize, usize)>; 10];
+type GroupSpans = [Option<(usize, usize)>; 10];
 
 /// What a substitution replaces with, and the text in which it does.
 #[derive(Clone, Copy)]
@@ -37,7 +37,7 @@ struct Replacing<'a> {
 #[derive(Drop)]
 pub(crate) struct Findings {
     /// The groups of the last occurrence of which they were told, perhaps in an earlier text.
-    groups: Groups,
+    groups: GroupSpans,
     /// The steps of the searches.
     steps: Steps,
     /// The steps of telling groups.
@@ -60,7 +60,7 @@ impl Findings {
 /// Writes into `build` the text with the occurrences that the substitution chooses replaced, and answers whether there are
 /// any.
 ///
-/// Its searches together take steps in proportion to the text. Groups are told within each occurrence that is replaced; their
+/// Its searches together take steps in proportion to the text. GroupSpans are told within each occurrence that is replaced; their
 /// steps, counted by themselves, are in proportion to the text together too.
 pub(crate) fn build_text(
     substitution: &Substitution,
@@ -77,7 +77,7 @@ pub(crate) fn build_text(
     requires serves { Serves matcher.old text.now None seeking.old }
     ensures replaces { ReplacesThese text.now substitution.now.replacement
         (to_replace substitution.now.number substitution.now.global
-        (occurrences (search_for matcher.old text.now) (length text.now)))
+        (each_occurrence (search_for matcher.old text.now) (length text.now)))
         build.old.limit build.new.bytes result }
     ensures limit { build.new.limit ≡ build.old.limit }
     ensures same { SeeksAsBefore matcher.old matcher.new scratch.old scratch.new }
@@ -86,7 +86,7 @@ pub(crate) fn build_text(
     ensures group_cost { let m = length matcher.old.nodes in let n = length text.now in
         Takes findings.old.group_steps findings.new.group_steps (51 * m * m * (n + 1) * (n + 1)
         * length (to_replace substitution.now.number substitution.now.global
-        (occurrences (search_for matcher.old text.now) n))) }
+        (each_occurrence (search_for matcher.old text.now) n))) }
     ensures linear_group_cost { let m = length matcher.old.nodes in let n = length text.now in
         Takes findings.old.group_steps findings.new.group_steps (172 * m * m * (n + 1)) }
 {
@@ -144,7 +144,7 @@ fn end_of_skipped(
 
 /// Whether a replacement has a group of the match.
 fn needs_groups(parts: &[ReplacementPart]) -> bool
-    ensures { result ≡ has_group (pieces_in parts.now) }
+    ensures { result ≡ names_group (pieces_in parts.now) }
 {
     for part in parts {
         if let ReplacementPart::Group(_) = part {
@@ -203,7 +203,7 @@ fn tell_groups(
     requires lies { (span.0 ≤ span.1) × (span.1 ≤ length text.now) }
     requires spans { Matches (expression_tree matcher.old) text.now span.0 span.1 }
     ensures same { matcher.new ≡ matcher.old }
-    ensures groups { findings.new.groups ≡ report (expression_tree matcher.old) text.now span.0 span.1 }
+    ensures groups { findings.new.groups ≡ reported_groups (expression_tree matcher.old) text.now span.0 span.1 }
     ensures groups_in { GroupsIn (length text.now) findings.new.groups }
     ensures searches { findings.new.steps ≡ findings.old.steps }
     ensures scratch { scratch.new ≡ scratch.old }
@@ -228,9 +228,9 @@ fn append_replaced(
 ) -> Result<(), Full>
     requires fits { FitInto (length replacing.text.now) (length matcher.old.nodes) scratch.old }
     requires lies { LiesOn (length replacing.text.now) None first }
-    requires groups { GroupsOf matcher.old replacing.text.now (has_group replacing.substitution.now.replacement) (Some first) findings.old.groups }
+    requires groups { GroupsOf matcher.old replacing.text.now (names_group replacing.substitution.now.replacement) (Some first) findings.old.groups }
     requires serves { Serves matcher.old replacing.text.now (Some first.1) seeking.old }
-    requires wanted { replacing.wanted ≡ has_group replacing.substitution.now.replacement }
+    requires wanted { replacing.wanted ≡ names_group replacing.substitution.now.replacement }
     ensures appends { Appends build.old build.new
         (replaced_from replacing.entry.text.now replacing.entry.substitution.now.replacement 0
         (pending matcher.old replacing.entry.text.now replacing.entry.substitution.now.global (Some first))) result }
@@ -270,13 +270,13 @@ fn append_replaced(
 fn put(
     parts: &[ReplacementPart],
     span: (usize, usize),
-    groups: &Groups,
+    groups: &GroupSpans,
     text: &[u8],
     build: &mut Space,
 ) -> Result<(), Full>
-    requires within { GroupsWithin 9 (pieces_in parts.now) }
+    requires within { PieceGroupsWithin 9 (pieces_in parts.now) }
     requires lies { LiesOn (length text.now) None span }
-    requires groups_in { has_group (pieces_in parts.now) ≡ true → GroupsIn (length text.now) groups.now }
+    requires groups_in { names_group (pieces_in parts.now) ≡ true → GroupsIn (length text.now) groups.now }
     ensures { Appends build.old build.new
         (put_for text.now (with_groups span groups.now) (pieces_in parts.now)) result }
 {
@@ -290,13 +290,13 @@ fn put(
 fn put_part(
     part: &ReplacementPart,
     span: (usize, usize),
-    groups: &Groups,
+    groups: &GroupSpans,
     text: &[u8],
     build: &mut Space,
 ) -> Result<(), Full>
-    requires within { GroupsWithin 9 (pieces_in (part.now ∷ [])) }
+    requires within { PieceGroupsWithin 9 (pieces_in (part.now ∷ [])) }
     requires lies { LiesOn (length text.now) None span }
-    requires groups_in { has_group (pieces_in (part.now ∷ [])) ≡ true → GroupsIn (length text.now) groups.now }
+    requires groups_in { names_group (pieces_in (part.now ∷ [])) ≡ true → GroupsIn (length text.now) groups.now }
     ensures { Appends build.old build.new
         (put_for text.now (with_groups span groups.now) (pieces_in (part.now ∷ []))) result }
 {

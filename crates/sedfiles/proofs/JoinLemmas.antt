@@ -8,8 +8,8 @@ use Rattle.std.specs.String.{string_bytes}
 use Rattle.std.specs.Option.{option_map, is_none}
 use Rattle.std.specs.Fmt.{option_append}
 use Rattle.std.specs.Io.KnownBytes.{Consumes, IsAtEnd, Keeps, ReadConsumes}
-use Rattle.sedfiles.specs.Files.{FilesAhead, KeepsFiles, StillGives, due_after, joined, with_newline}
-use Rattle.sedfiles.specs.Joining.{Joining, left, left_of_current}
+use Rattle.sedfiles.specs.Files.{FilesAhead, KeepsFiles, StillGives, due_after, concatenated, with_newline}
+use Rattle.sedfiles.specs.Joining.{Joining, left_joined, left_of_current}
 use Rattle.sedfiles.specs.Opening.{Opens, NotesMissed, OnlyLastGives, OpensFirstFiles, OpensNext}
 
 due_after-append : (due : Bool) (a b : List ℕ) → due_after due (a ++ b) ≡ due_after (due_after due a) b
@@ -79,14 +79,14 @@ next_opened current ahead old before new all missed next name answer is names-ar
 
 -- what these files give, joined
 abbrev pub all_joined : Option (List (Option (List ℕ))) → Option (List ℕ)
-all_joined files = option_map (λ fs. joined (map (λ file. unwrap_or file []) fs)) files
+all_joined files = option_map (λ fs. concatenated (map (λ file. unwrap_or file []) fs)) files
 
 left_read : (a b : Option (List ℕ)) (x y : Option (List (Option (List ℕ)))) (bytes : List ℕ) → Consumes a b bytes → KeepsFiles x y →
     Consumes (option_append a (all_joined x)) (option_append b (all_joined y)) bytes
 left_read None b x y bytes p q = tt
 left_read (Some u) b None y bytes p q = tt
 left_read (Some u) None (Some x) y bytes p q = absurd p
-left_read (Some u) (Some v) (Some x) y bytes p q = rw q (ap (λ z. z ++ joined (map (λ file. unwrap_or file []) x)) p ∙ append_assoc bytes v (joined (map (λ file. unwrap_or file []) x)))
+left_read (Some u) (Some v) (Some x) y bytes p q = rw q (ap (λ z. z ++ concatenated (map (λ file. unwrap_or file []) x)) p ∙ append_assoc bytes v (concatenated (map (λ file. unwrap_or file []) x)))
 
 left_opened : (x : Option (List (Option (List ℕ)))) (answer : Bool) (c : Option (List ℕ)) (y : Option (List (Option (List ℕ)))) → Opens x answer c y →
     Consumes (option_append (Some []) (all_joined x)) (option_append (option_map (with_newline false) c) (all_joined y)) []
@@ -110,7 +110,7 @@ fails_unread a b (Err e) buf failed k = k
 
 -- what is left of them is what their inputs have still to give
 pub left-StillGives : {I : Type 0} (current : I → Option (List ℕ)) (ahead : I → FilesAhead) (j : Joining I) (inputs : I) (more : Option (List ℕ)) →
-    j.inputs ≡ inputs → more ≡ left current ahead j → StillGives current ahead inputs more
+    j.inputs ≡ inputs → more ≡ left_joined current ahead j → StillGives current ahead inputs more
 left-StillGives current ahead j inputs more same is = (j.reading, j.due, j.names, rw (← same) is)
 
 -- ---- what was opened
@@ -204,7 +204,7 @@ at_end (Some x) (Some y) p e = cc
 module _ {I : Type 0} (current : I → Option (List ℕ)) (ahead : I → FilesAhead) where
   -- files were opened from old to new, and gave no byte
   pub record Passed (old new : Joining I) : Type 0 where
-    pub none : Consumes (left current ahead old) (left current ahead new) []
+    pub none : Consumes (left_joined current ahead old) (left_joined current ahead new) []
     pub opened : OpensFirstFiles ahead old new
     pub notes : Notes (ahead old.inputs old.names) (ahead new.inputs new.names) (left_of_current current new) old.missed new.missed
     pub waits : (new ≡ old) ⊎ IsAtEnd (left_of_current current old)
@@ -235,8 +235,8 @@ module _ {I : Type 0} (current : I → Option (List ℕ)) (ahead : I → FilesAh
       let more : old.names ≡ (first ++ name ∷ []) ++ new.names = p.opened.0.1 ∙ ap (λ z. first ++ z) split ∙ sym (append_assoc first (name ∷ []) new.names) in
       let size : length new.missed ≡ length old.missed + length (first ++ name ∷ []) = omega (arith, p.opened.0.2, ap length added, length-append now.missed noted, length-append first (name ∷ [])) in
       let kept : KeepsFiles (ahead now.inputs now.names) (ahead mid.inputs mid.names) = rw names (r.kept now.names) in
-      let read : Consumes (left current ahead now) (left current ahead mid) [] = left_read _ _ _ _ [] c kept in
-      let opening : Consumes (left current ahead mid) (left current ahead new) [] = rw (idle, o.reading, o.due) (left_opened _ o.answer _ _ o.opens) in
+      let read : Consumes (left_joined current ahead now) (left_joined current ahead mid) [] = left_read _ _ _ _ [] c kept in
+      let opening : Consumes (left_joined current ahead mid) (left_joined current ahead new) [] = rw (idle, o.reading, o.due) (left_opened _ o.answer _ _ o.opens) in
       let nothing : left_of_current current mid ≡ Some [] = rw idle refl in
       let spent : Consumes (left_of_current current now) (Some []) [] = rw nothing at c in
       let notes : Notes (ahead old.inputs old.names) (ahead new.inputs new.names) (left_of_current current new) old.missed new.missed =
@@ -262,17 +262,17 @@ module _ {I : Type 0} (current : I → Option (List ℕ)) (ahead : I → FilesAh
     files_kept = rw names_kept (r.kept now.names)
 
     -- after files that gave no byte the file being read gave some
-    pub given_on : (bytes : List ℕ) → Consumes (left_of_current current now) (left_of_current current new) bytes → Consumes (left current ahead old) (left current ahead new) bytes
+    pub given_on : (bytes : List ℕ) → Consumes (left_of_current current now) (left_of_current current new) bytes → Consumes (left_joined current ahead old) (left_joined current ahead new) bytes
     given_on bytes c = Consumes-trans _ _ _ [] bytes p.none (left_read _ _ _ _ bytes c files_kept)
 
     -- or a read of it failed
     pub failed_on : {E : Type 0} (result : Result ℕ E) (buf : List ℕ) → IsErr result → Keeps (left_of_current current now) (left_of_current current new) →
-        ReadConsumes (left current ahead old) (left current ahead new) result buf
+        ReadConsumes (left_joined current ahead old) (left_joined current ahead new) result buf
     failed_on result buf failed k = fails_unread _ _ result buf failed (keeps_unread _ _ (given_on [] (Consumes-kept _ _ _ [] (Consumes-nil _) k)))
 
     -- or it had none left, and no file is left to open
     pub spent_on : Consumes (left_of_current current now) (left_of_current current new) [] → IsAtEnd (left_of_current current new) → new.names ≡ [] →
-        ((inputs : I) → IfSome (ahead inputs []) (λ files. files ≡ [])) → Consumes (left current ahead old) (left current ahead new) [] × IsAtEnd (left current ahead new)
+        ((inputs : I) → IfSome (ahead inputs []) (λ files. files ≡ [])) → Consumes (left_joined current ahead old) (left_joined current ahead new) [] × IsAtEnd (left_joined current ahead new)
     spent_on c end empty none = (given_on [] c, left_at_end _ _ end (rw empty (none new.inputs)))
 
     pub opened_on : OpensFirstFiles ahead old new

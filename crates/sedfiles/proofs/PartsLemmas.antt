@@ -3,8 +3,8 @@ use Rattle.std.proofs.Common.{◌≡◌, ◌∙◌, ◌⊎◌, inl, inr, ◌<◌
 use Rattle.std.proofs.lemmas.Bool.{ltb-false}
 use Rattle.std.proofs.lemmas.List.{map-append}
 use Rattle.clap.specs.Words.{Text}
-use Rattle.sedfiles.specs.CommandLine.{AreParts, name_in, script_in}
-use Rattle.sedfiles.specs.CommandLineParts.{comes_first, first_place, given, in_order, place_at}
+use Rattle.sedfiles.specs.CommandLine.{AreParts, part_file, script_in}
+use Rattle.sedfiles.specs.CommandLineParts.{precedes, first_place, given, in_order, word_place}
 use Rattle.sedfiles.specs.Types.{File, Part, Script}
 
 one_more : (i : ℕ) → i + 1 ≡ suc i
@@ -29,7 +29,7 @@ some_below [] (suc i) x e = cc
 some_below (y ∷ xs) zero x e = omega arith
 some_below (y ∷ xs) (suc i) x e = let h = some_below xs i x e in omega (arith, h)
 
-first-drop : (es : List ℕ) (i : ℕ) → first_place (drop i es) ≡ place_at es i
+first-drop : (es : List ℕ) (i : ℕ) → first_place (drop i es) ≡ word_place es i
 first-drop [] zero = refl
 first-drop [] (suc i) = refl
 first-drop (e ∷ es) zero = refl
@@ -79,7 +79,7 @@ added parts part said rest all old is next h =
 
 -- a script was added to the parts
 pub script_added : (ws fs : List Text) (es gs : List ℕ) (i j : ℕ) (w : Text) (parts : List Part) (part : Part) (all : List (Text ⊎ Text)) →
-    slice_get ws i ≡ Some w → comes_first ws es i fs gs j ≡ true → given part ≡ inl w →
+    slice_get ws i ≡ Some w → precedes ws es i fs gs j ≡ true → given part ≡ inl w →
     map given parts ++ in_order (drop i ws) (drop i es) (drop j fs) (drop j gs) ≡ all →
     map given (parts ++ part ∷ []) ++ in_order (drop (i + 1) ws) (drop (i + 1) es) (drop j fs) (drop j gs) ≡ all
 script_added ws fs es gs i j w parts part all at first is h =
@@ -94,7 +94,7 @@ script_added ws fs es gs i j w parts part all at first is h =
 
 -- a file was
 pub file_added : (ws fs : List Text) (es gs : List ℕ) (i j : ℕ) (f : Text) (parts : List Part) (part : Part) (all : List (Text ⊎ Text)) →
-    slice_get fs j ≡ Some f → comes_first ws es i fs gs j ≡ false → given part ≡ inr f →
+    slice_get fs j ≡ Some f → precedes ws es i fs gs j ≡ false → given part ≡ inr f →
     map given parts ++ in_order (drop i ws) (drop i es) (drop j fs) (drop j gs) ≡ all →
     map given (parts ++ part ∷ []) ++ in_order (drop i ws) (drop i es) (drop (j + 1) fs) (drop (j + 1) gs) ≡ all
 file_added ws fs es gs i j f parts part all at later is h =
@@ -126,7 +126,7 @@ scripts_given [] = refl
 scripts_given (Script s ∷ parts) = ap (λ z. string_bytes s ∷ z) (scripts_given parts)
 scripts_given (File s ∷ parts) = scripts_given parts
 
-names_given : (parts : List Part) → filter_map name_in parts ≡ filter_map name_of (map given parts)
+names_given : (parts : List Part) → filter_map part_file parts ≡ filter_map name_of (map given parts)
 names_given [] = refl
 names_given (Script s ∷ parts) = names_given parts
 names_given (File s ∷ parts) = ap (λ z. string_bytes s ∷ z) (names_given parts)

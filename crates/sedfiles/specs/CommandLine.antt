@@ -40,13 +40,13 @@ script_in (Script s) = Some (string_bytes s)
 script_in (File s) = None
 
 -- the name of a part's file, or None where the part is a script
-abbrev pub name_in : Part → Option Text
-name_in (Script s) = None
-name_in (File s) = Some (string_bytes s)
+abbrev pub part_file : Part → Option Text
+part_file (Script s) = None
+part_file (File s) = Some (string_bytes s)
 
 -- the parts have these scripts and these files, each in their order
 abbrev pub AreParts : List Part → (scripts files : List Text) → Type 0
-AreParts parts scripts files = (filter_map script_in parts ≡ scripts) × (filter_map name_in parts ≡ files)
+AreParts parts scripts files = (filter_map script_in parts ≡ scripts) × (filter_map part_file parts ≡ files)
 
 -- The parts of the script, and the operands that are files: the scripts of -e and the files of -f, each in their order; without
 -- them, the first operand is the script (XCU sed, "Operands"). As no contract of clap says how these mingle, any order is taken here.

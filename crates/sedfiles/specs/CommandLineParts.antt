@@ -16,13 +16,13 @@ abbrev pub texts_in : Uses → List (List ℕ)
 texts_in uses = map (λ s. s.now) uses.words.now
 
 -- the place of a word among all words
-abbrev pub place_at : List ℕ → ℕ → ℕ
-place_at places number = unwrap_or (slice_get places number) 0
+abbrev pub word_place : List ℕ → ℕ → ℕ
+word_place places number = unwrap_or (slice_get places number) 0
 
 -- the first of the words left comes before the first of the others that are left
-abbrev pub comes_first : List (List ℕ) → List ℕ → ℕ → List (List ℕ) → List ℕ → ℕ → Bool
-comes_first scripts es i files fs j =
-    nat_lt i (length scripts) && (not (nat_lt j (length files)) || nat_lt (place_at es i) (place_at fs j))
+abbrev pub precedes : List (List ℕ) → List ℕ → ℕ → List (List ℕ) → List ℕ → ℕ → Bool
+precedes scripts es i files fs j =
+    nat_lt i (length scripts) && (not (nat_lt j (length files)) || nat_lt (word_place es i) (word_place fs j))
 
 -- the first of the places
 abbrev pub first_place : List ℕ → ℕ

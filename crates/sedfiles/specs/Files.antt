@@ -34,12 +34,12 @@ abbrev pub with_newline : Bool → List ℕ → List ℕ
 with_newline due bytes = bytes ++ (if due_after due bytes then 10 ∷ [] else [])
 
 -- The files' bytes one after another, a newline added to each file that isn't empty and doesn't end with one.
-abbrev pub joined : List (List ℕ) → List ℕ
-joined files = flat_map (with_newline false) files
+abbrev pub concatenated : List (List ℕ) → List ℕ
+concatenated files = flat_map (with_newline false) files
 
 -- what the files of these names give, joined: one that can't be opened is as an empty one (this project's own)
 abbrev pub joined_files : FilesAhead → List (List ℕ) → Option (List ℕ)
-joined_files ahead names = option_map (λ files. joined (map (λ file. unwrap_or file []) files)) (ahead names)
+joined_files ahead names = option_map (λ files. concatenated (map (λ file. unwrap_or file []) files)) (ahead names)
 
 -- What joined inputs have still to give: what is left of the file being read, if one is, and what further files give, joined.
 abbrev pub StillGives : {I : Type 0} → (I → Option (List ℕ)) → (I → FilesAhead) → I → Option (List ℕ) → Type 0

@@ -19,5 +19,5 @@ abbrev pub left_of_current : {I : Type 0} → (I → Option (List ℕ)) → Join
 left_of_current current j = if j.reading then option_map (with_newline j.due) (current j.inputs) else Some []
 
 -- the bytes still to come: what is left of the file being read, and what the files still to open give, joined
-abbrev pub left : {I : Type 0} → (I → Option (List ℕ)) → (I → FilesAhead) → Joining I → Option (List ℕ)
-left current ahead j = option_append (left_of_current current j) (joined_files (ahead j.inputs) j.names)
+abbrev pub left_joined : {I : Type 0} → (I → Option (List ℕ)) → (I → FilesAhead) → Joining I → Option (List ℕ)
+left_joined current ahead j = option_append (left_of_current current j) (joined_files (ahead j.inputs) j.names)

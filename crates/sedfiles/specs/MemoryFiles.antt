@@ -2,7 +2,7 @@
 use Rattle.std.specs.Prelude.{ℕ, if◌then◌else◌, List, [], ◌∷◌, Option, None, Some, unwrap_or, slice_get}
 use Rattle.std.specs.Option.{option_map}
 use Rattle.std.specs.Str.{bytes_eq}
-use Rattle.sedfiles.specs.Types.{Current, Nothing, Number, Standard}
+use Rattle.sedfiles.specs.Types.{CurrentFile, Nothing, Number, Standard}
 use Rattle.sedfiles.specs.Files.{dash}
 
 -- a file over memory: its name, as bytes of UTF-8, and its bytes
@@ -12,7 +12,7 @@ pub record File : Type 0 where
 
 -- files over memory: the files, what the standard input has still to give when it is opened, what the current file has
 -- still to give, the most bytes of a read, its calls, the call that fails, its failures, and the openings refused
-pub record Files : Type 0 where
+pub record FilesInMemory : Type 0 where
   pub files : List File
   pub standard : List ℕ
   pub current : List ℕ
@@ -38,7 +38,7 @@ abbrev pub bytes_at : List File → ℕ → List ℕ
 bytes_at files k = unwrap_or (option_map (λ file. file.bytes) (slice_get files k)) []
 
 -- all bytes of the file that is current
-abbrev pub all_of : List File → List ℕ → Current → List ℕ
+abbrev pub all_of : List File → List ℕ → CurrentFile → List ℕ
 all_of files standard Nothing = []
 all_of files standard Standard = standard
 all_of files standard (Number k) = bytes_at files k
@@ -46,8 +46,8 @@ all_of files standard (Number k) = bytes_at files k
 -- files over memory that are named by numbers: the files, and the one of each number
 pub record NamedFiles : Type 0 where
   pub files : List File
-  pub named : List Current
+  pub named : List CurrentFile
 
 -- the text of a number: the file that was named by it
-abbrev pub named_text : List File → List Current → ℕ → List ℕ
+abbrev pub named_text : List File → List CurrentFile → ℕ → List ℕ
 named_text files named k = unwrap_or (option_map (all_of files []) (slice_get named k)) []

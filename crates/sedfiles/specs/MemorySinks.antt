@@ -17,8 +17,8 @@ abbrev pub contents_of : SinkFiles → ℕ → Option (List ℕ)
 contents_of s k = if nat_lt s.created k then Some [] else sink_bytes s.outputs k
 
 -- whether the file that can be created next has this name
-abbrev pub is_next : SinkFiles → List ℕ → Bool
-is_next s name = option_map_or (λ next. bytes_eq next name) (slice_get s.names s.created) false
+abbrev pub is_created_next : SinkFiles → List ℕ → Bool
+is_created_next s name = option_map_or (λ next. bytes_eq next name) (slice_get s.names s.created) false
 
 -- the next write to a sink is set to fail
 abbrev pub NextFails : HeldSinks → ℕ → Type 0

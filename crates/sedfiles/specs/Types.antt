@@ -6,5 +6,5 @@ pub use Rattle.sedfiles.specs.declared.asked.Part.{Part}
 pub use Rattle.sedfiles.specs.declared.asked.Part.TheVariants.{File, Script}
 pub use Rattle.sedfiles.specs.declared.asked.Refused.{Refused}
 pub use Rattle.sedfiles.specs.declared.asked.Refused.TheVariants.{NoMemory, Words}
-pub use Rattle.sedfiles.specs.declared.memory_inputs.Current.{Current}
-pub use Rattle.sedfiles.specs.declared.memory_inputs.Current.TheVariants.{Nothing, Number, Standard}
+pub use Rattle.sedfiles.specs.declared.memory_inputs.CurrentFile.{CurrentFile}
+pub use Rattle.sedfiles.specs.declared.memory_inputs.CurrentFile.TheVariants.{Nothing, Number, Standard}

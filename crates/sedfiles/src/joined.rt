@@ -50,7 +50,7 @@ impl<'a, I: Inputs> Model for Joined<'a, I> {
 
 impl<'a, I: Inputs> Joined<'a, I> {
     ghost use Rattle.sedfiles.specs.Files.{joined_files};
-    ghost use Rattle.sedfiles.specs.Joining.{Joining, left, left_of_current};
+    ghost use Rattle.sedfiles.specs.Joining.{Joining, left_joined, left_of_current};
     ghost use Rattle.sedfiles.specs.Opening.{OpensNext};
 
     /// Makes a source of the files of these names, of which none is opened yet. Where a request for memory is refused,
@@ -66,7 +66,7 @@ impl<'a, I: Inputs> Joined<'a, I> {
           missed = [];
           start = I.refusals inputs;
         }) }
-        ensures joined { IfOk result (λ j. left I.current I.ahead j
+        ensures joined { IfOk result (λ j. left_joined I.current I.ahead j
             ≡ joined_files (I.ahead inputs) (map string_bytes names.now)) }
     {
         let missed = vec![in alloc; false; names.len()]?;
@@ -84,7 +84,7 @@ impl<'a, I: Inputs> Joined<'a, I> {
           missed = [];
           start = I.refusals inputs;
         } }
-        ensures joined { left I.current I.ahead result ≡ joined_files (I.ahead inputs) (map string_bytes names.now) }
+        ensures joined { left_joined I.current I.ahead result ≡ joined_files (I.ahead inputs) (map string_bytes names.now) }
     {
         let start = inputs.refused();
         Joined {
@@ -190,10 +190,10 @@ impl<'a, I: Inputs> Joined<'a, I> {
 }
 
 impl<'a, I: Inputs> ByteSource for Joined<'a, I> {
-    ghost use Rattle.sedfiles.specs.Joining.{Joining, left, left_of_current};
+    ghost use Rattle.sedfiles.specs.Joining.{Joining, left_joined, left_of_current};
     ghost use Rattle.sedfiles.specs.Opening.{OpensFirstFiles};
 
-    ghost remaining = { λ j. left I.current I.ahead j };
+    ghost remaining = { λ j. left_joined I.current I.ahead j };
 
     ghost failures = { λ j. I.failures j.inputs };
 
@@ -203,7 +203,7 @@ impl<'a, I: Inputs> ByteSource for Joined<'a, I> {
 
     fn read(&mut self, buf: &mut [u8]) -> Result<usize, Broken>
         ensures bound { ReadsAtMost result buf.new }
-        ensures bytes { ReadConsumes (left I.current I.ahead self.old) (left I.current I.ahead self.new) result buf.new }
+        ensures bytes { ReadConsumes (left_joined I.current I.ahead self.old) (left_joined I.current I.ahead self.new) result buf.new }
         ensures failed { FailsAtErr result (I.failures self.old.inputs) (I.failures self.new.inputs) }
         ensures same_reference { self.new.start ∷ I.reference self.new.inputs
             ≡ self.old.start ∷ I.reference self.old.inputs }

@@ -16,7 +16,7 @@ use std::marker::Model;
 
 /// Which file is current.
 #[derive(Clone, Copy)]
-pub(crate) enum Current {
+pub(crate) enum CurrentFile {
     /// None: none was opened, or the last couldn't be.
     Nothing,
     /// The standard input.
@@ -77,13 +77,17 @@ pub(crate) fn find(files: &[MemoryFile], name: &[u8]) -> Option<usize>
 }
 
 // All bytes of the current file.
-pub(crate) fn all_of<'a>(files: &'a [MemoryFile], standard: &'a [u8], current: Current) -> &'a [u8]
+pub(crate) fn all_of<'a>(
+    files: &'a [MemoryFile],
+    standard: &'a [u8],
+    current: CurrentFile,
+) -> &'a [u8]
     ensures { result.now ≡ all_of files.now standard.now current }
 {
     match current {
-        Current::Nothing => &[],
-        Current::Standard => standard,
-        Current::Number(k) => match files.get(k) {
+        CurrentFile::Nothing => &[],
+        CurrentFile::Standard => standard,
+        CurrentFile::Number(k) => match files.get(k) {
             Some(file) => file.bytes(),
             None => &[],
         },
@@ -97,7 +101,7 @@ pub struct MemoryInputs {
     files: Vec<MemoryFile>,
     standard: Vec<u8>,
     given: usize,
-    current: Current,
+    current: CurrentFile,
     place: usize,
     most: usize,
     calls: u64,
@@ -109,9 +113,9 @@ pub struct MemoryInputs {
 impl Model for MemoryInputs {
     ghost use Rattle.std.specs.Prelude.{◌≤◌, ◌<◌, drop, length, vec_len};
     ghost use Rattle.sedfiles.specs.Opening.{CountsRefusal};
-    ghost use Rattle.sedfiles.specs.MemoryFiles.{Files, all_of};
+    ghost use Rattle.sedfiles.specs.MemoryFiles.{FilesInMemory, all_of};
 
-    ghost Value = { Files };
+    ghost Value = { FilesInMemory };
 
     ghost view = { λ s. record {
       files = s.files.items;
@@ -146,7 +150,7 @@ impl MemoryInputs {
             files,
             standard,
             given: 0,
-            current: Current::Nothing,
+            current: CurrentFile::Nothing,
             place: 0,
             most: usize::MAX,
             calls: 0,
@@ -182,7 +186,7 @@ impl MemoryInputs {
     fn open_standard(&mut self)
         ensures { self.new ≡ record self.old { current = self.old.standard; standard = [] } }
     {
-        self.current = Current::Standard;
+        self.current = CurrentFile::Standard;
         self.place = self.given;
         self.given = self.standard.len();
     }
@@ -199,11 +203,11 @@ impl MemoryInputs {
         self.place = 0;
         match find(self.files.as_slice(), name.as_bytes()) {
             Some(k) => {
-                self.current = Current::Number(k);
+                self.current = CurrentFile::Number(k);
                 true
             }
             None => {
-                self.current = Current::Nothing;
+                self.current = CurrentFile::Nothing;
                 self.refusals = self.refusals.saturating_add(1);
                 false
             }

@@ -3,7 +3,7 @@ ghost use Rattle.std.specs.Prelude.{◌≡◌, ◌≤◌, ◌-◌, [], Some, len
 ghost use Rattle.sedspace.specs.Reading.{ReadsAt};
 ghost use Rattle.sedfiles.specs.MemoryFiles.{all_of, file_of, named_text};
 
-use crate::memory_inputs::{Current, MemoryFile, all_of, find};
+use crate::memory_inputs::{CurrentFile, MemoryFile, all_of, find};
 use crate::names::Names;
 use sedspace::Texts;
 use std::alloc::{AllocError, Global};
@@ -14,7 +14,7 @@ use std::marker::Model;
 #[derive(Drop)]
 pub struct MemoryNames {
     files: Vec<MemoryFile>,
-    named: Vec<Current>,
+    named: Vec<CurrentFile>,
 }
 
 impl Model for MemoryNames {
@@ -65,12 +65,12 @@ impl Texts for MemoryNames {
 }
 
 // The file of this name, as one to read.
-fn current(files: &[MemoryFile], name: &[u8]) -> Current
+fn current(files: &[MemoryFile], name: &[u8]) -> CurrentFile
     ensures { all_of files.now [] result ≡ unwrap_or (file_of files.now name.now) [] }
 {
     match find(files, name) {
-        Some(number) => Current::Number(number),
-        None => Current::Nothing,
+        Some(number) => CurrentFile::Number(number),
+        None => CurrentFile::Nothing,
     }
 }
 

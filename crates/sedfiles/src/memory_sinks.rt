@@ -2,7 +2,7 @@
 ghost use Rattle.std.specs.Prelude.{◌≡◌, ◌+◌, ◌<◌, ◌≤◌, ℕ, Some, length, map, replicate, take, true, IfOk, IfSome, if◌then◌else◌, slice_get, slice_set};
 ghost use Rattle.sedspace.specs.Memory.{new_sink, sink_bytes, sink_failures};
 ghost use Rattle.sedfiles.specs.AddedSinks.{AddsName, FailsFlush};
-ghost use Rattle.sedfiles.specs.MemorySinks.{FlushesFirst, contents_of, is_next};
+ghost use Rattle.sedfiles.specs.MemorySinks.{FlushesFirst, contents_of, is_created_next};
 ghost use Rattle.sedfiles.specs.MemorySinkLaws.{absent_holds_nothing};
 
 use crate::sinks::Sinks;
@@ -81,7 +81,7 @@ impl MemorySinks {
 
     // Whether the file that can be created next has this name.
     fn is_next(&self, name: &[u8]) -> bool
-        ensures { result ≡ is_next self.now name.now }
+        ensures { result ≡ is_created_next self.now name.now }
     {
         match self.names.get(self.created) {
             Some(next) => next.as_slice() == name,
@@ -139,7 +139,7 @@ impl Sinks for MemorySinks {
     ghost absent_is_empty = { absent_holds_nothing };
 
     fn create(&mut self, name: &[u8]) -> bool
-        ensures answer { result ≡ is_next self.old name.now }
+        ensures answer { result ≡ is_created_next self.old name.now }
         ensures created { self.new ≡ record self.old {
           created = if result then self.old.created + 1 else self.old.created;
         } }

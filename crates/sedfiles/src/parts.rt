@@ -1,7 +1,7 @@
 //! The parts of a script and the operands, in the order of the words.
 ghost use Rattle.std.specs.Prelude.{[], ◌≡◌, ◌<◌, Some, drop, length, map, slice_get, string_bytes, take, IfOk};
 ghost use Rattle.sedfiles.specs.CommandLine.{AreParts, Asks};
-ghost use Rattle.sedfiles.specs.CommandLineParts.{comes_first, given, in_order, place_at, texts_in};
+ghost use Rattle.sedfiles.specs.CommandLineParts.{precedes, given, in_order, word_place, texts_in};
 
 use crate::asked::Part;
 use std::alloc::{AllocError, Global};
@@ -33,14 +33,14 @@ impl<'m, 'a> Uses<'m, 'a> {
 
     /// The place of the word of this number.
     fn place(&self, number: usize) -> usize
-        ensures { result ≡ place_at self.now.places.now number }
+        ensures { result ≡ word_place self.now.places.now number }
     {
         self.places.get(number).copied().unwrap_or(0)
     }
 
     /// Whether the word of this number comes before that one of the others.
     fn comes_first(&self, number: usize, others: &Uses<'_, '_>, other: usize) -> bool
-        ensures { result ≡ comes_first (texts_in self.now) self.now.places.now number
+        ensures { result ≡ precedes (texts_in self.now) self.now.places.now number
             (texts_in others.now) others.now.places.now other }
     {
         number < self.words.len()

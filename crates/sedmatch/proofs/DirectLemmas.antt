@@ -7,7 +7,7 @@ use Rattle.sedre.specs.Steps.{Takes, TakesAtLeast}
 use Rattle.sedtext.specs.Answer.{SpanAnswer}
 use Rattle.sedtext.specs.Bytes.{AreBytes}
 use Rattle.sedtext.specs.Costs.{CostsWithin}
-use Rattle.sedtext.specs.Following.{CanEndEarly, PassesOver}
+use Rattle.sedtext.specs.Following.{CanEndEarly, LooksPast}
 use Rattle.sedtext.specs.Required.{IsLiteral, GoesOnAs, FirstLiteral}
 use Rattle.sedtext.specs.Reach.{At}
 use Rattle.sedtext.specs.Runs.{Repeated}
@@ -15,7 +15,7 @@ use Rattle.sedtext.specs.Spans.{SomeFound}
 use Rattle.sedtext.specs.FixedRuns.{FirstFixedRun}
 use Rattle.sedtext.specs.declared.required.Literal.{Literal as Bytes}
 use Rattle.sedmatch.specs.Direct.{LiteralSpans, AllLiteral, FirstSpan, FormSpans, IsDirect, SpannedAs, bytes_looked_at}
-use Rattle.sedmatch.specs.Stretches.{Stands, bytes_sought, end_or, width}
+use Rattle.sedmatch.specs.Stretches.{IsAnchored, bytes_sought, end_or, width}
 use Rattle.sedmatch.specs.declared.direct.DirectForm.{DirectForm}
 use Rattle.sedmatch.specs.declared.direct.DirectForm.TheVariants.{Stretch, Anchored, FixedRun, Literal}
 use Rattle.sedmatch.specs.declared.stretches.Anchoring.{Anchoring}
@@ -79,7 +79,7 @@ looked_from : (e : Tree) (form : DirectForm) (p i j : ℕ) → SpannedAs e form 
 looked_from e (Anchored s ends) p i j is (v, bytes, h, k, early, spans) =
     let low = Matches-forward e v h k spans in
     let at = (is v bytes h k (omega (arith, low, early))).0 spans in
-    sought_from ends p i j (λ last. let end : k ≡ length v = subst (λ z. Stands (Some z) v h k) last at.2 in omega (arith, early, end))
+    sought_from ends p i j (λ last. let end : k ≡ length v = subst (λ z. IsAnchored (Some z) v h k) last at.2 in omega (arith, early, end))
 looked_from e _ p i j is early = omega arith
 
 pub looks_from : (e : Tree) (form : DirectForm) (p s t : ℕ) (r : Option (ℕ × ℕ)) → SpannedAs e form → CanEndEarly e → IfSome r (λ f. TakesAtLeast s t (bytes_looked_at form p f)) →
@@ -114,7 +114,7 @@ answer_some e w p (Some f) answer =
 
 -- the looks for it pass over it
 pub answer_passes : (e : Tree) (w : List ℕ) (p s t : ℕ) (r : Option (ℕ × ℕ)) → SpanAnswer e w p r → IfSome r (λ f. TakesAtLeast s t (f.1 - f.0)) →
-    (CanEndEarly e → IfSome r (λ f. TakesAtLeast s t (f.1 - p))) → IsTrue (is_some r) → PassesOver e w p s t
+    (CanEndEarly e → IfSome r (λ f. TakesAtLeast s t (f.1 - p))) → IsTrue (is_some r) → LooksPast e w p s t
 answer_passes e w p s t None answer bytes passed some = absurd (true≢false (sym some))
 answer_passes e w p s t (Some f) answer bytes passed some = record {
   start = f.0;

@@ -14,24 +14,24 @@ use Rattle.sedpass.proofs.OccurrenceLemmas.{answer_found, passed_by, search_fall
 use Rattle.sedmatch.specs.Direct.{IsDirect}
 use Rattle.sedmatch.specs.Stretches.{end_or}
 use Rattle.sedmatch.specs.Occurrences.{Serves, ServesOn, owed, owed_after, owed_direct, owed_direct_after}
-use Rattle.sedmatch.specs.Passes.{IsEngine, written_of}
+use Rattle.sedmatch.specs.Passes.{IsEngine, searched_expression}
 use Rattle.sedmatch.specs.declared.direct.DirectForm.{DirectForm}
 use Rattle.sedmatch.specs.declared.occurrences.Occurrences.{Occurrences}
 use Rattle.sedmatch.specs.declared.passes.Passes.{Passes}
-use Rattle.sedmatch.specs.declared.table_matcher.Engine.{Engine}
-use Rattle.sedmatch.specs.declared.table_matcher.Engine.TheVariants.{Direct}
+use Rattle.sedmatch.specs.declared.table_matcher.SearchMethod.{SearchMethod}
+use Rattle.sedmatch.specs.declared.table_matcher.SearchMethod.TheVariants.{Direct}
 use Rattle.sedpass.specs.Search.{owed_behind}
 
 -- What the expression is.
 
-pub direct_is : (m : Engine) (v e : WrittenExpression) (form : DirectForm) → written_of m ≡ v → IsEngine m → m ≡ Direct e form → IsDirect v form
-direct_is m v e form view inv is = subst (λ x. IsDirect x form) (sym (ap written_of is) ∙ view) (subst IsEngine is inv)
+pub direct_is : (m : SearchMethod) (v e : WrittenExpression) (form : DirectForm) → searched_expression m ≡ v → IsEngine m → m ≡ Direct e form → IsDirect v form
+direct_is m v e form view inv is = subst (λ x. IsDirect x form) (sym (ap searched_expression is) ∙ view) (subst IsEngine is inv)
 
-pub passes_are : (m : Engine) (v : WrittenExpression) (p q : Passes) → written_of m ≡ v → written_of m ≡ q.sought.prepared.arena.expr → p ≡ q → p.sought.prepared.arena.expr ≡ v
+pub passes_are : (m : SearchMethod) (v : WrittenExpression) (p q : Passes) → searched_expression m ≡ v → searched_expression m ≡ q.sought.prepared.arena.expr → p ≡ q → p.sought.prepared.arena.expr ≡ v
 passes_are m v p q view is same = ap (λ (x : Passes). x.sought.prepared.arena.expr) same ∙ sym is ∙ view
 
-pub written_is : (m : Engine) (v e : WrittenExpression) (form : DirectForm) → written_of m ≡ v → m ≡ Direct e form → e ≡ v
-written_is m v e form view is = sym (ap written_of is) ∙ view
+pub written_is : (m : SearchMethod) (v e : WrittenExpression) (form : DirectForm) → searched_expression m ≡ v → m ≡ Direct e form → e ≡ v
+written_is m v e form view is = sym (ap searched_expression is) ∙ view
 
 -- What it finds and costs, by a look at the text.
 

@@ -14,7 +14,7 @@ use Rattle.sedtext.specs.Following.{LiesOn, Occurs, bytes_passed, next_span}
 use Rattle.sedtext.specs.Matching.{leftmost_longest}
 use Rattle.sedtext.specs.Words.{row_of}
 use Rattle.sedpass.specs.Kept.{KeptRoom, SameSpace}
-use Rattle.sedpass.specs.Search.{Searched, Serves as SearchServes, owed_after as owed_after_search, search_cost, SearchTakes, owed_behind}
+use Rattle.sedpass.specs.Search.{Searched, SearchServes, owed_after_search, search_cost, SearchTakes, owed_behind}
 use Rattle.sedpass.specs.Table.{IsRoomy, IsTable, SameRoom, SameShape}
 use Rattle.sedpass.specs.declared.search.Seeking.{Seeking}
 use Rattle.sedpass.specs.declared.kept.Kept.{Kept}

@@ -9,7 +9,7 @@ use Rattle.sedre.specs.Steps.{Takes, TakesAtLeast}
 use Rattle.sedtext.specs.Beginnings.{AllBegin}
 use Rattle.sedtext.specs.Costs.{CostsWithin}
 use Rattle.sedtext.specs.declared.beginnings.Begins.TheVariants.{AtStart}
-use Rattle.sedtext.specs.Following.{PassesOver}
+use Rattle.sedtext.specs.Following.{LooksPast}
 use Rattle.sedtext.specs.Groups.{no_groups}
 use Rattle.sedtext.specs.Spans.{SomeFound, Matches}
 use Rattle.sedtext.proofs.GroupLemmas.{Captures-none, no_groups_at}
@@ -41,7 +41,7 @@ few_looks m n some = let h = mul-le-mul_left (n + 1) some in omega (arith, h)
 
 -- where none begins before a place, one begins from there on if one does from an earlier place on
 pub told_past : (e : WrittenExpression) (w : List ℕ) (from start s t u : ℕ) (told : Bool) → 1 ≤ length e.nodes → Narrowed (expression_tree e) w from (Some start) → CostsWithin s t (length w) from →
-    TakesAtLeast s t (start - from) → (IsTrue told ↔ SomeFound (expression_tree e) w start) → (IsTrue told → PassesOver (expression_tree e) w start t u) → Takes t u (43 * length e.nodes * (length w + 1)) →
+    TakesAtLeast s t (start - from) → (IsTrue told ↔ SomeFound (expression_tree e) w start) → (IsTrue told → LooksPast (expression_tree e) w start t u) → Takes t u (43 * length e.nodes * (length w + 1)) →
     TellsMatch e w from s u told
 told_past e w from start s t u told some is looks counts tells over cost =
     let few = few_looks (length e.nodes) (length w) some in

@@ -5,7 +5,7 @@ use Rattle.sedtext.specs.Forms.{HasForm}
 use Rattle.sedtext.specs.Reach.{At}
 use Rattle.sedtext.specs.declared.forms.Form.TheVariants.{Start, End, Both}
 use Rattle.sedmatch.specs.Shapes.{IsStem, StemLeads}
-use Rattle.sedmatch.specs.Stretches.{Stands}
+use Rattle.sedmatch.specs.Stretches.{IsAnchored}
 use Rattle.sedmatch.specs.declared.shapes.Stem.{Stem}
 use Rattle.sedmatch.specs.declared.stretches.Anchoring.{Anchoring}
 use Rattle.sedmatch.specs.declared.stretches.Anchoring.TheVariants.{AtEnd}
@@ -20,7 +20,7 @@ module _ (nodes : List Node) (x y z : ℕ) (both : HasForm nodes x (Both y z)) (
     (λ s. (both.2 w i j).1 (j, (is w i j).1 (s.0, tt), (ends w j j).1 (s.1, s.1))),
   )
 
-  pub stem_after_start : (anchoring : Option Anchoring) (to : Anchoring) → HasForm nodes y Start → IsStem nodes z stem anchoring → ((w : List ℕ) (i j : ℕ) → Stands (Some to) w i j ↔ ((i ≡ 0) × Stands anchoring w i j)) → IsStem nodes x stem (Some to)
+  pub stem_after_start : (anchoring : Option Anchoring) (to : Anchoring) → HasForm nodes y Start → IsStem nodes z stem anchoring → ((w : List ℕ) (i j : ℕ) → IsAnchored (Some to) w i j ↔ ((i ≡ 0) × IsAnchored anchoring w i j)) → IsStem nodes x stem (Some to)
   stem_after_start anchoring to starts is stands w i j = (
     (λ at.
         let f = (both.2 w i j).0 at in

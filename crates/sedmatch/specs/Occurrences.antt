@@ -7,7 +7,7 @@ use Rattle.sedtext.specs.Costs.{CostsWithin}
 use Rattle.sedtext.specs.Following.{CanEndEarly, Occurs, bytes_passed, next_span}
 use Rattle.sedtext.specs.Matching.{leftmost_longest}
 use Rattle.sedpass.specs.Kept.{KeptRoom}
-use Rattle.sedpass.specs.Search.{Serves as SearchServes, owed_behind}
+use Rattle.sedpass.specs.Search.{SearchServes, owed_behind}
 use Rattle.sedpass.specs.Table.{IsRoomy, IsTable}
 use Rattle.sedpass.specs.declared.kept.Kept.{Kept}
 use Rattle.sedpass.specs.declared.nodes.Prepared.{Prepared}

@@ -5,11 +5,11 @@ use Rattle.sedre.specs.Tree.{WrittenExpression, expression_tree}
 use Rattle.sedre.specs.Steps.{Takes, TakesAtLeast}
 use Rattle.sedtext.specs.Beginnings.{AllBegin}
 use Rattle.sedtext.specs.Caps.{IsReport}
-use Rattle.sedtext.specs.Following.{PassesOver}
+use Rattle.sedtext.specs.Following.{LooksPast}
 use Rattle.sedtext.specs.Groups.{Groups}
 use Rattle.sedtext.specs.Required.{IsRequired}
 use Rattle.sedtext.specs.Spans.{SomeFound}
-use Rattle.sedpass.specs.Decide.{AreGroupTables, AreRoomy, HasSpace, found}
+use Rattle.sedpass.specs.Decide.{AreGroupTables, AreRoomy, HasSpace, spans_in}
 use Rattle.sedpass.specs.Table.{IsRoomy, IsTable}
 use Rattle.sedpass.specs.Walks.{EntersGroups}
 use Rattle.sedpass.specs.declared.nodes.Prepared.{Prepared}
@@ -20,8 +20,8 @@ use Rattle.sedmatch.specs.declared.passes.OwnTables.{OwnTables}
 use Rattle.sedmatch.specs.declared.passes.Passes.{Passes}
 use Rattle.sedmatch.specs.declared.passes.Sought.{Sought}
 use Rattle.sedmatch.specs.declared.scratch.Desk.{Desk}
-use Rattle.sedmatch.specs.declared.table_matcher.Engine.{Engine}
-use Rattle.sedmatch.specs.declared.table_matcher.Engine.TheVariants.{Direct, Passes as ByPasses}
+use Rattle.sedmatch.specs.declared.table_matcher.SearchMethod.{SearchMethod}
+use Rattle.sedmatch.specs.declared.table_matcher.SearchMethod.TheVariants.{Direct, Passes as ByPasses}
 
 -- the way of passes forwards in which every place is a start
 abbrev pub any_way : Way
@@ -50,11 +50,11 @@ abbrev pub KeepsPasses : Passes → Passes → Type 0
 KeepsPasses old new = (new.sought ≡ old.sought) × AreOwn new.sought.prepared new.own
 
 -- the expression that is searched, and that it is searched rightly
-abbrev pub written_of : Engine → WrittenExpression
-written_of (Direct e form) = e
-written_of (ByPasses p) = p.value.sought.prepared.arena.expr
+abbrev pub searched_expression : SearchMethod → WrittenExpression
+searched_expression (Direct e form) = e
+searched_expression (ByPasses p) = p.value.sought.prepared.arena.expr
 
-abbrev pub IsEngine : Engine → Type 0
+abbrev pub IsEngine : SearchMethod → Type 0
 IsEngine (Direct e form) = IsDirect e form
 IsEngine (ByPasses p) = ArePasses p.value.sought.prepared.arena.expr p.value
 
@@ -85,7 +85,7 @@ Prepares m p = (m ≤ p.arena.room) × (m ≤ vec_capacity p.facts)
 -- whether a match begins at the place or later
 pub record TellsMatch (e : WrittenExpression) (w : List ℕ) (from before after : ℕ) (told : Bool) : Type 0 where
   pub matches : IsTrue told ↔ SomeFound (expression_tree e) w from
-  pub passes : IsTrue told → PassesOver (expression_tree e) w from before after
+  pub passes : IsTrue told → LooksPast (expression_tree e) w from before after
   pub cost : Takes before after (64 * length e.nodes * (length w + 1))
 
 -- the groups of a match that begins and ends at these places
@@ -93,5 +93,5 @@ pub record TellsGroups (e : WrittenExpression) (w : List ℕ) (span : ℕ × ℕ
   pub report : IsReport (expression_tree e) w span.0 span.1 groups
   pub none_cost : e.groups ≡ 0 → after ≡ before
   pub cost : Takes before after (172 * length e.nodes * (length e.nodes - 1) * (span.1 - span.0) + 2 * length e.nodes)
-  pub counts : TakesAtLeast before after (found groups - 1)
+  pub counts : TakesAtLeast before after (spans_in groups - 1)
   pub entered : EntersGroups (expression_tree e) w span.0 span.1 before after

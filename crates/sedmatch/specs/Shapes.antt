@@ -5,7 +5,7 @@ use Rattle.sedre.specs.declared.types.Node.{Node}
 use Rattle.sedtext.specs.Bytes.{MemberAt, AreBytes}
 use Rattle.sedtext.specs.Reach.{At}
 use Rattle.sedtext.specs.Runs.{Repeated}
-use Rattle.sedmatch.specs.Stretches.{ComesFirst, Follow, Stands, width}
+use Rattle.sedmatch.specs.Stretches.{ComesFirst, Follow, IsAnchored, width}
 use Rattle.sedmatch.specs.declared.shapes.Stem.{Stem}
 use Rattle.sedmatch.specs.declared.stretches.First.{First}
 use Rattle.sedmatch.specs.declared.stretches.Anchoring.{Anchoring}
@@ -25,7 +25,7 @@ IsLastRun nodes x members = (w : List ℕ) (i j : ℕ) → At nodes w x i j ↔ 
 
 -- the spans of the node x are those of the stem that is anchored so
 abbrev pub IsStem : List Node → ℕ → Stem → Option Anchoring → Type 0
-IsStem nodes x stem anchoring = (w : List ℕ) (i j : ℕ) → At nodes w x i j ↔ (StemLeads stem w i j × Stands anchoring w i j)
+IsStem nodes x stem anchoring = (w : List ℕ) (i j : ℕ) → At nodes w x i j ↔ (StemLeads stem w i j × IsAnchored anchoring w i j)
 
 -- in a text of bytes, what comes first is a byte of the set, if there is one
 abbrev pub IsFirst : Option (List Bool) → First → Type 0

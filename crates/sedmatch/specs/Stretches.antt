@@ -27,16 +27,16 @@ Follow None w i j = j ≡ i
 Follow (Some members) w i j = Repeated members w i j
 
 -- a span from i to j is where it is anchored, if it is
-abbrev pub Stands : Option Anchoring → List ℕ → ℕ → ℕ → Type 0
-Stands None w i j = Unit {0}
-Stands (Some AtStart) w i j = i ≡ 0
-Stands (Some AtEnd) w i j = j ≡ length w
-Stands (Some Whole) w i j = (i ≡ 0) × (j ≡ length w)
-Stands (Some AtEitherEnd) w i j = (i ≡ 0) ⊎ (j ≡ length w)
+abbrev pub IsAnchored : Option Anchoring → List ℕ → ℕ → ℕ → Type 0
+IsAnchored None w i j = Unit {0}
+IsAnchored (Some AtStart) w i j = i ≡ 0
+IsAnchored (Some AtEnd) w i j = j ≡ length w
+IsAnchored (Some Whole) w i j = (i ≡ 0) × (j ≡ length w)
+IsAnchored (Some AtEitherEnd) w i j = (i ≡ 0) ⊎ (j ≡ length w)
 
 -- the spans of a stretch that is anchored so
 abbrev pub StretchSpans : Stretch → Option Anchoring → List ℕ → ℕ → ℕ → Type 0
-StretchSpans s anchoring w i j = ComesFirst s.first w i × Follow s.rest w (i + width s.first) j × Stands anchoring w i j
+StretchSpans s anchoring w i j = ComesFirst s.first w i × Follow s.rest w (i + width s.first) j × IsAnchored anchoring w i j
 
 -- the longest of the spans that begin first from p on, in a text of n bytes, if there is one
 abbrev pub FirstOf : (ℕ → ℕ → Type 0) → ℕ → ℕ → Option (ℕ × ℕ) → Type 0
@@ -57,9 +57,9 @@ abbrev pub FollowFrom : Option (List Bool) → List ℕ → ℕ → ℕ → Type
 FollowFrom rest w p i = (p ≤ i) × (i ≤ length w) × Follow rest w i (length w) × ((h : ℕ) → p ≤ h → h < i → Follow rest w h (length w) → ⊥)
 
 -- a place after what comes first, or the end n of the text
-abbrev pub behind : First → ℕ → Option ℕ → ℕ
-behind first n None = n
-behind first n (Some k) = k + width first
+abbrev pub behind_first : First → ℕ → Option ℕ → ℕ
+behind_first first n None = n
+behind_first first n (Some k) = k + width first
 
 -- where the match found ends, or the end n of the text
 abbrev pub end_or : ℕ → Option (ℕ × ℕ) → ℕ

@@ -5,7 +5,7 @@ ghost use Rattle.sedre.specs.Tree.{WrittenExpression, expression_tree};
 ghost use Rattle.sedtext.specs.Costs.{CostsWithin};
 ghost use Rattle.sedtext.specs.Following.{EndsWithin, Occurs, next_span};
 ghost use Rattle.sedtext.specs.Matching.{leftmost_longest};
-ghost use Rattle.sedpass.specs.Search.{MaySearch, Searched, owed_after as owed_after_search, SearchTakes, owed_behind};
+ghost use Rattle.sedpass.specs.Search.{MaySearch, Searched, owed_after_search, SearchTakes, owed_behind};
 ghost use Rattle.sedpass.specs.Table.{IsAhead, SameShape};
 ghost use Rattle.sedpass.specs.declared.table.Table.{Table};
 ghost use Rattle.sedmatch.specs.Occurrences.{HasTable, HaveOwn, IsBack, IsReady, RoomAt, RoomFor, Serves, TellsNext, owed_search};

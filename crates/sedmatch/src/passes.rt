@@ -4,7 +4,7 @@ ghost use Rattle.sedre.specs.Arena.{IsExpr};
 ghost use Rattle.sedre.specs.Tree.{Tree, WrittenExpression, expression_tree};
 ghost use Rattle.sedre.specs.Steps.{Takes, TakesAtLeast};
 ghost use Rattle.sedtext.specs.Beginnings.{AllBegin};
-ghost use Rattle.sedtext.specs.Following.{PassesOver};
+ghost use Rattle.sedtext.specs.Following.{LooksPast};
 ghost use Rattle.sedtext.specs.Required.{IsRequired};
 ghost use Rattle.sedpass.specs.Table.{IsAhead, IsSweep, SameShape};
 ghost use Rattle.sedtext.specs.Spans.{SomeFound, Matches};
@@ -165,7 +165,7 @@ fn matches_with(
     ensures ahead { IsAhead sought.now.prepared ahead.new }
     ensures ahead_shape { SameShape ahead.old ahead.new }
     ensures matches { IsTrue result ↔ SomeFound (expression_tree sought.now.prepared.arena.expr) text.now from }
-    ensures passes { IsTrue result → PassesOver (expression_tree sought.now.prepared.arena.expr) text.now from steps.old steps.new }
+    ensures passes { IsTrue result → LooksPast (expression_tree sought.now.prepared.arena.expr) text.now from steps.old steps.new }
     ensures cost { Takes steps.old steps.new (43 * length sought.now.prepared.arena.expr.nodes * (length text.now + 1)) }
 {
     let prepared = &sought.prepared;

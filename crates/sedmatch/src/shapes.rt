@@ -4,7 +4,7 @@ ghost use Rattle.sedre.specs.Steps.{Takes};
 ghost use Rattle.sedre.specs.Tree.{expression_tree};
 ghost use Rattle.sedmatch.specs.Direct.{SpannedAs};
 ghost use Rattle.sedmatch.specs.Shapes.{IsFirst, IsLastRun, IsStem};
-ghost use Rattle.sedmatch.specs.Stretches.{Stands};
+ghost use Rattle.sedmatch.specs.Stretches.{IsAnchored};
 ghost use Rattle.sedmatch.specs.declared.stretches.Anchoring.TheVariants.{AtEnd, AtStart};
 
 use crate::direct::DirectForm;
@@ -111,7 +111,7 @@ fn stem_anchored(expr: &Expr, index: usize, steps: &mut Steps) -> Option<(Stem, 
 
 /// The same at the beginning of the text.
 fn at_start(anchoring: Option<Anchoring>) -> Anchoring
-    ensures { (w : List ℕ) (i j : ℕ) → Stands (Some result) w i j ↔ ((i ≡ 0) × Stands anchoring w i j) }
+    ensures { (w : List ℕ) (i j : ℕ) → IsAnchored (Some result) w i j ↔ ((i ≡ 0) × IsAnchored anchoring w i j) }
 {
     match anchoring {
         None | Some(Anchoring::AtStart | Anchoring::AtEitherEnd) => Anchoring::AtStart,

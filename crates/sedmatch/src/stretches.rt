@@ -6,7 +6,7 @@ ghost use Rattle.std.specs.Prelude.{◌≡◌, ℕ, ◌+◌, ◌-◌, ◌*◌, �
 ghost use Rattle.sedre.specs.Steps.{Takes, TakesAtLeast};
 ghost use Rattle.sedtext.specs.Bytes.{FirstFrom};
 ghost use Rattle.sedtext.specs.Costs.{CostsWithin};
-ghost use Rattle.sedmatch.specs.Stretches.{ComesFirst, FirstStretch, FollowFrom, FollowTo, behind, bytes_sought, end_or, width};
+ghost use Rattle.sedmatch.specs.Stretches.{ComesFirst, FirstStretch, FollowFrom, FollowTo, behind_first, bytes_sought, end_or, width};
 ghost use Rattle.sedmatch.specs.declared.stretches.Anchoring.TheVariants.{AtEitherEnd, AtEnd, AtStart, Whole};
 
 use crate::Span;
@@ -67,7 +67,7 @@ impl First {
     pub fn find(&self, text: &Text, from: usize, steps: &mut Steps) -> Option<usize>
         requires from { from ≤ length text.now }
         ensures first { FirstFrom (ComesFirst self.now text.now) from result }
-        ensures cost { CostsWithin steps.old steps.new (behind self.now (length text.now) result) from }
+        ensures cost { CostsWithin steps.old steps.new (behind_first self.now (length text.now) result) from }
         ensures counts { IfSome result (λ k. TakesAtLeast steps.old steps.new (k + width self.now - from)) }
     {
         match self {

@@ -3,14 +3,14 @@ ghost use Rattle.std.specs.Prelude.{◌≡◌, ℕ, ◌+◌, ◌-◌, ◌*◌, �
 ghost use Rattle.sedre.specs.Tree.{WrittenExpression, expression_tree};
 ghost use Rattle.sedre.specs.Steps.{Takes, TakesAtLeast};
 ghost use Rattle.sedtext.specs.Costs.{CostsWithin};
-ghost use Rattle.sedtext.specs.Following.{CanEndEarly, EndsWithin, LiesOn, Occurs, PassesOver, bytes_passed, next_span};
-ghost use Rattle.sedtext.specs.Matching.{leftmost_longest, report};
+ghost use Rattle.sedtext.specs.Following.{CanEndEarly, EndsWithin, LiesOn, Occurs, LooksPast, bytes_passed, next_span};
+ghost use Rattle.sedtext.specs.Matching.{leftmost_longest, reported_groups};
 ghost use Rattle.sedtext.specs.Answer.{SpanIn};
 ghost use Rattle.sedtext.specs.Groups.{span_of};
 ghost use Rattle.sedtext.specs.SearchRoom.{FitInto};
 ghost use Rattle.sedtext.specs.Spans.{SomeFound, Matches};
 ghost use Rattle.sedmatch.specs.Candidates.{NoMatchBefore};
-ghost use Rattle.sedpass.specs.Decide.{found as spans_in};
+ghost use Rattle.sedpass.specs.Decide.{spans_in};
 ghost use Rattle.sedpass.specs.Walks.{EntersGroups};
 ghost use Rattle.sedmatch.specs.Direct.{IsDirect};
 ghost use Rattle.sedmatch.specs.Occurrences.{Serves, ServesOn, TellsNext, owed, owed_after, owed_direct, owed_direct_after};
@@ -34,7 +34,7 @@ use std::marker::Model;
 
 /// How an expression is searched.
 #[derive(Drop)]
-pub enum Engine {
+pub enum SearchMethod {
     /// By a look at the text: the expression, and the form of its matches.
     Direct(Expr, DirectForm),
     /// By passes.
@@ -48,7 +48,7 @@ pub enum Engine {
 /// [`crate::find`] is the better choice: it needs no table.
 #[derive(Drop)]
 pub struct TableMatcher {
-    engine: Engine,
+    engine: SearchMethod,
 }
 
 impl Model for TableMatcher {
@@ -56,9 +56,9 @@ impl Model for TableMatcher {
 
     ghost Value = { WrittenExpression };
 
-    ghost use Rattle.sedmatch.specs.Passes.{IsEngine, written_of};
+    ghost use Rattle.sedmatch.specs.Passes.{IsEngine, searched_expression};
 
-    ghost view = { λ m. written_of m.engine };
+    ghost view = { λ m. searched_expression m.engine };
 
     ghost invariant = { λ m. IsEngine m.engine };
 }
@@ -144,8 +144,8 @@ impl TableMatcher {
         ensures { IfOk result (λ m. m ≡ expr.now) }
     {
         let engine = match direct_form_of(alloc, expr, steps)? {
-            Some(form) => Engine::Direct(expr.copy(alloc)?, form),
-            None => Engine::Passes(Box::new(alloc, new_passes(alloc, expr, room, steps)?)?),
+            Some(form) => SearchMethod::Direct(expr.copy(alloc)?, form),
+            None => SearchMethod::Passes(Box::new(alloc, new_passes(alloc, expr, room, steps)?)?),
         };
         Ok(TableMatcher { engine })
     }
@@ -153,8 +153,8 @@ impl TableMatcher {
     /// How many bytes its own tables take at most, with the one for all occurrences in a text.
     pub fn size_of_tables(&self) -> usize {
         match &self.engine {
-            Engine::Direct(_, _) => 0,
-            Engine::Passes(passes) => passes.size_of_tables(),
+            SearchMethod::Direct(_, _) => 0,
+            SearchMethod::Passes(passes) => passes.size_of_tables(),
         }
     }
 
@@ -163,8 +163,8 @@ impl TableMatcher {
         ensures { IfSome result (λ p. p.now.arena.expr ≡ self.now) }
     {
         match &self.engine {
-            Engine::Direct(_, _) => None,
-            Engine::Passes(passes) => match &passes.own {
+            SearchMethod::Direct(_, _) => None,
+            SearchMethod::Passes(passes) => match &passes.own {
                 None => None,
                 Some(_) => Some(&passes.sought.prepared),
             },
@@ -176,8 +176,8 @@ impl TableMatcher {
         ensures { result ≡ length self.now.nodes }
     {
         match &self.engine {
-            Engine::Direct(expr, _) => expr.nodes(),
-            Engine::Passes(passes) => passes.sought.prepared.nodes(),
+            SearchMethod::Direct(expr, _) => expr.nodes(),
+            SearchMethod::Passes(passes) => passes.sought.prepared.nodes(),
         }
     }
 
@@ -191,8 +191,8 @@ impl TableMatcher {
         ensures counts { IfSome result (λ k. TakesAtLeast steps.old steps.new k) }
     {
         match &self.engine {
-            Engine::Direct(_, form) => direct_candidate(form, text, steps),
-            Engine::Passes(passes) => candidate_by(&passes.sought, text, steps),
+            SearchMethod::Direct(_, form) => direct_candidate(form, text, steps),
+            SearchMethod::Passes(passes) => candidate_by(&passes.sought, text, steps),
         }
     }
 
@@ -210,12 +210,12 @@ impl TableMatcher {
         ensures scratch { scratch.new ≡ scratch.old }
         ensures matches { IsTrue result ↔ SomeFound (expression_tree self.old) text.now from }
         ensures computed { result ≡ is_some (leftmost_longest (expression_tree self.old) text.now from) }
-        ensures passes { IsTrue result → PassesOver (expression_tree self.old) text.now from steps.old steps.new }
+        ensures passes { IsTrue result → LooksPast (expression_tree self.old) text.now from steps.old steps.new }
         ensures cost { Takes steps.old steps.new (64 * length self.old.nodes * (length text.now + 1)) }
     {
         match &mut self.engine {
-            Engine::Direct(_, form) => direct_matches(form, text, from, steps),
-            Engine::Passes(passes) => matches_by(passes, text, from, &mut scratch.desk, steps),
+            SearchMethod::Direct(_, form) => direct_matches(form, text, from, steps),
+            SearchMethod::Passes(passes) => matches_by(passes, text, from, &mut scratch.desk, steps),
         }
     }
 
@@ -250,8 +250,8 @@ impl TableMatcher {
         ensures passes { CanEndEarly (expression_tree self.old) → IfSome result (λ f. TakesAtLeast steps.old steps.new (bytes_passed last f)) }
     {
         match &mut self.engine {
-            Engine::Direct(_, form) => next_direct(form, text, last, steps),
-            Engine::Passes(passes) => {
+            SearchMethod::Direct(_, form) => next_direct(form, text, last, steps),
+            SearchMethod::Passes(passes) => {
                 next_by_passes(passes, text, last, occurrences, &mut scratch.desk, steps)
             },
         }
@@ -272,7 +272,7 @@ impl TableMatcher {
         requires fits { FitInto (length text.now) (length self.old.nodes) scratch.old }
         ensures same { self.new ≡ self.old }
         ensures scratch { scratch.new ≡ scratch.old }
-        ensures groups { result ≡ report (expression_tree self.old) text.now start end }
+        ensures groups { result ≡ reported_groups (expression_tree self.old) text.now start end }
         ensures lies { (k : ℕ) → SpanIn (length text.now) (span_of result k) }
         ensures none_cost { self.old.groups ≡ 0 → steps.new ≡ steps.old }
         ensures cost { let m = length self.old.nodes in let n = length text.now in
@@ -284,11 +284,11 @@ impl TableMatcher {
     {
         let span = (start, end);
         match &mut self.engine {
-            Engine::Direct(expr, _) => {
+            SearchMethod::Direct(expr, _) => {
                 is_expression(expr);
                 whole_alone(span)
             }
-            Engine::Passes(passes) => groups_by(passes, text, span, &mut scratch.desk, steps),
+            SearchMethod::Passes(passes) => groups_by(passes, text, span, &mut scratch.desk, steps),
         }
     }
 }

@@ -3,7 +3,7 @@ use Rattle.std.proofs.Common.{◌≡◌, ℕ, ◌+◌, ◌*◌, ◌<◌, ◌≤�
 use Rattle.sedpass.proofs.Words.{from_bool, get_or-set_same, get_or-set_other, cases_eq, same_Some}
 use Rattle.std.proofs.lemmas.Bool.Decides.{same_from_decides}
 use Rattle.sedre.specs.Sets.{has}
-use Rattle.sedpass.specs.Classes.{IsNumbering, IsGiven, IsFiner}
+use Rattle.sedpass.specs.Classes.{IsNumbering, IsNumbered, IsFiner}
 
 abbrev at : List ℕ → ℕ → ℕ
 at xs k = slice_index_or xs k 0
@@ -20,7 +20,7 @@ bit_low false = omega arith
 abbrev pub AreGiven : (ℕ → ℕ) → List ℕ → List ℕ → ℕ → ℕ → Type 0
 AreGiven key numbers of count n = (b : ℕ) → b < n → (key b < 512) × (at of b ≡ at numbers (key b)) × (at of b < count)
 
-pub given_more : (key : ℕ → ℕ) (numbers of after of' : List ℕ) (count next byte k : ℕ) → byte < length of → k ≡ key byte → k < 512 → IsGiven numbers k count after next → of' ≡ slice_set of byte (at after k) →
+pub given_more : (key : ℕ → ℕ) (numbers of after of' : List ℕ) (count next byte k : ℕ) → byte < length of → k ≡ key byte → k < 512 → IsNumbered numbers k count after next → of' ≡ slice_set of byte (at after k) →
     AreGiven key numbers of count byte → AreGiven key after of' next (byte + 1)
 given_more key numbers of after of' count next byte k inside is small given set old b less =
     ⊎_elim

@@ -1,12 +1,12 @@
 -- The groups that are told to be due, as the state of a decision; what nodes and regions cost.
 use Rattle.std.proofs.Common.{◌≡◌, ℕ, zero, suc, ◌+◌, ◌-◌, ◌*◌, ◌<◌, ◌≤◌, ◌↔◌, ◌&&◌, not, Bool, true, false, List, [], ◌∷◌, length, Option, None, Some, IsTrue, refl, sym, ap, ◌∙◌, subst, inl, inr, ⊎_elim, true≢false, arith, mul-le-mul_left, IfSome, eqb, nat_lt, slice_get, slice_set, slice_index_or, vec_capacity}
 use Rattle.sedpass.proofs.Words.{bit_at, and_parts, and_from, cases_Bool, cases_lt, lt-ltb, le-ltb, cond_some, ext_get_or, length-set, mul-le-mul_right, Tree, WrittenExpression, tree_at, expression_tree, IsArena, IsExpr, IsPart, AreRanges, Takes, Node, NodeId, Set, Seq, Group, Star, tree_at-node, LastCut, LastCopy, CostsWithin, Groups, At, one_start, CopiesLead, node_at, close_at, Matches-forward, GroupSet, Matched, Kept, Region, Subject, Facts, Table}
-use Rattle.sedpass.specs.Decide.{found, undecided, HasAll, flags_of, told_of, EndsRegion, IsAtEnd, IsDesk, HasDesk, IsSetAt, AreGroupTables, HasSpace, SameTables, KeepsDesk, part_cost, nodes_in, text_in, Blank, Stands}
-use Rattle.sedpass.specs.Kept.{AllMarked, SameKept, SameSpace, ends_told, owed, KeepsRegion}
-use Rattle.sedpass.specs.Prepared.{IsFacts, is_set, run_of, reported, holds, AllLong}
+use Rattle.sedpass.specs.Decide.{spans_in, undecided, HasAll, flags_of, told_of, EndsRegion, IsAtEnd, IsGroupDesk, HasDesk, IsSetAt, AreGroupTables, HasSpace, SameTables, KeepsGroupDesk, part_cost, nodes_in, subject_text, Blank, NodeMatches}
+use Rattle.sedpass.specs.Kept.{AllMarked, SameKept, SameSpace, ends_told, owed_region, KeepsRegion}
+use Rattle.sedpass.specs.Prepared.{IsFacts, is_one_set, repeated_set, reported, holds, AllLong}
 use Rattle.sedpass.specs.Regions.{CeasesAt, IsLastIn, NextCopy, ReachesEnd, IsRunOf, repeated, in_group}
 use Rattle.sedpass.specs.Table.{IsTable, SameShape, MayBegin}
-use Rattle.sedpass.specs.Walks.{settle, drop_groups, GroupStandsIn, NoneDue, IsStart, has_group}
+use Rattle.sedpass.specs.Walks.{settle, drop_groups, GroupStandsIn, NoneDue, IsFirstState, has_group}
 use Rattle.sedpass.specs.declared.groups.GroupRoom.{GroupRoom}
 use Rattle.sedpass.specs.declared.groups.GroupTables.{GroupTables}
 use Rattle.sedpass.proofs.KeptLemmas.{same_shape, space_same, space_then}
@@ -84,7 +84,7 @@ all_told e root facts last is k low high has =
     ∙ and_from (reported k) (has_group (tree_at e.nodes root) k) (and_from (nat_lt 0 k) (nat_lt k 10) (lt-ltb 0 k (omega arith)) (lt-ltb k 10 high))
     (subst (λ x. GroupStandsIn (tree_at e.nodes x) k) same has)
 
-pub starts_due : (e : Tree) (i j : ℕ) (due : GroupSet) → holds due 0 ≡ false → HasAll due e → IsStart e i j (told_of due (undecided i j))
+pub starts_due : (e : Tree) (i j : ℕ) (due : GroupSet) → holds due 0 ≡ false → HasAll due e → IsFirstState e i j (told_of due (undecided i j))
 starts_due e i j due whole all = record {
   whole = whole;
   each = λ k low high has. flags_at due k ∙ all k low high has;
@@ -92,7 +92,7 @@ starts_due e i j due whole all = record {
 }
 
 -- a span more
-pub found_set : (g : Groups) (k : ℕ) (v : Option (ℕ × ℕ)) → found (slice_set g k v) ≤ found g + 1
+pub found_set : (g : Groups) (k : ℕ) (v : Option (ℕ × ℕ)) → spans_in (slice_set g k v) ≤ spans_in g + 1
 found_set [] k v = omega arith
 found_set (None ∷ g) zero None = omega arith
 found_set (None ∷ g) zero (Some u) = omega arith
@@ -108,10 +108,10 @@ starts_blank i j due whole (suc k) is = same_all None 9 k
 -- Places.
 
 -- a cut of a null string
-pub null_cut : (s : Subject) (here : Matched) (a b : NodeId) → Stands s here (Seq a b) → here.start ≡ here.stop → LastCut (At (nodes_in s) (text_in s) a.index) (At (nodes_in s) (text_in s) b.index) here.start here.stop here.start
+pub null_cut : (s : Subject) (here : Matched) (a b : NodeId) → NodeMatches s here (Seq a b) → here.start ≡ here.stop → LastCut (At (nodes_in s) (subject_text s) a.index) (At (nodes_in s) (subject_text s) b.index) here.start here.stop here.start
 null_cut s here a b stands same =
     let nodes = nodes_in s in
-    let w = text_in s in
+    let w = subject_text s in
     let parts = opened s here (Seq a b) stands in
     let up = Matches-forward (tree_at nodes a.index) w here.start parts.0 parts.1 in
     let on = Matches-forward (tree_at nodes b.index) w parts.0 here.stop parts.2 in
@@ -127,65 +127,65 @@ long_at : (nodes : List Node) (w : List ℕ) (x c n : ℕ) (facts : Facts) → x
 long_at nodes w x c n facts same is told = subst (λ v. AllLong (At nodes w v) n) same (all_long (tree_at nodes x) w n (sym is.long ∙ told))
 
 -- it decides a cut, of the left part or of the right one, and a copy
-pub left_fixed : (s : Subject) (here : Matched) (a b : NodeId) (x n : ℕ) (facts : Facts) → Stands s here (Seq a b) → x ≡ a.index → IsFacts (tree_at (nodes_in s) x) x facts → facts.length ≡ Some n →
-    (here.start + n ≤ length (text_in s)) × LastCut (At (nodes_in s) (text_in s) a.index) (At (nodes_in s) (text_in s) b.index) here.start here.stop (here.start + n)
+pub left_fixed : (s : Subject) (here : Matched) (a b : NodeId) (x n : ℕ) (facts : Facts) → NodeMatches s here (Seq a b) → x ≡ a.index → IsFacts (tree_at (nodes_in s) x) x facts → facts.length ≡ Some n →
+    (here.start + n ≤ length (subject_text s)) × LastCut (At (nodes_in s) (subject_text s) a.index) (At (nodes_in s) (subject_text s) b.index) here.start here.stop (here.start + n)
 left_fixed s here a b x n facts stands same is told =
     let parts = opened s here (Seq a b) stands in
-    let long = long_at (nodes_in s) (text_in s) x a.index n facts same is told in
-    let on = Matches-forward (tree_at (nodes_in s) b.index) (text_in s) parts.0 here.stop parts.2 in
-    (omega (arith, long here.start parts.0 parts.1, on, stands.there.fits), left_long (At (nodes_in s) (text_in s) a.index) (At (nodes_in s) (text_in s) b.index) here.start here.stop n parts long)
+    let long = long_at (nodes_in s) (subject_text s) x a.index n facts same is told in
+    let on = Matches-forward (tree_at (nodes_in s) b.index) (subject_text s) parts.0 here.stop parts.2 in
+    (omega (arith, long here.start parts.0 parts.1, on, stands.there.fits), left_long (At (nodes_in s) (subject_text s) a.index) (At (nodes_in s) (subject_text s) b.index) here.start here.stop n parts long)
 
-pub right_fixed : (s : Subject) (here : Matched) (a b : NodeId) (x n : ℕ) (facts : Facts) → Stands s here (Seq a b) → x ≡ b.index → IsFacts (tree_at (nodes_in s) x) x facts → facts.length ≡ Some n →
-    (n ≤ here.stop) × LastCut (At (nodes_in s) (text_in s) a.index) (At (nodes_in s) (text_in s) b.index) here.start here.stop (here.stop - n)
+pub right_fixed : (s : Subject) (here : Matched) (a b : NodeId) (x n : ℕ) (facts : Facts) → NodeMatches s here (Seq a b) → x ≡ b.index → IsFacts (tree_at (nodes_in s) x) x facts → facts.length ≡ Some n →
+    (n ≤ here.stop) × LastCut (At (nodes_in s) (subject_text s) a.index) (At (nodes_in s) (subject_text s) b.index) here.start here.stop (here.stop - n)
 right_fixed s here a b x n facts stands same is told =
     let parts = opened s here (Seq a b) stands in
-    let long = long_at (nodes_in s) (text_in s) x b.index n facts same is told in
-    (omega (arith, long parts.0 here.stop parts.2), right_long (At (nodes_in s) (text_in s) a.index) (At (nodes_in s) (text_in s) b.index) here.start here.stop n parts long)
+    let long = long_at (nodes_in s) (subject_text s) x b.index n facts same is told in
+    (omega (arith, long parts.0 here.stop parts.2), right_long (At (nodes_in s) (subject_text s) a.index) (At (nodes_in s) (subject_text s) b.index) here.start here.stop n parts long)
 
-pub copy_fixed : (s : Subject) (here : Matched) (a : NodeId) (first : Bool) (x n : ℕ) (facts : Facts) → Stands s here (Star a first) → here.start < here.stop → x ≡ a.index → IsFacts (tree_at (nodes_in s) x) x facts →
-    facts.length ≡ Some n → (n ≤ here.stop) × LastCopy (At (nodes_in s) (text_in s) a.index) here.stop here.start (here.stop - n)
+pub copy_fixed : (s : Subject) (here : Matched) (a : NodeId) (first : Bool) (x n : ℕ) (facts : Facts) → NodeMatches s here (Star a first) → here.start < here.stop → x ≡ a.index → IsFacts (tree_at (nodes_in s) x) x facts →
+    facts.length ≡ Some n → (n ≤ here.stop) × LastCopy (At (nodes_in s) (subject_text s) a.index) here.stop here.start (here.stop - n)
 copy_fixed s here a first x n facts stands some same is told =
-    let long = long_at (nodes_in s) (text_in s) x a.index n facts same is told in
-    let last = copies_long (At (nodes_in s) (text_in s) a.index) here.stop n long here.start some (opened s here (Star a first) stands) in
-    let copy = copy_spans (At (nodes_in s) (text_in s) a.index) here.stop here.start (here.stop - n) last in
+    let long = long_at (nodes_in s) (subject_text s) x a.index n facts same is told in
+    let last = copies_long (At (nodes_in s) (subject_text s) a.index) here.stop n long here.start some (opened s here (Star a first) stands) in
+    let copy = copy_spans (At (nodes_in s) (subject_text s) a.index) here.stop here.start (here.stop - n) last in
     (omega (arith, long (here.stop - n) here.stop copy.2), last)
 
 -- a part of the node is no later than the region's
-pub part_low : (s : Subject) (r : Region) (here : Matched) (node : Node) (c : ℕ) → Stands s here node → EndsRegion s r here → IsPart node c → c ≤ r.root
+pub part_low : (s : Subject) (r : Region) (here : Matched) (node : Node) (c : ℕ) → NodeMatches s here node → EndsRegion s r here → IsPart node c → c ≤ r.root
 part_low s r here node c stands ends part =
     let below = stands.arena.below here.node c node stands.is part in
-    let inside = last_inside (nodes_in s) (text_in s) r.root (one_start 0) stands.arena here.node ends.0 in
+    let inside = last_inside (nodes_in s) (subject_text s) r.root (one_start 0) stands.arena here.node ends.0 in
     omega arith
 
 -- Runs.
 
-is_set_at : (nodes : List Node) → IsArena nodes → (x : ℕ) → x < length nodes → is_set (tree_at nodes x) ≡ true → IsSetAt nodes x
+is_set_at : (nodes : List Node) → IsArena nodes → (x : ℕ) → x < length nodes → is_one_set (tree_at nodes x) ≡ true → IsSetAt nodes x
 is_set_at nodes arena x inside = let there = node_at nodes x inside in by there.0 there.1
   where
-    by : (n : Node) → slice_get nodes x ≡ Some n → is_set (tree_at nodes x) ≡ true → IsSetAt nodes x
+    by : (n : Node) → slice_get nodes x ≡ Some n → is_one_set (tree_at nodes x) ≡ true → IsSetAt nodes x
     by (Set members) is = λ h. (members, is)
     by other is = rw (tree_at-node nodes x other arena is) (λ h. absurd (true≢false (sym h)))
 
 abbrev IsRun : List Node → ℕ → ℕ → Type 0
 IsRun nodes x c = IsRunOf nodes c x × IsSetAt nodes c
 
-run_within : (n : ℕ) (nodes : List Node) → IsArena nodes → AreRanges nodes → (x c : ℕ) → x < n → x < length nodes → run_of (tree_at nodes x) x ≡ Some c → IsRun nodes x c
+run_within : (n : ℕ) (nodes : List Node) → IsArena nodes → AreRanges nodes → (x c : ℕ) → x < n → x < length nodes → repeated_set (tree_at nodes x) x ≡ Some c → IsRun nodes x c
 run_within zero nodes arena ranges x c low inside told = absurd (omega arith)
 run_within (suc n) nodes arena ranges x c low inside told =
     let there = node_at nodes x inside in
     by (λ y less. run_within n nodes arena ranges y c (omega arith) (omega arith)) there.0 there.1 told
   where
-    by : ((y : ℕ) → y < x → run_of (tree_at nodes y) y ≡ Some c → IsRun nodes y c) → (m : Node) → slice_get nodes x ≡ Some m → run_of (tree_at nodes x) x ≡ Some c → IsRun nodes x c
+    by : ((y : ℕ) → y < x → repeated_set (tree_at nodes y) y ≡ Some c → IsRun nodes y c) → (m : Node) → slice_get nodes x ≡ Some m → repeated_set (tree_at nodes x) x ≡ Some c → IsRun nodes x c
     by below (Group k a) is =
         let next : a.index + 1 ≡ x = ranges x (Group k a) is in
         let before : x - 1 ≡ a.index = omega arith in
         rw (tree_at-node nodes x (Group k a) arena is) (λ h.
-        let inner = below a.index (omega arith) (subst (λ v. run_of (tree_at nodes a.index) v ≡ Some c) before h) in
+        let inner = below a.index (omega arith) (subst (λ v. repeated_set (tree_at nodes a.index) v ≡ Some c) before h) in
         (in_group x k a is inner.0, inner.1))
     by below (Star a first) is =
         let next : a.index + 1 ≡ x = ranges x (Star a first) is in
         rw (tree_at-node nodes x (Star a first) arena is) (λ h.
-        let both = cond_some (is_set (tree_at nodes a.index)) (x - 1) c h in
+        let both = cond_some (is_one_set (tree_at nodes a.index)) (x - 1) c h in
         let at = both.1 in
         let here : a.index ≡ c = omega arith in
         (repeated x (a, first, is, here), subst (IsSetAt nodes) here (is_set_at nodes arena a.index (omega arith) both.0)))
@@ -200,27 +200,27 @@ run_told nodes groups x facts (Some c) expr inside is told = run_within (x + 1) 
 
 -- the match ends at the one end that a kept pass tells of
 pub ends_there : (s : Subject) (tables : GroupTables) (kept : Kept) (here : Matched) (node : Node) → IsAtEnd s tables kept here node →
-    ends_told tables.inside.way.all_starts (length (text_in s)) kept.region.end ≡ one_start here.stop
+    ends_told tables.inside.way.all_starts (length (subject_text s)) kept.region.end ≡ one_start here.stop
 ends_there s tables kept here node at = rw at.desk.one_end (ap one_start (sym at.ends.1))
 
 -- where a pass over the left part ceases to meet the kept one is the cut
 pub cut_ceases : (s : Subject) (tables : GroupTables) (kept : Kept) (here : Matched) (a b : NodeId) (p : ℕ) → IsAtEnd s tables kept here (Seq a b) →
-    CeasesAt (nodes_in s) (text_in s) kept.region.root (ends_told tables.inside.way.all_starts (length (text_in s)) kept.region.end) a.index here.start p →
-    LastCut (At (nodes_in s) (text_in s) a.index) (At (nodes_in s) (text_in s) b.index) here.start here.stop p
+    CeasesAt (nodes_in s) (subject_text s) kept.region.root (ends_told tables.inside.way.all_starts (length (subject_text s)) kept.region.end) a.index here.start p →
+    LastCut (At (nodes_in s) (subject_text s) a.index) (At (nodes_in s) (subject_text s) b.index) here.start here.stop p
 cut_ceases s tables kept here a b p at ceases =
     let stands = at.stands in
-    stops_at_cut (nodes_in s) (text_in s) kept.region.root here.stop here.node a b stands.arena at.ends.0 stands.is here.start p stands.there.at
-    (subst (λ t. CeasesAt (nodes_in s) (text_in s) kept.region.root t a.index here.start p) (ends_there s tables kept here (Seq a b) at) ceases)
+    stops_at_cut (nodes_in s) (subject_text s) kept.region.root here.stop here.node a b stands.arena at.ends.0 stands.is here.start p stands.there.at
+    (subst (λ t. CeasesAt (nodes_in s) (subject_text s) kept.region.root t a.index here.start p) (ends_there s tables kept here (Seq a b) at) ceases)
 
 -- so is the end of a run, where the left part is one
 pub cut_runs : (s : Subject) (tables : GroupTables) (kept : Kept) (here : Matched) (a b : NodeId) (leaf p : ℕ) → IsAtEnd s tables kept here (Seq a b) → IsRunOf (nodes_in s) leaf a.index → IsSetAt (nodes_in s) leaf →
-    here.start ≤ p → AllMarked (nodes_in s) (text_in s) kept.region.root (ends_told tables.inside.way.all_starts (length (text_in s)) kept.region.end) leaf true here.start p →
-    (p < kept.region.end → IsTrue false ↔ ReachesEnd (nodes_in s) (text_in s) kept.region.root (ends_told tables.inside.way.all_starts (length (text_in s)) kept.region.end) leaf p) →
-    LastCut (At (nodes_in s) (text_in s) a.index) (At (nodes_in s) (text_in s) b.index) here.start here.stop p
+    here.start ≤ p → AllMarked (nodes_in s) (subject_text s) kept.region.root (ends_told tables.inside.way.all_starts (length (subject_text s)) kept.region.end) leaf true here.start p →
+    (p < kept.region.end → IsTrue false ↔ ReachesEnd (nodes_in s) (subject_text s) kept.region.root (ends_told tables.inside.way.all_starts (length (subject_text s)) kept.region.end) leaf p) →
+    LastCut (At (nodes_in s) (subject_text s) a.index) (At (nodes_in s) (subject_text s) b.index) here.start here.stop p
 cut_runs s tables kept here a b leaf p at run a_set up passed found =
     let stands = at.stands in
     let nodes = nodes_in s in
-    let w = text_in s in
+    let w = subject_text s in
     let r = kept.region.root in
     let there = ends_there s tables kept here (Seq a b) at in
     let all = subst (λ t. AllMarked nodes w r t leaf true here.start p) there passed in
@@ -232,14 +232,14 @@ cut_runs s tables kept here a b leaf p at run a_set up passed found =
 
 -- where a pass over the part of a repetition ceases to meet the kept one is the end of the next copy
 pub copy_ceases : (s : Subject) (tables : GroupTables) (kept : Kept) (here : Matched) (a : NodeId) (first : Bool) (i p : ℕ) → IsAtEnd s tables kept here (Star a first) →
-    CopiesLead (At (nodes_in s) (text_in s) a.index) here.stop i → i < here.stop →
-    CeasesAt (nodes_in s) (text_in s) kept.region.root (ends_told tables.inside.way.all_starts (length (text_in s)) kept.region.end) a.index i p →
-    NextCopy (At (nodes_in s) (text_in s) a.index) i here.stop p
+    CopiesLead (At (nodes_in s) (subject_text s) a.index) here.stop i → i < here.stop →
+    CeasesAt (nodes_in s) (subject_text s) kept.region.root (ends_told tables.inside.way.all_starts (length (subject_text s)) kept.region.end) a.index i p →
+    NextCopy (At (nodes_in s) (subject_text s) a.index) i here.stop p
 copy_ceases s tables kept here a first i p at copies lt ceases =
     let stands = at.stands in
-    stops_at_copy (nodes_in s) (text_in s) kept.region.root here.stop here.node a first stands.arena at.ends.0 stands.is i p
-    (close_at (nodes_in s) (text_in s) here.node (Star a first) stands.arena stands.is i here.stop copies) lt
-    (subst (λ t. CeasesAt (nodes_in s) (text_in s) kept.region.root t a.index i p) (ends_there s tables kept here (Star a first) at) ceases)
+    stops_at_copy (nodes_in s) (subject_text s) kept.region.root here.stop here.node a first stands.arena at.ends.0 stands.is i p
+    (close_at (nodes_in s) (subject_text s) here.node (Star a first) stands.arena stands.is i here.stop copies) lt
+    (subst (λ t. CeasesAt (nodes_in s) (subject_text s) kept.region.root t a.index i p) (ends_there s tables kept here (Star a first) at) ceases)
 
 -- the region is the same
 pub ends_still : (s : Subject) (old new : Kept) (here : Matched) → SameKept old new → EndsRegion s old.region here → EndsRegion s new.region here
@@ -253,15 +253,15 @@ tables_same t = record { inside = (refl, refl, refl, refl, refl); ahead = (refl,
 pub tables_then : (a b c : GroupTables) → SameTables a b → SameTables b c → SameTables a c
 tables_then a b c one two = record { inside = same_shape a.inside b.inside c.inside one.inside two.inside; ahead = same_shape a.ahead b.ahead c.ahead one.ahead two.ahead }
 
-pub desk_same : (s : Subject) (t : GroupTables) (k : Kept) → IsDesk s t k → KeepsDesk s t t k k
+pub desk_same : (s : Subject) (t : GroupTables) (k : Kept) → IsGroupDesk s t k → KeepsGroupDesk s t t k k
 desk_same s t k desk = record { desk = desk; shape = tables_same t; space = space_same k }
 
-pub desk_then : (s : Subject) (a b c : GroupTables) (k l m : Kept) → KeepsDesk s a b k l → KeepsDesk s b c l m → KeepsDesk s a c k m
+pub desk_then : (s : Subject) (a b c : GroupTables) (k l m : Kept) → KeepsGroupDesk s a b k l → KeepsGroupDesk s b c l m → KeepsGroupDesk s a c k m
 desk_then s a b c k l m one two = record { desk = two.desk; shape = tables_then a b c one.shape two.shape; space = space_then k l m one.space two.space }
 
 -- after passes of both tables
-pub desk_ahead : (s : Subject) (t : GroupTables) (inside ahead : Table) (old new : Kept) → IsDesk s t old → KeepsRegion s.prepared.now s.text.now t.inside inside old new → IsTable s.prepared.now ahead → SameShape t.ahead ahead →
-    KeepsDesk s t (record { ahead = ahead; inside = inside }) old new
+pub desk_ahead : (s : Subject) (t : GroupTables) (inside ahead : Table) (old new : Kept) → IsGroupDesk s t old → KeepsRegion s.prepared.now s.text.now t.inside inside old new → IsTable s.prepared.now ahead → SameShape t.ahead ahead →
+    KeepsGroupDesk s t (record { ahead = ahead; inside = inside }) old new
 desk_ahead s t inside ahead old new desk keeps table same = record {
   desk = record { region = keeps.kept; one_end = ap (λ v. v.all_starts) keeps.shape.0 ∙ desk.one_end; ahead = ahead_still s.prepared.now t.ahead ahead desk.ahead table same };
   shape = record { inside = keeps.shape; ahead = same };
@@ -275,9 +275,9 @@ may_begin s tables x one_end inside = (inside, λ all_starts. absurd (true≢fal
 -- Costs.
 
 -- looks into a region from where the match begins that ends with it
-pub owed_here : (s : Subject) (r : Region) (here : Matched) → EndsRegion s r here → owed (length (nodes_in s)) r here.start ≤ 100 * length (nodes_in s) * (here.stop - here.start)
+pub owed_here : (s : Subject) (r : Region) (here : Matched) → EndsRegion s r here → owed_region (length (nodes_in s)) r here.start ≤ 100 * length (nodes_in s) * (here.stop - here.start)
 owed_here s r here ends =
-    subst (λ v. owed (length (nodes_in s)) r here.start ≤ 100 * length (nodes_in s) * (v - here.start)) (sym ends.1) (owed_small (length (nodes_in s)) r here.start)
+    subst (λ v. owed_region (length (nodes_in s)) r here.start ≤ 100 * length (nodes_in s) * (v - here.start)) (sym ends.1) (owed_small (length (nodes_in s)) r here.start)
 
 -- a pass ahead up to a place, from where a match of so many bytes begins
 pub meet_paid : (m s t o o' i k long : ℕ) → 1 ≤ long → k ≤ i + long → o ≤ 100 * m * long → t + (o' + 36 * m * i) ≤ s + (o + 36 * m * (k + 1)) → t ≤ s + 172 * m * long
@@ -303,7 +303,7 @@ copy_pays m s t o o' i k j up on pays =
     (copy_part m s t o o' i (k - (i + 1)) (j - k) (subst (λ v. t + (o' + 36 * m * i) ≤ s + (o + 36 * m * (v + 1))) (sym whole) pays))
 
 -- a look at one place, where the match begins
-pub look_paid : (s : Subject) (r : Region) (here : Matched) (before after left : ℕ) → EndsRegion s r here → CostsWithin before after (owed (length (nodes_in s)) r here.start + 1) left →
+pub look_paid : (s : Subject) (r : Region) (here : Matched) (before after left : ℕ) → EndsRegion s r here → CostsWithin before after (owed_region (length (nodes_in s)) r here.start + 1) left →
     Takes before after (part_cost (length (nodes_in s)) (here.stop - here.start) + 1)
 look_paid s r here before after left ends paid = (paid.0, look_long (length (nodes_in s)) (here.stop - here.start) before after _ left (owed_here s r here ends) paid.1)
   where
@@ -314,7 +314,7 @@ look_paid s r here before after left ends paid = (paid.0, look_long (length (nod
 
 -- where there is room, groups can be decided
 pub has_desk : (s : Subject) (t : GroupTables) (r : GroupRoom) (text blocks nodes : ℕ) → AreGroupTables s.prepared.now t → HasSpace text blocks nodes r →
-    length (text_in s) ≤ text → length (text_in s) < blocks * (t.inside.room - 1) → length (nodes_in s) ≤ nodes → HasDesk s t r.kept
+    length (subject_text s) ≤ text → length (subject_text s) < blocks * (t.inside.room - 1) → length (nodes_in s) ≤ nodes → HasDesk s t r.kept
 has_desk s t r text blocks nodes tables space short cut few = record {
   inside = tables.inside;
   places = record {

@@ -1,11 +1,11 @@
 -- What is told of each node once, and what it means for passes.
 use Rattle.std.proofs.Common.{◌≡◌, ℕ, zero, suc, ◌+◌, ◌*◌, ◌<◌, ◌≤◌, ◌⊎◌, ◌↔◌, Bool, true, false, ◌&&◌, List, [], ◌∷◌, ◌++◌, length, Option, Some, None, IsTrue, refl, sym, ap, ◌∙◌, subst, inl, inr, ⊎_elim, true≢false, arith, min, max, bit_and, bit_or, ◌||◌, slice_get, eqb}
-use Rattle.sedpass.proofs.Words.{bit_at, from_bool, option_eq, bit_at_and, bit_at_or, bit_at-lt, cases_lt, same_Some, slice_get_cases, none-some, size, IsArena, IsExpr, IsPart, FollowsParts, HasTwoParts, GroupsWithin, mirror, seen, Node, NodeId, Seq, Alt, Group, Star, Opt, Empty, Set, tree_at-node, tree_at-mirror, seen-length, Matches, no_copy, IsPlace, Matches-forward, node_at, Facts, Kind, either-iff, both-iff}
+use Rattle.sedpass.proofs.Words.{bit_at, from_bool, option_eq, bit_at_and, bit_at_or, bit_at-lt, cases_lt, same_Some, slice_get_cases, none-some, size, IsArena, IsExpr, IsPart, FollowsParts, HasTwoParts, GroupsWithin, mirror, seen, Node, NodeId, Seq, Alt, Group, Star, Opt, Empty, Set, tree_at-node, tree_at-mirror, seen-length, Matches, no_copy, IsPlace, Matches-forward, node_at, Facts, PlaceKind, either-iff, both-iff}
 use Rattle.sedre.specs.Tree.{Tree, empty, set, begin, end, seq, alt, group, star, opt, WrittenExpression, tree_of, tree_at, tree_within}
 use Rattle.sedre.proofs.Written.{size_positive}
 use Rattle.sedpass.specs.Classes.{AreClasses, HaveSets}
-use Rattle.sedpass.specs.Prepared.{nullable, null_in, null_at, is_set, IsFacts, AreFacts, IsOfEachKind, IsShort, SameNulls, length_of, IsPrepared}
-use Rattle.sedpass.specs.Rows.{at_begin, at_end, InTree, IsNodeRange, AreNull}
+use Rattle.sedpass.specs.Prepared.{nullable, null_in, null_at, is_one_set, IsFacts, AreFacts, IsOfEachKind, IsShort, SameNulls, length_of, IsPrepared}
+use Rattle.sedpass.specs.Rows.{at_begin, at_edge, InTree, IsNodeRange, AreNull}
 use Rattle.sedpass.proofs.LengthLemmas.{sum_parts, same_parts}
 use Rattle.sedpass.proofs.RowLemmas.{not_true, range_of, mirror_range}
 use Rattle.sedpass.proofs.GroupSetLemmas.{two_bits}
@@ -57,7 +57,7 @@ nullable_mirror first last (group k a) = nullable_mirror first last a
 nullable_mirror first last other = refl
 
 -- so what is told of a node serves both ways
-pub null_tells : (mirrored : Bool) (e : WrittenExpression) (kind : Kind) (w : List ℕ) (p : ℕ) → IsPlace w p (at_begin mirrored kind) (at_end mirrored kind) →
+pub null_tells : (mirrored : Bool) (e : WrittenExpression) (kind : PlaceKind) (w : List ℕ) (p : ℕ) → IsPlace w p (at_begin mirrored kind) (at_edge mirrored kind) →
     AreNull (seen mirrored e).nodes w p (null_in e.nodes kind)
 null_tells false e kind w p there c low = nullable_is w p kind.begin kind.end there (tree_at e.nodes c)
 null_tells true e kind w p there c low =
@@ -66,7 +66,7 @@ null_tells true e kind w p there c low =
     rw (← same) (nullable_is w p kind.end kind.begin there (tree_at (seen true e).nodes c))
 
 -- where no node tells a kind from another, each place will do
-pub null_anywhere : (mirrored : Bool) (e : WrittenExpression) (kind : Kind) → SameNulls e.nodes →
+pub null_anywhere : (mirrored : Bool) (e : WrittenExpression) (kind : PlaceKind) → SameNulls e.nodes →
     (w : List ℕ) (p : ℕ) (first last : Bool) → IsPlace w p first last → AreNull (seen mirrored e).nodes w p (null_in e.nodes kind)
 null_anywhere false e kind same w p first last there c low =
     rw (same c kind.begin kind.end low ∙ sym (same c first last low)) (null_tells false e (record { begin = first; end = last }) w p there c low)
@@ -139,14 +139,14 @@ inside_seen mirrored e x inside = subst (λ n. x < n) (sym (seen-length mirrored
 -- what is told of a node, by what is told of its parts
 
 -- a node without parts whose matches have one byte is a set
-set_by : (t : Tree) → size t ≡ 1 → option_eq eqb (length_of t) (Some 1) ≡ true → is_set t ≡ true
+set_by : (t : Tree) → size t ≡ 1 → option_eq eqb (length_of t) (Some 1) ≡ true → is_one_set t ≡ true
 set_by (set members) small long = refl
 set_by (seq a b) small long = absurd (omega (arith, small, size_positive a))
 set_by (alt a b) small long = absurd (omega (arith, small, size_positive a))
 set_by (group k a) small long = absurd (omega (arith, small, size_positive a))
 set_by other small long = absurd (true≢false (sym long))
 
-pub told_set : (a : Tree) (x : ℕ) (part : Facts) → IsFacts a x part → part.low ≡ x → option_eq eqb part.length (Some 1) ≡ true → is_set a ≡ true
+pub told_set : (a : Tree) (x : ℕ) (part : Facts) → IsFacts a x part → part.low ≡ x → option_eq eqb part.length (Some 1) ≡ true → is_one_set a ≡ true
 told_set a x part told low long = let size_is = told.low in set_by a (omega arith) (rw (← told.long) long)
 
 -- an expression has no longer matches of one length than nodes

@@ -1,10 +1,10 @@
 -- Passes for the whole expression.
 use Rattle.std.proofs.Common.{inl, inr, ◌≡◌, ℕ, ◌+◌, ◌-◌, ◌*◌, ◌/◌, ◌^◌, ◌<◌, ◌≤◌, ◌⊎◌, ◌↔◌, Bool, true, false, not, ◌&&◌, ◌||◌, List, length, Option, Some, None, IsTrue, refl, sym, ap, ◌∙◌, subst, ⊎_elim, true≢false, arith, mul-le-mul_left, min, slice_get, is_some, IfSome}
 use Rattle.std.specs.Bool.{then_some}
-use Rattle.sedpass.proofs.Words.{option_or, cases_lt, cases_Bool, both_ways, slice_get_within, IsArena, expression_tree, tree_at, Tree, seen, Node, Starts, TakesAtLeast, PassesOver, byte_is_in, At, IsStart, SomeSpan, IsLongestFrom, Matches, SomeFound, Matches-forward, Matches-within, IsPlace, Flags, Kind, Prepared, Way, Table, Passed, seen-arena, seen-length, least_less, least_since, least_both}
-use Rattle.sedpass.specs.Rows.{nodes_of, at_begin, at_end, RowOfPlace}
-use Rattle.sedpass.specs.Table.{State, state_of, IsTold, StateAt, LeadsOn, BeginsIn, Names, IsTable, IsAhead, IsSweep, SameShape, stops, code_of}
-use Rattle.sedpass.specs.Forwards.{starts_of, LastBelow, IsEnd, Arrives, EndsBelow, PassIs}
+use Rattle.sedpass.proofs.Words.{option_or, cases_lt, cases_Bool, both_ways, slice_get_within, IsArena, expression_tree, tree_at, Tree, seen, Node, Starts, TakesAtLeast, LooksPast, byte_is_in, At, IsStart, SomeSpan, IsLongestFrom, Matches, SomeFound, Matches-forward, Matches-within, IsPlace, StateFlags, PlaceKind, Prepared, Way, Table, Passed, seen-arena, seen-length, least_less, least_since, least_both}
+use Rattle.sedpass.specs.Rows.{nodes_of, at_begin, at_edge, RowOfPlace}
+use Rattle.sedpass.specs.Table.{PassState, state_of, FlagsShow, StateAt, LeadsOn, BeginsIn, NamesState, IsTable, IsAhead, IsSweep, SameShape, stops, code_of}
+use Rattle.sedpass.specs.Forwards.{starts_of, LastBelow, IsPassEnd, Arrives, EndsBelow, PassIs}
 use Rattle.sedpass.proofs.RowLemmas.{dead, row_root, row_empty}
 use Rattle.sedpass.proofs.TableLemmas.{names_state, names_offset, names_code, names_small, names_map}
 
@@ -35,7 +35,7 @@ module _ (nodes : List Node) (w : List ℕ) (r : ℕ) (s : Starts) where
   last_here n some = (omega arith, some, λ k low h. omega arith)
 
   -- if none ends from n on, the last one below n is the last of all
-  all_below : (all_starts : Bool) (n : ℕ) (end : Option ℕ) → ((k : ℕ) → n ≤ k → SomeSpan nodes w r s k → ⊥) → LastBelow nodes w r s n end → IsEnd all_starts nodes w r s end
+  all_below : (all_starts : Bool) (n : ℕ) (end : Option ℕ) → ((k : ℕ) → n ≤ k → SomeSpan nodes w r s k → ⊥) → LastBelow nodes w r s n end → IsPassEnd all_starts nodes w r s end
   all_below all_starts n None none last = λ k some. ⊎_elim (λ (lt : k < n). last k lt some) (λ (ge : n ≤ k). none k ge some) (cases_lt k n)
   all_below all_starts n (Some j) none last = (last.1, λ e k some. ⊎_elim (λ (lt : k < n). last.2 k lt some) (λ (ge : n ≤ k). absurd (none k ge some)) (cases_lt k n))
 
@@ -76,14 +76,14 @@ swept_end false true false false e s is = absurd (true≢false (sym is))
 -- At a place: a code of its state.
 
 module _ (p : Prepared) (t : Table) (w : List ℕ) (start place code o : ℕ) (end : Option ℕ) (table : IsTable p t) (keeps : t.way.keeps ≡ false) (after : start ≤ place) (within : place ≤ length w)
-    (tells : (b : Bool) (u : ℕ) → u < 2147483647 → code ≡ code_of b u → o ≡ u) (n : Names (length p.arena.expr.nodes) t (Arrives p t.way w start place) code) (last : EndsBelow p t.way w start place end) where
+    (tells : (b : Bool) (u : ℕ) → u < 2147483647 → code ≡ code_of b u → o ≡ u) (n : NamesState (length p.arena.expr.nodes) t (Arrives p t.way w start place) code) (last : EndsBelow p t.way w start place end) where
   abbrev N : List Node
   N = nodes_of t.way p.arena.expr
 
   abbrev S : Starts
   S = starts_of t.way.all_starts start w
 
-  abbrev here : State
+  abbrev here : PassState
   here = state_of (length p.arena.expr.nodes) t (o / 2 ^ t.layout.shift)
 
   arena : IsArena N
@@ -92,7 +92,7 @@ module _ (p : Prepared) (t : Table) (w : List ℕ) (start place code o : ℕ) (e
   arrived : Arrives p t.way w start place here
   arrived = names_state p t table (Arrives p t.way w start place) code o n tells
 
-  is_told : IsTold here
+  is_told : FlagsShow here
   is_told = table.told (o / 2 ^ t.layout.shift) (names_offset p t table (Arrives p t.way w start place) code o n tells).0
 
   code_is : code ≡ code_of (stops t.way here.flags) o
@@ -110,7 +110,7 @@ module _ (p : Prepared) (t : Table) (w : List ℕ) (start place code o : ℕ) (e
   no_end_here is = last_step N w p.root S place end (λ some. both_ways here.flags.ends is (ends_here.1 some)) last
 
   -- where no leaf is entered no match goes on
-  dead_end : (noted : Option ℕ) → t.way.all_starts ≡ false → IsTrue here.flags.dead → EndsBelow p t.way w start (place + 1) noted → IsEnd t.way.all_starts N w p.root S noted
+  dead_end : (noted : Option ℕ) → t.way.all_starts ≡ false → IsTrue here.flags.dead → EndsBelow p t.way w start (place + 1) noted → IsPassEnd t.way.all_starts N w p.root S noted
   dead_end noted single is below =
       let none = row_empty N w here.root place S t.way.keeps here.entered here.ended arrived.1 (is_told.1.0 is) in
       let inside : p.root < length N = omega (arith, p.is_prepared.last, seen-length t.way.mirrored p.arena.expr) in
@@ -130,10 +130,10 @@ module _ (p : Prepared) (t : Table) (w : List ℕ) (start place code o : ℕ) (e
     over = λ h. absurd (true≢false (sym h));
   }
 
-  pub arrive_low : (flags : Flags) (noted : Option ℕ) (over : Bool) → code < 2147483648 → flags ≡ here.flags → noted ≡ option_or (then_some flags.ends place) end →
+  pub arrive_low : (flags : StateFlags) (noted : Option ℕ) (over : Bool) → code < 2147483648 → flags ≡ here.flags → noted ≡ option_or (then_some flags.ends place) end →
       (IsTrue over → IsTrue t.way.all_starts ⊎ ((t.way.all_starts ≡ false) × IsTrue flags.dead)) → PassIs p t w start (record { offset = o; place = place; end = noted; over = over })
   arrive_low flags noted over low same is_noted why =
-      let same_ends = ap (λ (f : Flags). f.ends) same in
+      let same_ends = ap (λ (f : StateFlags). f.ends) same in
       let ends : IsTrue flags.ends → Some place ≡ noted = λ is. sym (is_noted ∙ ap (λ b. option_or (then_some b place) end) is) in
       let stop : stops t.way here.flags ≡ true = low_code (stops t.way here.flags) o code code_is low in
       let all : EndsBelow p t.way w start (place + 1) noted =
@@ -149,14 +149,14 @@ module _ (p : Prepared) (t : Table) (w : List ℕ) (start place code o : ℕ) (e
         over = λ h. ⊎_elim
             (λ (all_starts : IsTrue t.way.all_starts).
             let ended = swept_end t.way.keeps t.way.all_starts here.flags.ends here.flags.dead keeps all_starts stop in
-            subst (IsEnd t.way.all_starts N w p.root S) (ends (same_ends ∙ ended)) (ends_here.0 ended, λ single. absurd (both_ways t.way.all_starts single all_starts)))
-            (λ (d : (t.way.all_starts ≡ false) × IsTrue flags.dead). dead_end noted d.0 (sym (ap (λ (f : Flags). f.dead) same) ∙ d.1) all)
+            subst (IsPassEnd t.way.all_starts N w p.root S) (ends (same_ends ∙ ended)) (ends_here.0 ended, λ single. absurd (both_ways t.way.all_starts single all_starts)))
+            (λ (d : (t.way.all_starts ≡ false) × IsTrue flags.dead). dead_end noted d.0 (sym (ap (λ (f : StateFlags). f.dead) same) ∙ d.1) all)
             (why h);
       }
 
 -- Further on.
 
-pub arrives_next : (p : Prepared) (way : Way) (w : List ℕ) (start place byte : ℕ) (edge : Bool) (a b : State) → start ≤ place → slice_get w place ≡ Some byte → place < length w → (IsTrue edge ↔ (place + 1 ≡ length w)) →
+pub arrives_next : (p : Prepared) (way : Way) (w : List ℕ) (start place byte : ℕ) (edge : Bool) (a b : PassState) → start ≤ place → slice_get w place ≡ Some byte → place < length w → (IsTrue edge ↔ (place + 1 ≡ length w)) →
     Arrives p way w start place a → LeadsOn (nodes_of way p.arena.expr) way a byte edge b → Arrives p way w start (place + 1) b
 arrives_next p way w start place byte edge a b after is inside edges here leads = (
   leads.0 ∙ here.0,
@@ -166,26 +166,26 @@ arrives_next p way w start place byte edge a b after is inside edges here leads 
 
 -- a pass goes on, in the table as it was or in one that was added to
 pub goes_on : (p : Prepared) (t u : Table) (w : List ℕ) (start byte code : ℕ) (edge : Bool) (mid next : Passed) → u.way ≡ t.way → PassIs p t w start mid → slice_get w mid.place ≡ Some byte → (IsTrue edge ↔ (mid.place + 1 ≡ length w)) →
-    Names (length p.arena.expr.nodes) u (LeadsOn (nodes_of t.way p.arena.expr) t.way (state_of (length p.arena.expr.nodes) t (mid.offset / 2 ^ t.layout.shift)) byte edge) code →
-    (start ≤ mid.place + 1 → mid.place + 1 ≤ length w → Names (length p.arena.expr.nodes) u (Arrives p u.way w start (mid.place + 1)) code → EndsBelow p u.way w start (mid.place + 1) mid.end → PassIs p u w start next) → PassIs p u w start next
+    NamesState (length p.arena.expr.nodes) u (LeadsOn (nodes_of t.way p.arena.expr) t.way (state_of (length p.arena.expr.nodes) t (mid.offset / 2 ^ t.layout.shift)) byte edge) code →
+    (start ≤ mid.place + 1 → mid.place + 1 ≤ length w → NamesState (length p.arena.expr.nodes) u (Arrives p u.way w start (mid.place + 1)) code → EndsBelow p u.way w start (mid.place + 1) mid.end → PassIs p u w start next) → PassIs p u w start next
 goes_on p t u w start byte code edge mid next way pass is edges names arrive =
     let inside = slice_get_within w mid.place byte is in
     let after = pass.after in
     let a = state_of (length p.arena.expr.nodes) t (mid.offset / 2 ^ t.layout.shift) in
     arrive (omega arith) (omega arith)
-    (subst (λ (x : Way). Names (length p.arena.expr.nodes) u (Arrives p x w start (mid.place + 1)) code) (sym way)
+    (subst (λ (x : Way). NamesState (length p.arena.expr.nodes) u (Arrives p x w start (mid.place + 1)) code) (sym way)
     (names_map (length p.arena.expr.nodes) u (LeadsOn (nodes_of t.way p.arena.expr) t.way a byte edge) (Arrives p t.way w start (mid.place + 1)) code
     (λ b leads. arrives_next p t.way w start mid.place byte edge a b after is inside edges pass.state leads) names))
     (subst (λ (x : Way). EndsBelow p x w start (mid.place + 1) mid.end) (sym way) pass.last)
 
 -- by a filled cell, before the text's last byte
 pub follows_on : (p : Prepared) (t : Table) (w : List ℕ) (start byte cell place : ℕ) (mid next : Passed) → mid.place ≡ place → place + 1 < length w → PassIs p t w start mid → slice_get w place ≡ Some byte →
-    Names (length p.arena.expr.nodes) t (LeadsOn (nodes_of t.way p.arena.expr) t.way (state_of (length p.arena.expr.nodes) t (mid.offset / 2 ^ t.layout.shift)) byte false) cell →
-    (start ≤ place + 1 → place + 1 ≤ length w → Names (length p.arena.expr.nodes) t (Arrives p t.way w start (place + 1)) cell → EndsBelow p t.way w start (place + 1) mid.end → PassIs p t w start next) → PassIs p t w start next
+    NamesState (length p.arena.expr.nodes) t (LeadsOn (nodes_of t.way p.arena.expr) t.way (state_of (length p.arena.expr.nodes) t (mid.offset / 2 ^ t.layout.shift)) byte false) cell →
+    (start ≤ place + 1 → place + 1 ≤ length w → NamesState (length p.arena.expr.nodes) t (Arrives p t.way w start (place + 1)) cell → EndsBelow p t.way w start (place + 1) mid.end → PassIs p t w start next) → PassIs p t w start next
 follows_on p t w start byte cell place mid next at inside pass is names arrive =
     goes_on p t t w start byte cell false mid next refl pass (subst (λ x. slice_get w x ≡ Some byte) (sym at) is)
     ((λ h. absurd (true≢false (sym h))), (λ e. absurd (omega (arith, e, at, inside)))) names
-    (subst (λ x. start ≤ x + 1 → x + 1 ≤ length w → Names (length p.arena.expr.nodes) t (Arrives p t.way w start (x + 1)) cell → EndsBelow p t.way w start (x + 1) mid.end → PassIs p t w start next) (sym at) arrive)
+    (subst (λ x. start ≤ x + 1 → x + 1 ≤ length w → NamesState (length p.arena.expr.nodes) t (Arrives p t.way w start (x + 1)) cell → EndsBelow p t.way w start (x + 1) mid.end → PassIs p t w start next) (sym at) arrive)
 
 -- The beginning of a pass.
 
@@ -193,11 +193,11 @@ starts_order : (all_starts : Bool) (from : ℕ) (w : List ℕ) → from ≤ leng
 starts_order true from w low = low
 starts_order false from w low = omega arith
 
-pub arrives_first : (p : Prepared) (way : Way) (w : List ℕ) (from : ℕ) (kind : Kind) (a : State) → way.mirrored ≡ false → from ≤ length w → (IsTrue kind.begin ↔ (from ≡ 0)) → (IsTrue kind.end ↔ (from ≡ length w)) →
+pub arrives_first : (p : Prepared) (way : Way) (w : List ℕ) (from : ℕ) (kind : PlaceKind) (a : PassState) → way.mirrored ≡ false → from ≤ length w → (IsTrue kind.begin ↔ (from ≡ 0)) → (IsTrue kind.end ↔ (from ≡ length w)) →
     BeginsIn (nodes_of way p.arena.expr) way p.root kind a → Arrives p way w from from a
 arrives_first p way w from kind a mirrored low begin end begins =
     let s = starts_of way.all_starts from w in
-    let place : IsPlace w from (at_begin way.mirrored kind) (at_end way.mirrored kind) = subst (λ b. IsPlace w from (at_begin b kind) (at_end b kind)) (sym mirrored) (begin, end) in (
+    let place : IsPlace w from (at_begin way.mirrored kind) (at_edge way.mirrored kind) = subst (λ b. IsPlace w from (at_begin b kind) (at_edge b kind)) (sym mirrored) (begin, end) in (
       begins.0,
       subst (λ r. RowOfPlace (nodes_of way p.arena.expr) w r s way.keeps from a.entered a.ended) (sym begins.0) (begins.1 w s place (starts_order way.all_starts from w low)),
     )
@@ -205,7 +205,7 @@ arrives_first p way w from kind a mirrored low begin end begins =
 -- The end of a pass.
 
 pub pass_end : (p : Prepared) (t : Table) (w : List ℕ) (start : ℕ) (at : Passed) → start ≤ length w → PassIs p t w start at → (at.over ≡ true) ⊎ (length w ≤ at.place) →
-    IsEnd t.way.all_starts (nodes_of t.way p.arena.expr) w p.root (starts_of t.way.all_starts start w) at.end
+    IsPassEnd t.way.all_starts (nodes_of t.way p.arena.expr) w p.root (starts_of t.way.all_starts start w) at.end
 pass_end p t w start at low pass done =
     ⊎_elim
     (λ (over : at.over ≡ true). pass.over over)
@@ -225,7 +225,7 @@ root_spans p w i k =
     (subst (λ x. Matches (tree_at p.arena.expr.nodes x) w i k) (sym last), subst (λ x. Matches (tree_at p.arena.expr.nodes x) w i k) last)
 
 module _ (p : Prepared) (w : List ℕ) (from : ℕ) where
-  pub end_longest : (end : Option ℕ) → IsEnd false p.arena.expr.nodes w p.root (starts_of false from w) end → IsLongestFrom (expression_tree p.arena.expr) w from end
+  pub end_longest : (end : Option ℕ) → IsPassEnd false p.arena.expr.nodes w p.root (starts_of false from w) end → IsLongestFrom (expression_tree p.arena.expr) w from end
   end_longest None none = λ k span. none k (from, (omega arith, omega arith), (root_spans p w from k).1 span)
   end_longest (Some j) is = (
     (let some = is.0 in
@@ -236,12 +236,12 @@ module _ (p : Prepared) (w : List ℕ) (from : ℕ) where
     λ k span. is.1 refl k (from, (omega arith, omega arith), (root_spans p w from k).1 span),
   )
 
-  pub end_found : from ≤ length w → (end : Option ℕ) → IsEnd true p.arena.expr.nodes w p.root (starts_of true from w) end → IsTrue (is_some end) ↔ SomeFound (expression_tree p.arena.expr) w from
+  pub end_found : from ≤ length w → (end : Option ℕ) → IsPassEnd true p.arena.expr.nodes w p.root (starts_of true from w) end → IsTrue (is_some end) ↔ SomeFound (expression_tree p.arena.expr) w from
   end_found low None none = (λ h. absurd (true≢false (sym h)), λ some. absurd (none some.1 (some.0, (some.2, some.3), (root_spans p w some.0 some.1).1 some.4)))
   end_found low (Some j) is = (λ h. let some = is.0 in (some.0, j, some.1.0, some.1.1, (root_spans p w some.0 j).0 some.2), λ some. refl)
 
-  pub end_passes : (all_starts : Bool) (s t place : ℕ) → from ≤ length w → (end : Option ℕ) → IsEnd all_starts p.arena.expr.nodes w p.root (starts_of all_starts from w) end → IfSome end (λ j. j ≤ place) →
-      TakesAtLeast s t (2 * (place - from) + 1) → IfSome end (λ j. PassesOver (expression_tree p.arena.expr) w from s t)
+  pub end_passes : (all_starts : Bool) (s t place : ℕ) → from ≤ length w → (end : Option ℕ) → IsPassEnd all_starts p.arena.expr.nodes w p.root (starts_of all_starts from w) end → IfSome end (λ j. j ≤ place) →
+      TakesAtLeast s t (2 * (place - from) + 1) → IfSome end (λ j. LooksPast (expression_tree p.arena.expr) w from s t)
   end_passes all_starts s t place low None is ended looks = tt
   end_passes all_starts s t place low (Some j) is ended looks =
       let some = is.0 in
@@ -259,17 +259,17 @@ module _ (p : Prepared) (w : List ℕ) (from : ℕ) where
 -- of a pass forwards that is over, or came to the text's end
 module _ (p : Prepared) (way : Way) (t : Table) (w : List ℕ) (from : ℕ) (at : Passed) (same : t.way ≡ way) (mirrored : way.mirrored ≡ false) (low : from ≤ length w) (pass : PassIs p t w from at)
     (done : (at.over ≡ true) ⊎ (length w ≤ at.place)) where
-  seen_end : IsEnd way.all_starts p.arena.expr.nodes w p.root (starts_of way.all_starts from w) at.end
-  seen_end = subst (λ b. IsEnd way.all_starts (seen b p.arena.expr).nodes w p.root (starts_of way.all_starts from w) at.end) mirrored
-      (subst (λ (x : Way). IsEnd x.all_starts (nodes_of x p.arena.expr) w p.root (starts_of x.all_starts from w) at.end) same (pass_end p t w from at low pass done))
+  seen_end : IsPassEnd way.all_starts p.arena.expr.nodes w p.root (starts_of way.all_starts from w) at.end
+  seen_end = subst (λ b. IsPassEnd way.all_starts (seen b p.arena.expr).nodes w p.root (starts_of way.all_starts from w) at.end) mirrored
+      (subst (λ (x : Way). IsPassEnd x.all_starts (nodes_of x p.arena.expr) w p.root (starts_of x.all_starts from w) at.end) same (pass_end p t w from at low pass done))
 
   pub run_longest : way.all_starts ≡ false → IsLongestFrom (expression_tree p.arena.expr) w from at.end
-  run_longest single = end_longest p w from at.end (subst (λ b. IsEnd b p.arena.expr.nodes w p.root (starts_of b from w) at.end) single seen_end)
+  run_longest single = end_longest p w from at.end (subst (λ b. IsPassEnd b p.arena.expr.nodes w p.root (starts_of b from w) at.end) single seen_end)
 
   pub run_found : IsTrue way.all_starts → IsTrue (is_some at.end) ↔ SomeFound (expression_tree p.arena.expr) w from
-  run_found all_starts = end_found p w from low at.end (subst (λ b. IsEnd b p.arena.expr.nodes w p.root (starts_of b from w) at.end) all_starts seen_end)
+  run_found all_starts = end_found p w from low at.end (subst (λ b. IsPassEnd b p.arena.expr.nodes w p.root (starts_of b from w) at.end) all_starts seen_end)
 
-  pub run_passes : (s u : ℕ) → TakesAtLeast s u (2 * (at.place - from) + 1) → IfSome at.end (λ j. PassesOver (expression_tree p.arena.expr) w from s u)
+  pub run_passes : (s u : ℕ) → TakesAtLeast s u (2 * (at.place - from) + 1) → IfSome at.end (λ j. LooksPast (expression_tree p.arena.expr) w from s u)
   run_passes s u looks = end_passes p w from way.all_starts s u at.place low at.end seen_end (end_below (nodes_of t.way p.arena.expr) w p.root (starts_of t.way.all_starts from w) at.place at.end pass.last) looks
 
 -- a table of passes ahead is one still
@@ -293,7 +293,7 @@ ahead_any p a b is table shape = record {
 -- What is passed over.
 
 -- what passes over a match from a later place on does so from an earlier one, where the looks before went as far
-pub passes_later : (e : Tree) (w : List ℕ) (p q s t u : ℕ) → p ≤ q → s ≤ t → TakesAtLeast s t (q - p) → PassesOver e w q t u → PassesOver e w p s u
+pub passes_later : (e : Tree) (w : List ℕ) (p q s t u : ℕ) → p ≤ q → s ≤ t → TakesAtLeast s t (q - p) → LooksPast e w q t u → LooksPast e w p s u
 passes_later e w p q s t u low grows looks over = record {
   start = over.start;
   end = over.end;
@@ -305,7 +305,7 @@ passes_later e w p q s t u low grows looks over = record {
 }
 
 -- where a pass tells an end, it passed over a match
-pub passes_told : (e : Tree) (w : List ℕ) (p s t : ℕ) (end : Option ℕ) (told : Bool) → told ≡ is_some end → IfSome end (λ j. PassesOver e w p s t) → IsTrue told → PassesOver e w p s t
+pub passes_told : (e : Tree) (w : List ℕ) (p s t : ℕ) (end : Option ℕ) (told : Bool) → told ≡ is_some end → IfSome end (λ j. LooksPast e w p s t) → IsTrue told → LooksPast e w p s t
 passes_told e w p s t None told is over h = absurd (true≢false (sym h ∙ is))
 passes_told e w p s t (Some j) told is over h = over
 

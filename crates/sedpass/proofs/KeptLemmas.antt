@@ -1,10 +1,10 @@
 -- What is kept of a pass backwards, and how it comes down by a place.
 use Rattle.std.proofs.Common.{inl, inr, ◌≡◌, ℕ, ◌+◌, ◌-◌, ◌*◌, ◌/◌, ◌^◌, ◌<◌, ◌≤◌, ◌↔◌, ◌⊎◌, ⊎_elim, length-set, mul-le-mul_left, mul-le-mul_right, Bool, true, false, zero, suc, List, [], ◌∷◌, length, Some, refl, sym, ap, ◌∙◌, subst, arith, true≢false, IsTrue, not, reverse, slice_get, slice_index_or, slice_set, vec_capacity, nat_lt}
-use Rattle.sedpass.proofs.Words.{div-mul-le_self, lt-div-mul-add, beq, length-reverse, get_or_default, get_or-set_same, get_or-set_other, IsArena, WrittenExpression, seen, Node, byte_is_in, Starts, At, IsStart, one_start, starts_to, IsPlace, get-reverse, AgreeBelow, row_of, Kept, cases_eq, cases_lt, lt-ltb, ltb-true, Prepared, Way, Work, Table, Kind, both-iff}
-use Rattle.sedpass.specs.Regions.{IsLastIn, Opposite, ReachesEnd, Meets}
-use Rattle.sedpass.specs.Rows.{bits, RowOfPlace, LeadsTo, IsFirstRow, SameBytes, at_begin, at_end, nodes_of}
+use Rattle.sedpass.proofs.Words.{div-mul-le_self, lt-div-mul-add, beq, length-reverse, get_or_default, get_or-set_same, get_or-set_other, IsArena, WrittenExpression, seen, Node, byte_is_in, Starts, At, IsStart, one_start, starts_to, IsPlace, get-reverse, AgreeBelow, row_of, Kept, cases_eq, cases_lt, lt-ltb, ltb-true, Prepared, Way, Work, Table, PlaceKind, both-iff}
+use Rattle.sedpass.specs.Regions.{IsLastIn, Opposite, ReachesEnd, MeetsAt}
+use Rattle.sedpass.specs.Rows.{bits, RowOfPlace, RowLeadsTo, IsFirstRow, SameBytes, at_begin, at_edge, nodes_of}
 use Rattle.sedpass.specs.Kept.{starts_told, ends_told, ComesDown, RowKept, KeptAt, IsLive, IsRegion, PassesDownTo, IsEdge, AllMarked, SameKept, SameSpace, EdgesFrom, IsKept, KeepsRegion, Follows, Meet}
-use Rattle.sedpass.specs.Table.{State, state_of, HasRow, LeadsOn, BeginsIn, IsTable, MayBegin, SameShape, AddsStates, IsOffset}
+use Rattle.sedpass.specs.Table.{PassState, state_of, HasRow, LeadsOn, BeginsIn, IsTable, MayBegin, SameShape, AddsStates, IsOffset}
 use Rattle.sedpass.proofs.LeaveLemmas.{last_inside, reaches_last}
 use Rattle.sedpass.proofs.RowLemmas.{behind_reaches, meet_rows, bits_agree, bits_here}
 use Rattle.sedpass.proofs.MeetingLemmas.{meets_early}
@@ -31,7 +31,7 @@ kept_reaches e w true all_starts false r end q x entered ended arena _ keep ther
 pub kept_meets : (e : WrittenExpression) (w : List ℕ) (mirrored all_starts keeps other : Bool) (r a i end q : ℕ) (front front_ended entered ended : ℕ → Bool) → IsArena e.nodes → IsTrue mirrored → IsTrue keeps → q ≤ length w → end ≤ length w →
     RowOfPlace e.nodes w a (one_start i) other q front front_ended →
     RowOfPlace (seen mirrored e).nodes (reverse w) r (starts_told all_starts (length w) end) keeps (length w - q) entered ended →
-    ((c : ℕ) × IsTrue (front c) × IsTrue (ended c)) ↔ Meets e.nodes w r (ends_told all_starts (length w) end) a (one_start i) q
+    ((c : ℕ) × IsTrue (front c) × IsTrue (ended c)) ↔ MeetsAt e.nodes w r (ends_told all_starts (length w) end) a (one_start i) q
 kept_meets e w true all_starts true other r a i end q front front_ended entered ended arena _ _ there within ahead row =
     meet_rows e w r a q (length w - q) (one_start i) (starts_told all_starts (length w) end) (ends_told all_starts (length w) end) other front front_ended entered ended arena (told_opposite all_starts (length w) end within) (told_last all_starts (length w) end within) (omega arith) ahead row
 kept_meets e w false all_starts keeps other r a i end q front front_ended entered ended arena mirror _ there within ahead row = absurd (true≢false (sym mirror))
@@ -45,7 +45,7 @@ told_start false n end d after within = (λ h. absurd (true≢false (sym h)), λ
 -- the row of the next place, seen from the text's end
 pub kept_step : (e : WrittenExpression) (w : List ℕ) (mirrored all_starts keeps edge : Bool) (r end q byte : ℕ) (entered ended after after_ended : ℕ → Bool) →
     q < end → end ≤ length w → slice_get w q ≡ Some byte → (IsTrue edge ↔ (q ≡ 0)) →
-    LeadsTo (seen mirrored e).nodes r keeps entered ended (Some byte) edge all_starts after after_ended →
+    RowLeadsTo (seen mirrored e).nodes r keeps entered ended (Some byte) edge all_starts after after_ended →
     RowOfPlace (seen mirrored e).nodes (reverse w) r (starts_told all_starts (length w) end) keeps (length w - (q + 1)) entered ended →
     RowOfPlace (seen mirrored e).nodes (reverse w) r (starts_told all_starts (length w) end) keeps (length w - q) after after_ended
 kept_step e w mirrored all_starts keeps edge r end q byte entered ended after after_ended before within got last leads row =
@@ -60,9 +60,9 @@ kept_step e w mirrored all_starts keeps edge r end q byte entered ended after af
     (leads (reverse w) (starts_told all_starts n end) d bytes edges (told_start all_starts n end d (omega arith) (omega arith)) row)
 
 -- the row in which the pass begins
-pub kept_first : (e : WrittenExpression) (w : List ℕ) (mirrored all_starts keeps : Bool) (r end : ℕ) (kind : Kind) (entered ended : ℕ → Bool) → IsTrue mirrored → end ≤ length w → (IsTrue all_starts → end ≡ length w) →
+pub kept_first : (e : WrittenExpression) (w : List ℕ) (mirrored all_starts keeps : Bool) (r end : ℕ) (kind : PlaceKind) (entered ended : ℕ → Bool) → IsTrue mirrored → end ≤ length w → (IsTrue all_starts → end ≡ length w) →
     (IsTrue kind.begin ↔ (end ≡ 0)) → (IsTrue kind.end ↔ (end ≡ length w)) →
-    IsFirstRow (seen mirrored e).nodes r keeps (at_begin mirrored kind) (at_end mirrored kind) entered ended →
+    IsFirstRow (seen mirrored e).nodes r keeps (at_begin mirrored kind) (at_edge mirrored kind) entered ended →
     RowOfPlace (seen mirrored e).nodes (reverse w) r (starts_told all_starts (length w) end) keeps (length w - end) entered ended
 kept_first e w false all_starts keeps r end kind entered ended mirror within whole begins ends first = absurd (true≢false (sym mirror))
 kept_first e w true false keeps r end kind entered ended _ within whole begins ends first =
@@ -109,11 +109,11 @@ live_other p w t root end states place s q after live =
     (rw e live.0, subst (λ v. KeptAt p w t.way root end q (state_of (length p.arena.expr.nodes) t v)) (sym e) live.1)
 
 -- the state of the next place
-pub kept_down : (p : Prepared) (w : List ℕ) (way : Way) (root end q byte : ℕ) (edge : Bool) (a b : State) → q < end → end ≤ length w → slice_get w q ≡ Some byte → (IsTrue edge ↔ (q ≡ 0)) →
+pub kept_down : (p : Prepared) (w : List ℕ) (way : Way) (root end q byte : ℕ) (edge : Bool) (a b : PassState) → q < end → end ≤ length w → slice_get w q ≡ Some byte → (IsTrue edge ↔ (q ≡ 0)) →
     LeadsOn (seen way.mirrored p.arena.expr).nodes way a byte edge b → KeptAt p w way root end (q + 1) a → KeptAt p w way root end q b
 kept_down p w way root end q byte edge a b before within got last leads at =
-    let leads-root : LeadsTo (seen way.mirrored p.arena.expr).nodes root way.keeps a.entered a.ended (Some byte) edge way.all_starts b.entered b.ended =
-    subst (λ r. LeadsTo (seen way.mirrored p.arena.expr).nodes r way.keeps a.entered a.ended (Some byte) edge way.all_starts b.entered b.ended) at.0 leads.1 in
+    let leads-root : RowLeadsTo (seen way.mirrored p.arena.expr).nodes root way.keeps a.entered a.ended (Some byte) edge way.all_starts b.entered b.ended =
+    subst (λ r. RowLeadsTo (seen way.mirrored p.arena.expr).nodes r way.keeps a.entered a.ended (Some byte) edge way.all_starts b.entered b.ended) at.0 leads.1 in
     (leads.0 ∙ at.0, kept_step p.arena.expr w way.mirrored way.all_starts way.keeps edge root end q byte a.entered a.ended b.entered b.ended before within got last leads-root at.1)
 
 -- Going back by one byte.
@@ -365,7 +365,7 @@ make_cost m low d place end s a t at is first pass =
     omega (arith, h, first)
 
 -- the state of the region's end
-pub first_at : (p : Prepared) (w : List ℕ) (t : Table) (k : Kept) (way : Way) (place : ℕ) (kind : Kind) (a : State) → IsRegion p w t k → way ≡ t.way → place ≡ k.region.end →
+pub first_at : (p : Prepared) (w : List ℕ) (t : Table) (k : Kept) (way : Way) (place : ℕ) (kind : PlaceKind) (a : PassState) → IsRegion p w t k → way ≡ t.way → place ≡ k.region.end →
     (IsTrue kind.begin ↔ (place ≡ 0)) → (IsTrue kind.end ↔ (place ≡ length w)) → BeginsIn (nodes_of t.way p.arena.expr) t.way k.region.root kind a →
     KeptAt p w way k.region.root k.region.end place a
 first_at p w t k way place kind a region same at begins ends first =
@@ -376,7 +376,7 @@ first_at p w t k way place kind a region same at begins ends first =
     )
 
 -- the state of a block's right end
-pub load_at : (p : Prepared) (w : List ℕ) (t : Table) (k : Kept) (way : Way) (block place : ℕ) (a : State) → place ≡ block * (t.room - 1) + (t.room - 1) →
+pub load_at : (p : Prepared) (w : List ℕ) (t : Table) (k : Kept) (way : Way) (block place : ℕ) (a : PassState) → place ≡ block * (t.room - 1) + (t.room - 1) →
     IsEdge p w t.way k.region.root k.region.end k.edges (t.room - 1) block → way ≡ t.way →
     HasRow k.region.root (bits (length p.arena.expr.nodes) (row_of k.edges (2 * block))) (bits (length p.arena.expr.nodes) (row_of k.edges (2 * block + 1))) a → KeptAt p w way k.region.root k.region.end place a
 load_at p w t k way block place a at edge same row = (row.0, rw (same, at, row.1, row.2) edge)
@@ -495,7 +495,7 @@ bits_meet m front behind met tells = (
 pub meet_read : (p : Prepared) (w : List ℕ) (t ahead : Table) (k : Kept) (a i place offset n front_state s : ℕ) (met : Bool) → IsKept p w t k → k.region.from ≤ place → place < k.region.to → Follows p w ahead a i place offset →
     n ≡ length p.arena.expr.nodes → front_state ≡ offset / 2 ^ ahead.layout.shift → s ≡ slice_index_or k.states.items place s →
     (IsTrue met ↔ ((c : ℕ) × (c < n) × IsTrue (slice_index_or (row_of ahead.leaves front_state) c false) × IsTrue (slice_index_or (row_of t.ends s) c false))) →
-    IsTrue met ↔ Meets p.arena.expr.nodes w k.region.root (ends_told t.way.all_starts (length w) k.region.end) a (one_start i) place
+    IsTrue met ↔ MeetsAt p.arena.expr.nodes w k.region.root (ends_told t.way.all_starts (length w) k.region.end) a (one_start i) place
 meet_read p w t ahead k a i place offset n front_state s met kept above before follows count front_is read tells =
     let m = length p.arena.expr.nodes in
     let region : IsRegion p w t k = kept.region in
@@ -513,14 +513,14 @@ meet_read p w t ahead k a i place offset n front_state s met kept above before f
     (λ h. two.0 (one.0 h), λ h. one.1 (two.1 h))
 
 -- a place more
-pub meet_on : (p : Prepared) (w : List ℕ) (t : Table) (k : Kept) (a i from place : ℕ) → Meet p w t k a i from place → Meets p.arena.expr.nodes w k.region.root (ends_told t.way.all_starts (length w) k.region.end) a (one_start i) place →
+pub meet_on : (p : Prepared) (w : List ℕ) (t : Table) (k : Kept) (a i from place : ℕ) → Meet p w t k a i from place → MeetsAt p.arena.expr.nodes w k.region.root (ends_told t.way.all_starts (length w) k.region.end) a (one_start i) place →
     Meet p w t k a i from (place + 1)
 meet_on p w t k a i from place met here q after before =
     ⊎_elim (λ (lt : q < place). met q after lt)
-    (λ (ge : place ≤ q). let e : place ≡ q = omega arith in subst (λ y. Meets p.arena.expr.nodes w k.region.root (ends_told t.way.all_starts (length w) k.region.end) a (one_start i) y) e here) (cases_lt q place)
+    (λ (ge : place ≤ q). let e : place ≡ q = omega arith in subst (λ y. MeetsAt p.arena.expr.nodes w k.region.root (ends_told t.way.all_starts (length w) k.region.end) a (one_start i) y) e here) (cases_lt q place)
 
 -- nowhere at the region's end
-pub meet_end : (p : Prepared) (w : List ℕ) (t : Table) (k : Kept) (a i : ℕ) → IsKept p w t k → Meets p.arena.expr.nodes w k.region.root (ends_told t.way.all_starts (length w) k.region.end) a (one_start i) k.region.end → ⊥
+pub meet_end : (p : Prepared) (w : List ℕ) (t : Table) (k : Kept) (a i : ℕ) → IsKept p w t k → MeetsAt p.arena.expr.nodes w k.region.root (ends_told t.way.all_starts (length w) k.region.end) a (one_start i) k.region.end → ⊥
 meet_end p w t k a i kept met =
     let before : k.region.end < (ends_told t.way.all_starts (length w) k.region.end).last =
     meets_early p.arena.expr.nodes w k.region.root a k.region.end (one_start i) (ends_told t.way.all_starts (length w) k.region.end) kept.region.table.expr.arena met in
@@ -533,7 +533,7 @@ meet_end p w t k a i kept met =
 -- How the pass ahead goes on.
 
 next_row : (e : WrittenExpression) (w : List ℕ) (mirrored all_starts keeps edge : Bool) (a i place byte : ℕ) (entered ended after after_ended : ℕ → Bool) → mirrored ≡ false → all_starts ≡ false → i ≤ place → slice_get w place ≡ Some byte →
-    (IsTrue edge ↔ (place + 1 ≡ length w)) → LeadsTo (seen mirrored e).nodes a keeps entered ended (Some byte) edge all_starts after after_ended → RowOfPlace e.nodes w a (one_start i) keeps place entered ended →
+    (IsTrue edge ↔ (place + 1 ≡ length w)) → RowLeadsTo (seen mirrored e).nodes a keeps entered ended (Some byte) edge all_starts after after_ended → RowOfPlace e.nodes w a (one_start i) keeps place entered ended →
     RowOfPlace e.nodes w a (one_start i) keeps (place + 1) after after_ended
 next_row e w true all_starts keeps edge a i place byte entered ended after after_ended front one from got last leads row = absurd (true≢false front)
 next_row e w false true keeps edge a i place byte entered ended after after_ended front one from got last leads row = absurd (true≢false one)
@@ -556,12 +556,12 @@ follows_next p w t after a i place byte offset next edge front one shape from go
       rw (root, (ap (λ v. v.keeps) shape.0)) row,
     )
 
-first_row : (e : WrittenExpression) (w : List ℕ) (mirrored keeps : Bool) (a i : ℕ) (kind : Kind) (entered ended : ℕ → Bool) → mirrored ≡ false → (IsTrue kind.begin ↔ (i ≡ 0)) → (IsTrue kind.end ↔ (i ≡ length w)) →
-    IsFirstRow (seen mirrored e).nodes a keeps (at_begin mirrored kind) (at_end mirrored kind) entered ended → RowOfPlace e.nodes w a (one_start i) keeps i entered ended
+first_row : (e : WrittenExpression) (w : List ℕ) (mirrored keeps : Bool) (a i : ℕ) (kind : PlaceKind) (entered ended : ℕ → Bool) → mirrored ≡ false → (IsTrue kind.begin ↔ (i ≡ 0)) → (IsTrue kind.end ↔ (i ≡ length w)) →
+    IsFirstRow (seen mirrored e).nodes a keeps (at_begin mirrored kind) (at_edge mirrored kind) entered ended → RowOfPlace e.nodes w a (one_start i) keeps i entered ended
 first_row e w true keeps a i kind entered ended front begins ends first = absurd (true≢false front)
 first_row e w false keeps a i kind entered ended front begins ends first = first w (one_start i) (begins, ends) (omega arith)
 
-pub follows_first : (p : Prepared) (w : List ℕ) (t after : Table) (a i offset : ℕ) (kind : Kind) → t.way.mirrored ≡ false → after.way ≡ t.way → (IsTrue kind.begin ↔ (i ≡ 0)) → (IsTrue kind.end ↔ (i ≡ length w)) →
+pub follows_first : (p : Prepared) (w : List ℕ) (t after : Table) (a i offset : ℕ) (kind : PlaceKind) → t.way.mirrored ≡ false → after.way ≡ t.way → (IsTrue kind.begin ↔ (i ≡ 0)) → (IsTrue kind.end ↔ (i ≡ length w)) →
     BeginsIn (nodes_of t.way p.arena.expr) t.way a kind (state_of (length p.arena.expr.nodes) after (offset / 2 ^ after.layout.shift)) → Follows p w after a i i offset
 follows_first p w t after a i offset kind front way begins ends first =
     let s = state_of (length p.arena.expr.nodes) after (offset / 2 ^ after.layout.shift) in

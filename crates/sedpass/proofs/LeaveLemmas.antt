@@ -1,7 +1,7 @@
 -- How a part is left, by what follows it in its node, and what a node is left to that nothing follows.
 use Rattle.std.proofs.Common.{◌≡◌, ℕ, ◌+◌, ◌-◌, ◌<◌, ◌≤◌, ◌⊎◌, ◌↔◌, true, List, length, reverse, Some, refl, sym, ap, ◌∙◌, subst, inl, inr, ⊎_elim, arith, slice_get}
 use Rattle.sedpass.proofs.Words.{cases_lt, IsArena, IsPart, HasTwoParts, WrittenExpression, tree_at, mirror_node, seen, seen-node, old_node, Node, Seq, Alt, Group, Star, Opt, Starts, no_copy, At, BeginsWith, IsStart, one_start, Enters, at_root, with_whole, after_left, again, Ends, Matches-forward, close_at, same_node, At-mirror}
-use Rattle.sedpass.specs.Regions.{EndsWith, Leaves, at_end, with_end, before_right, before_copies, ReachesEnd, EndsAt, Opposite, IsLastPart, IsLastIn, all_of, last_of}
+use Rattle.sedpass.specs.Regions.{EndsWith, Leaves, at_end, with_end, before_right, before_copies, ReachesEnd, EndsPastIn, Opposite, IsLastPart, IsLastIn, all_of, last_of}
 
 -- how the part c of the node at y is left at i
 abbrev pub OutOf : List Node → List ℕ → ℕ → Starts → ℕ → ℕ → ℕ → Node → Type 0
@@ -114,7 +114,7 @@ reaches_last nodes w r j x p arena last =
     )
 
 -- a node ends with a byte or without
-pub ends_at : (nodes : List Node) (w : List ℕ) (r x q : ℕ) (s : Starts) → EndsAt nodes w r s x q ↔ (Ends nodes w r s x q ⊎ (Enters nodes w r s x q × At nodes w x q q))
+pub ends_at : (nodes : List Node) (w : List ℕ) (r x q : ℕ) (s : Starts) → EndsPastIn nodes w r s x q ↔ (Ends nodes w r s x q ⊎ (Enters nodes w r s x q × At nodes w x q q))
 ends_at nodes w r x q s = (
   λ h.
       let on = Matches-forward (tree_at nodes x) w h.0 q h.2 in
@@ -184,7 +184,7 @@ module _ (e : WrittenExpression) (w : List ℕ) (r : ℕ) (s t : Starts) (arena 
       ((At-mirror e (seen true e) w (reverse w) y i k d g refl refl sum middle).1 at)
 
   -- so a mark is one of a pass of the mirrored expression over the text read from its end
-  pub reaches_mirror : (x p d : ℕ) → p + d ≡ length w → ReachesEnd e.nodes w r t x p ↔ EndsAt (seen true e).nodes (reverse w) r s x d
+  pub reaches_mirror : (x p d : ℕ) → p + d ≡ length w → ReachesEnd e.nodes w r t x p ↔ EndsPastIn (seen true e).nodes (reverse w) r s x d
   reaches_mirror x p d sum = (
     λ h.
         let top = Leaves-to e.nodes w r t arena x h.0 h.2 in

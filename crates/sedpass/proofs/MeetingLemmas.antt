@@ -1,7 +1,7 @@
 -- Where a pass forwards over a part and a pass backwards over what it stands in meet, a match of the part goes on and the end is reached.
 use Rattle.std.proofs.Common.{◌≡◌, ℕ, zero, suc, ◌+◌, ◌-◌, ◌<◌, ◌≤◌, ◌⊎◌, ◌↔◌, Bool, List, length, Some, refl, sym, ◌∙◌, subst, inl, inr, ⊎_elim, arith, slice_get}
 use Rattle.sedpass.proofs.Words.{cases_lt, slice_get_within, IsArena, tree_at, Node, NodeId, Empty, Set, Begin, End, Seq, Alt, Group, Star, Opt, Starts, CopiesLead, no_copy, one_more, LastCut, LastCopy, only, then, IsRepetitionOf, At, BeginsWith, IsStart, one_start, Enters, at_root, with_whole, after_left, again, Matches-forward, CopiesLead-forward, CopiesLead-append, open_at, close_at, Enters-inside, star_copies, BeginsWith-part, node_at}
-use Rattle.sedpass.specs.Regions.{Leaves, with_end, before_right, before_copies, ReachesEnd, IsLastIn, all_of, Meets, GoesOn, CeasesAt, NextCopy, IsRunOf, repeated, in_group}
+use Rattle.sedpass.specs.Regions.{Leaves, with_end, before_right, before_copies, ReachesEnd, IsLastIn, all_of, MeetsAt, MatchesBeyond, CeasesAt, NextCopy, IsRunOf, repeated, in_group}
 use Rattle.sedtext.proofs.FixedRunLemmas.{CopiesLead-join}
 use Rattle.sedpass.proofs.LeaveLemmas.{OutOf, Leaves-part, Leaves-to, last_inside, last-leaves, Leaves-last}
 
@@ -98,7 +98,7 @@ module _ (nodes : List Node) (w : List ℕ) (r : ℕ) (t : Starts) (a : ℕ) (s 
 
   -- complete: a span that passes p, at whose end its node is left, has a set at p that is marked
   module _ (p : ℕ) where
-    passes : (n x : ℕ) (node : Node) → slice_get nodes x ≡ Some node → x < n → (i k : ℕ) → Enters nodes w a s x i → Leaves nodes w r t x k → At nodes w x i k → i ≤ p → p < k → Meets nodes w r t a s p
+    passes : (n x : ℕ) (node : Node) → slice_get nodes x ≡ Some node → x < n → (i k : ℕ) → Enters nodes w a s x i → Leaves nodes w r t x k → At nodes w x i k → i ≤ p → p < k → MeetsAt nodes w r t a s p
     passes zero x node is less i k enters leaves at low high = absurd (omega arith)
     passes (suc n) x Empty is less i k enters leaves at low high =
         let f = open_at nodes w x Empty arena is i k at in absurd (omega arith)
@@ -145,7 +145,7 @@ module _ (nodes : List Node) (w : List ℕ) (r : ℕ) (t : Starts) (a : ℕ) (s 
         let top = slice_get_within nodes x (Star b first) is in
         let below = arena.below x b.index (Star b first) is refl in
         let inner = node_at nodes b.index (omega arith) in
-        CopiesLead-cross (At nodes w b.index) (λ u. Enters nodes w a s b.index u × CopiesLead (At nodes w b.index) u i) (Meets nodes w r t a s p) p k
+        CopiesLead-cross (At nodes w b.index) (λ u. Enters nodes w a s b.index u × CopiesLead (At nodes w b.index) u i) (MeetsAt nodes w r t a s p) p k
         (λ u v from copy rest up on. passes n b.index inner.0 inner.1 (omega arith) u v from.0
         (before_copies x b.index v k b first is refl leaves (close_at nodes w x (Star b first) arena is v k rest)) copy up on)
         (λ u v lt from copy.
@@ -163,7 +163,7 @@ module _ (nodes : List Node) (w : List ℕ) (r : ℕ) (t : Starts) (a : ℕ) (s 
         (open_at nodes w x (Opt b first) arena is i k at)
 
 -- the two passes meet exactly where a match of a goes on from which the end is reached
-pub meets-goes_on : (nodes : List Node) (w : List ℕ) (r a p : ℕ) (s t : Starts) → IsArena nodes → a < length nodes → a ≤ r → Meets nodes w r t a s p ↔ GoesOn nodes w r t a s p
+pub meets-goes_on : (nodes : List Node) (w : List ℕ) (r a p : ℕ) (s t : Starts) → IsArena nodes → a < length nodes → a ≤ r → MeetsAt nodes w r t a s p ↔ MatchesBeyond nodes w r t a s p
 meets-goes_on nodes w r a p s t arena inside within = (
   λ h.
       let q = h.4.0 in
@@ -178,7 +178,7 @@ meets-goes_on nodes w r a p s t arena inside within = (
 
 -- of the whole node r: exactly where a match of it goes on
 pub meets_whole : (nodes : List Node) (w : List ℕ) (r p : ℕ) (s t : Starts) → IsArena nodes → r < length nodes →
-    Meets nodes w r t r s p ↔ ((i : ℕ) × (k : ℕ) × IsStart s i × (i ≤ p) × (p < k) × At nodes w r i k × IsStart t k)
+    MeetsAt nodes w r t r s p ↔ ((i : ℕ) × (k : ℕ) × IsStart s i × (i ≤ p) × (p < k) × At nodes w r i k × IsStart t k)
 meets_whole nodes w r p s t arena inside =
     let both = meets-goes_on nodes w r r p s t arena inside (omega arith) in
     let root = all_of r refl in (
@@ -196,7 +196,7 @@ set_early nodes w r c p t members arena is h =
     omega arith
 
 -- and they don't meet there
-pub meets_early : (nodes : List Node) (w : List ℕ) (r a p : ℕ) (s t : Starts) → IsArena nodes → Meets nodes w r t a s p → p < t.last
+pub meets_early : (nodes : List Node) (w : List ℕ) (r a p : ℕ) (s t : Starts) → IsArena nodes → MeetsAt nodes w r t a s p → p < t.last
 meets_early nodes w r a p s t arena h = set_early nodes w r h.0 p t h.1 arena h.2 h.4
 
 -- the first place from i on after which A and B hold of none is the greatest of which they do
@@ -231,7 +231,7 @@ module _ (nodes : List Node) (w : List ℕ) (r j x : ℕ) (a b : NodeId) (arena 
     λ at. before_right x a.index k j a b is refl (Leaves-last nodes w r (one_start j) arena x j last (omega arith, omega arith)) at,
   )
 
-  pub meets-cut : (i p : ℕ) → i ≤ p → Meets nodes w r (one_start j) a.index (one_start i) p ↔ ((k : ℕ) × (p < k) × At nodes w a.index i k × At nodes w b.index k j)
+  pub meets-cut : (i p : ℕ) → i ≤ p → MeetsAt nodes w r (one_start j) a.index (one_start i) p ↔ ((k : ℕ) × (p < k) × At nodes w a.index i k × At nodes w b.index k j)
   meets-cut i p low =
       let top = slice_get_within nodes x (Seq a b) is in
       let up = last_inside nodes w r (one_start j) arena x last in
@@ -256,7 +256,7 @@ module _ (nodes : List Node) (w : List ℕ) (r j x : ℕ) (a b : NodeId) (arena 
 
   -- so a pass over a that goes on while they meet stops at the greatest cut
   pub stops_at_cut : (i p : ℕ) → At nodes w x i j → CeasesAt nodes w r (one_start j) a.index i p → LastCut (At nodes w a.index) (At nodes w b.index) i j p
-  stops_at_cut i p at stops = cut_at i p (Meets nodes w r (one_start j) a.index (one_start i)) at stops.0 (λ q low up. meets-cut i q low) stops.1 stops.2
+  stops_at_cut i p at stops = cut_at i p (MeetsAt nodes w r (one_start j) a.index (one_start i)) at stops.0 (λ q low up. meets-cut i q low) stops.1 stops.2
 
 module _ (nodes : List Node) (w : List ℕ) (r j x : ℕ) (a : NodeId) (first : Bool) (arena : IsArena nodes) (last : IsLastIn nodes r x) (is : slice_get nodes x ≡ Some (Star a first)) where
   -- a copy is left exactly where copies lead on to the end
@@ -270,7 +270,7 @@ module _ (nodes : List Node) (w : List ℕ) (r j x : ℕ) (a : NodeId) (first : 
     λ copies. before_copies x a.index k j a first is refl (Leaves-last nodes w r (one_start j) arena x j last (omega arith, omega arith)) (close_at nodes w x (Star a first) arena is k j copies),
   )
 
-  pub meets-copy : (i p : ℕ) → i ≤ p → Meets nodes w r (one_start j) a.index (one_start i) p ↔ ((k : ℕ) × (p < k) × At nodes w a.index i k × CopiesLead (At nodes w a.index) j k)
+  pub meets-copy : (i p : ℕ) → i ≤ p → MeetsAt nodes w r (one_start j) a.index (one_start i) p ↔ ((k : ℕ) × (p < k) × At nodes w a.index i k × CopiesLead (At nodes w a.index) j k)
   meets-copy i p low =
       let top = slice_get_within nodes x (Star a first) is in
       let up = last_inside nodes w r (one_start j) arena x last in
@@ -290,7 +290,7 @@ module _ (nodes : List Node) (w : List ℕ) (r j x : ℕ) (a : NodeId) (first : 
       let R = At nodes w a.index in
       let one = first_copy R j i (open_at nodes w x (Star a first) arena is i j at) some in
       let lt = one.1 in
-      let stop = first_stop (R i) (CopiesLead R j) (Meets nodes w r (one_start j) a.index (one_start i)) i p one.0 (omega arith) one.2 one.3 stops.0
+      let stop = first_stop (R i) (CopiesLead R j) (MeetsAt nodes w r (one_start j) a.index (one_start i)) i p one.0 (omega arith) one.2 one.3 stops.0
       (λ q low up. meets-copy i q low) stops.1 stops.2 in
       let most = stop.2 one.0 one.2 one.3 in
       record { after = omega arith; within = CopiesLead-forward R j p stop.1; copy = stop.0; rest = stop.1; greatest = stop.2 }

@@ -2,7 +2,7 @@
 use Rattle.std.proofs.Common.{◌≡◌, ℕ, zero, suc, ◌+◌, ◌-◌, ◌*◌, ◌<◌, ◌≤◌, Bool, true, false, List, length, Option, Some, None, IfSome, sym, ap, ◌∙◌, subst, arith, mul-le-mul_left, nat_lt, if◌then◌else◌}
 use Rattle.std.proofs.lemmas.Bool.Decides.{nat_tests}
 use Rattle.sedpass.proofs.Words.{Tree, SpanAnswer, LiesOn, leftmost_longest, unless_null_at, found-iff, not_found-iff, Seeking}
-use Rattle.sedpass.specs.Search.{owed_behind, owed_after, owed_kept, owed_search, search_cost}
+use Rattle.sedpass.specs.Search.{owed_behind, owed_after_search, owed_kept, owed_seeking, search_cost}
 use Rattle.sedpass.proofs.OwedLemmas.{owed_falls}
 use Rattle.sedpass.proofs.SearchLemmas.{alone_square, search_long, unbegun}
 
@@ -41,7 +41,7 @@ lies_further e w at (Some f) is = let low = is.0.after in let on = is.2.0 in (on
 -- What it costs.
 
 -- less from a later place
-pub search_falls : (m n : ℕ) (s : Seeking) (i k : ℕ) → i ≤ k → owed_search m n s k ≤ owed_search m n s i
+pub search_falls : (m n : ℕ) (s : Seeking) (i k : ℕ) → i ≤ k → owed_seeking m n s k ≤ owed_seeking m n s i
 search_falls m n s i k up =
     let rest : n - k ≤ n - i = omega arith in
     let kept = owed_falls m s.kept.region i k up in
@@ -69,8 +69,8 @@ rest_paid m n at end high within =
     let more : (n + 1 - end) + 1 ≤ n + 1 - at = omega arith in
     omega (arith, mul-le-mul_left (86 * m) more)
 
-pub behind_paid : (m n at o s t : ℕ) (due : ℕ → ℕ) (r : Option (ℕ × ℕ)) → at ≤ n → IfSome r (LiesOn n (Some at)) → t + owed_after due r ≤ s + (o + 86 * m) →
-    t + owed_after (λ q. due q + 86 * m * (n + 1 - q)) r ≤ s + (o + 86 * m * (n + 1 - at))
+pub behind_paid : (m n at o s t : ℕ) (due : ℕ → ℕ) (r : Option (ℕ × ℕ)) → at ≤ n → IfSome r (LiesOn n (Some at)) → t + owed_after_search due r ≤ s + (o + 86 * m) →
+    t + owed_after_search (λ q. due q + 86 * m * (n + 1 - q)) r ≤ s + (o + 86 * m * (n + 1 - at))
 behind_paid m n at o s t due None low lies pays =
     let more : 1 ≤ n + 1 - at = omega arith in
     let all = mul-le-mul_left (86 * m) more in
@@ -80,10 +80,10 @@ behind_paid m n at o s t due (Some f) low lies pays =
     omega (arith, all, pays)
 
 -- two searches, of which the first one found the null string at the place
-pub both_paid : (m at o a s u t : ℕ) (due due' : ℕ → ℕ) (first r : Option (ℕ × ℕ)) → first ≡ Some (at, at) → a ≤ due at → u + owed_after due first ≤ s + (o + 43 * m) → t + owed_after due' r ≤ u + (a + 43 * m) →
-    t + owed_after due' r ≤ s + (o + 86 * m)
+pub both_paid : (m at o a s u t : ℕ) (due due' : ℕ → ℕ) (first r : Option (ℕ × ℕ)) → first ≡ Some (at, at) → a ≤ due at → u + owed_after_search due first ≤ s + (o + 43 * m) → t + owed_after_search due' r ≤ u + (a + 43 * m) →
+    t + owed_after_search due' r ≤ s + (o + 86 * m)
 both_paid m at o a s u t due due' first r is falls one two =
-    let before : u + due at ≤ s + (o + 43 * m) = subst (λ x. u + owed_after due x ≤ s + (o + 43 * m)) is one in
+    let before : u + due at ≤ s + (o + 43 * m) = subst (λ x. u + owed_after_search due x ≤ s + (o + 43 * m)) is one in
     omega (arith, before, two, falls)
 
 -- One call.

@@ -4,7 +4,7 @@ use Rattle.std.specs.Prelude.{unwrap_or}
 use Rattle.sedpass.proofs.Words.{option_or, cases_Bool, cases_lt, or_left, or_right, or_cases, ext_get_or, get_or-set_other, length-set, slice_get_past, none-some, same_Some, unwrap_or-slice_get, Tree, empty, set, begin, end, seq, alt, group, star, opt, Groups, forget, no_groups, groups_after, Captures, LastCopy, only, then, IsReport, Matches, groups_after-is}
 use Rattle.std.proofs.lemmas.Bool.Decides.{eqb_tells}
 use Rattle.sedtext.proofs.CapsLemmas.{Captures-unique}
-use Rattle.sedpass.specs.Walks.{State, is_due, settle, drop_groups, GroupStandsIn, PassedBy, Walk, IsStart, has_group, NoneDue, EntersGroups}
+use Rattle.sedpass.specs.Walks.{GroupState, is_due, settle, drop_groups, GroupStandsIn, PassedBy, Walk, IsFirstState, has_group, NoneDue, EntersGroups}
 use Rattle.sedre.specs.Steps.{TakesAtLeast}
 use Rattle.sedtext.proofs.GroupLemmas.{NoGroups}
 
@@ -72,22 +72,22 @@ gone-over false true = refl
 gone-over false false = refl
 
 -- this becomes of group k from one state to the other
-pub record Takes (k : ℕ) (d : Option Span) (old new : State) : Type 0 where
+pub record Takes (k : ℕ) (d : Option Span) (old new : GroupState) : Type 0 where
   pub due : is_due new k ≡ left (is_due old k) d
   pub span : slice_get new.spans k ≡ put (is_due old k) (slice_get old.spans k) d
   pub long : length new.due ≡ length old.due
 
-takes-then : (k : ℕ) (e d : Option Span) (old mid new : State) → Takes k e old mid → Takes k d mid new → Takes k (option_or e d) old new
+takes-then : (k : ℕ) (e d : Option Span) (old mid new : GroupState) → Takes k e old mid → Takes k d mid new → Takes k (option_or e d) old new
 takes-then k e d old mid new one two = record {
   due = two.due ∙ ap (λ b. left b d) one.due ∙ sym (left-over (is_due old k) e d);
   span = two.span ∙ ap (λ b. put b (slice_get mid.spans k) d) one.due ∙ ap (λ x. put (left (is_due old k) e) x d) one.span ∙ sym (put-over (is_due old k) (slice_get old.spans k) e d);
   long = two.long ∙ one.long;
 }
 
-takes-none : (k : ℕ) (s : State) → Takes k None s s
+takes-none : (k : ℕ) (s : GroupState) → Takes k None s s
 takes-none k s = record { due = refl; span = sym (put-none (is_due s k) (slice_get s.spans k)); long = refl }
 
-takes-not : (k : ℕ) (d : Option Span) (s : State) → is_due s k ≡ false → Takes k d s s
+takes-not : (k : ℕ) (d : Option Span) (s : GroupState) → is_due s k ≡ false → Takes k d s s
 takes-not k d s is = record { due = is ∙ sym (left-not (is_due s k) d is); span = sym (ap (λ b. put b (slice_get s.spans k) d) is); long = refl }
 
 -- the last copy
@@ -125,13 +125,13 @@ set_due n k v due = elim (eqb_tells n k) [
   | inr other ↦ get_or-set_other due n k false false (λ e. other.1 (sym e)) ∙ ap (λ b. left (slice_index_or due k false) (deed b v)) (sym other.0)
 ]
 
-pub settle-due : (k : ℕ) (v : Span) (s : State) → is_due s k ≡ true → settle k v s ≡ record { due = slice_set s.due k false; spans = slice_set s.spans k v }
+pub settle-due : (k : ℕ) (v : Span) (s : GroupState) → is_due s k ≡ true → settle k v s ≡ record { due = slice_set s.due k false; spans = slice_set s.spans k v }
 settle-due k v s is = rw is refl
 
-pub settle-not : (k : ℕ) (v : Span) (s : State) → is_due s k ≡ false → settle k v s ≡ s
+pub settle-not : (k : ℕ) (v : Span) (s : GroupState) → is_due s k ≡ false → settle k v s ≡ s
 settle-not k v s is = rw is refl
 
-pub settle_takes : (n k : ℕ) (v : Span) (s : State) → Takes k (deed (eqb n k) v) s (settle n v s)
+pub settle_takes : (n k : ℕ) (v : Span) (s : GroupState) → Takes k (deed (eqb n k) v) s (settle n v s)
 settle_takes n k v s = elim (cases_Bool (is_due s n)) [
   | inl on ↦ subst (Takes k (deed (eqb n k) v) s) (sym (settle-due n v s on)) record { due = set_due n k v s.due; span = set_at n k v s.spans ∙ sym (as_due on); long = length-set s.due n false }
   | inr off ↦ subst (Takes k (deed (eqb n k) v) s) (sym (settle-not n v s off)) (as_not off)
@@ -150,7 +150,7 @@ pub index_as : (xs ys : Groups) (k : ℕ) → slice_get xs k ≡ slice_get ys k 
 index_as xs ys k same = sym (unwrap_or-slice_get xs k None) ∙ ap (λ x. unwrap_or x None) same ∙ unwrap_or-slice_get ys k None
 
 -- what is due has no span: so it is after this
-pub takes_blank : (k : ℕ) (d : Option Span) (old new : State) → Takes k d old new → (is_due old k ≡ true → slice_index_or old.spans k None ≡ None) → is_due new k ≡ true →
+pub takes_blank : (k : ℕ) (d : Option Span) (old new : GroupState) → Takes k d old new → (is_due old k ≡ true → slice_index_or old.spans k None ≡ None) → is_due new k ≡ true →
     slice_index_or new.spans k None ≡ None
 takes_blank k None old new one blank due = index_as new.spans old.spans k (one.span ∙ put-none (is_due old k) (slice_get old.spans k)) ∙ blank (sym one.due ∙ due)
 takes_blank k (Some u) old new one blank due = absurd (true≢false (sym due ∙ one.due))
@@ -162,7 +162,7 @@ blank_put true (Some v) true none = ap (λ u. Some u) (sym (none refl))
 blank_put true (Some v) false none = refl
 
 -- the groups of an expression are dropped, or forgotten
-pub drop_takes : (t : Tree) (k : ℕ) (s : State) → Takes k (deed (has_group t k) None) s (drop_groups t s)
+pub drop_takes : (t : Tree) (k : ℕ) (s : GroupState) → Takes k (deed (has_group t k) None) s (drop_groups t s)
 drop_takes (seq a b) k s =
     subst (λ d. Takes k d s (drop_groups (seq a b) s)) (over-gone (has_group a k) (has_group b k)) (takes-then k _ _ s _ _ (drop_takes a k s) (drop_takes b k (drop_groups a s)))
 drop_takes (alt a b) k s =
@@ -277,17 +277,17 @@ captured k (opt a first) w i j g h (inr (inr c)) = lays-none k _ g h c.1.1
 captured k other w i j g h is = lays-none k _ g h is
 
 -- a walk over the match does the same to what is due
-abbrev Ends : ℕ → Tree → List ℕ → ℕ → ℕ → Groups → State → State → Type 0
+abbrev Ends : ℕ → Tree → List ℕ → ℕ → ℕ → Groups → GroupState → GroupState → Type 0
 Ends k e w i j g old new = (h : Groups) × (c : Captures e w i j g h) × Takes k (taken k e w i j g h c) old new
 
 module _ (k : ℕ) where
-  still : (old new : State) → new ≡ old → Takes k None old new
+  still : (old new : GroupState) → new ≡ old → Takes k None old new
   still old new is = subst (Takes k None old) (sym is) (takes-none k old)
 
-  inside : (a : Tree) (d : Option Span) (old mid new : State) → new ≡ drop_groups a mid → Takes k d old mid → Takes k (within a k d) old new
+  inside : (a : Tree) (d : Option Span) (old mid new : GroupState) → new ≡ drop_groups a mid → Takes k d old mid → Takes k (within a k d) old new
   inside a d old mid new is one = takes-then k d (deed (has_group a k) None) old mid new one (subst (Takes k (deed (has_group a k) None) mid) (sym is) (drop_takes a k mid))
 
-  passed : (e : Tree) (w : List ℕ) (i j n : ℕ) (old new : State) → Matches e w i j → PassedBy e old new n → (g : Groups) → Ends k e w i j g old new
+  passed : (e : Tree) (w : List ℕ) (i j n : ℕ) (old new : GroupState) → Matches e w i j → PassedBy e old new n → (g : Groups) → Ends k e w i j g old new
   passed e w i j n old new spans by g =
       let h = groups_after e w i j g in
       let c = groups_after-is e w i j g spans in
@@ -300,7 +300,7 @@ module _ (k : ℕ) where
         ]),
       )
 
-  walked : (e : Tree) (w : List ℕ) (i j n : ℕ) (old new : State) → Matches e w i j → Walk e w i j old new n → (g : Groups) → Ends k e w i j g old new
+  walked : (e : Tree) (w : List ℕ) (i j n : ℕ) (old new : GroupState) → Matches e w i j → Walk e w i j old new n → (g : Groups) → Ends k e w i j g old new
   walked empty w i j n old new spans walk g = (g, refl, still old new walk.0)
   walked (set has) w i j n old new spans walk g = (g, refl, still old new walk.0)
   walked begin w i j n old new spans walk g = (g, refl, still old new walk.0)
@@ -347,7 +347,7 @@ later span k [] = refl
 later span k (x ∷ inner) = refl
 
 -- from a state with the match's span alone, an entry that is due is that of the report
-due_entry : (e : Tree) (w : List ℕ) (i j n k : ℕ) (old new : State) (inner : Groups) → old.spans ≡ Some (i, j) ∷ replicate 9 None → Matches e w i j → Walk e w i j old new n →
+due_entry : (e : Tree) (w : List ℕ) (i j n k : ℕ) (old new : GroupState) (inner : Groups) → old.spans ≡ Some (i, j) ∷ replicate 9 None → Matches e w i j → Walk e w i j old new n →
     Captures e w i j no_groups inner → is_due old (suc k) ≡ true → slice_get new.spans (suc k) ≡ slice_get inner (suc k)
 due_entry e w i j n k old new inner start spans walk captures due =
     let one = walked (suc k) e w i j n old new spans walk no_groups in
@@ -355,14 +355,14 @@ due_entry e w i j n k old new inner start spans walk captures due =
     one.2.span ∙ ap (λ b. put b (slice_get old.spans (suc k)) d) due ∙ ap (λ l. lay (slice_get l (suc k)) d) start ∙ sym (captured (suc k) e w i j no_groups one.0 one.1).at
     ∙ ap (λ g. slice_get g (suc k)) (Captures-unique e w i j no_groups one.0 inner one.1 captures)
 
-pub wanted : (e : Tree) (w : List ℕ) (i j n k : ℕ) (old new : State) (groups : Groups) → old.spans ≡ Some (i, j) ∷ replicate 9 None → Matches e w i j → Walk e w i j old new n →
+pub wanted : (e : Tree) (w : List ℕ) (i j n k : ℕ) (old new : GroupState) (groups : Groups) → old.spans ≡ Some (i, j) ∷ replicate 9 None → Matches e w i j → Walk e w i j old new n →
     IsReport e w i j groups → is_due old (suc k) ≡ true → slice_index_or new.spans (suc k) None ≡ slice_index_or groups (suc k) None
 wanted e w i j n k old new groups start spans walk report due =
     index_as new.spans groups (suc k)
     (due_entry e w i j n k old new report.0 start spans walk report.1 due ∙ sym (ap (λ g. slice_get g (suc k)) report.2 ∙ later (Some (i, j)) k report.0))
 
 -- and if all groups of the expression are due, all entries are
-pub walk_report : (e : Tree) (w : List ℕ) (i j n : ℕ) (old new : State) → IsStart e i j old → Matches e w i j → Walk e w i j old new n → IsReport e w i j new.spans
+pub walk_report : (e : Tree) (w : List ℕ) (i j n : ℕ) (old new : GroupState) → IsFirstState e i j old → Matches e w i j → Walk e w i j old new n → IsReport e w i j new.spans
 walk_report e w i j n old new start spans walk =
     let inner = groups_after e w i j no_groups in
     let captures = groups_after-is e w i j no_groups spans in
@@ -400,14 +400,14 @@ walk_report e w i j n old new start spans walk =
               ]
             ]
 
-abbrev pub made : List Bool → Groups → State
+abbrev pub made : List Bool → Groups → GroupState
 made due spans = record { due = due; spans = spans }
 
 pub same_state : (due rest : List Bool) (g h : Groups) → due ≡ rest → g ≡ h → made due g ≡ made rest h
 same_state due rest g h one two = ap (λ v. made v g) one ∙ ap (made rest) two
 
 -- where what is due has no span, to drop the groups of a tree is to take them from what is due
-pub drop_as : (t : Tree) (s new : State) → ((k : ℕ) → is_due s k ≡ true → slice_index_or s.spans k None ≡ None) → new.spans ≡ s.spans → length new.due ≡ length s.due →
+pub drop_as : (t : Tree) (s new : GroupState) → ((k : ℕ) → is_due s k ≡ true → slice_index_or s.spans k None ≡ None) → new.spans ≡ s.spans → length new.due ≡ length s.due →
     ((k : ℕ) → is_due new k ≡ left (is_due s k) (deed (has_group t k) None)) → new ≡ drop_groups t s
 drop_as t s new blank same long tells =
     same_state new.due (drop_groups t s).due new.spans (drop_groups t s).spans
@@ -418,7 +418,7 @@ drop_as t s new blank same long tells =
 -- A walk over a match, as nodes are entered one after another.
 
 -- a walk passes by what has no group that is due
-pub passes_by : (e : Tree) (w : List ℕ) (i j : ℕ) (s : State) → NoneDue e s → Walk e w i j s s 0
+pub passes_by : (e : Tree) (w : List ℕ) (i j : ℕ) (s : GroupState) → NoneDue e s → Walk e w i j s s 0
 passes_by empty w i j s none = (refl, refl)
 passes_by (set has) w i j s none = (refl, refl)
 passes_by begin w i j s none = (refl, refl)
@@ -443,7 +443,7 @@ groupless other none k has = true≢false (sym has)
 pub enters_nothing : (e : Tree) (w : List ℕ) (i j s : ℕ) → NoGroups e → EntersGroups e w i j s s
 unfolding TakesAtLeast
 enters_nothing e w i j s none =
-    let start : State = record { due = []; spans = Some (i, j) ∷ replicate 9 None } in (
+    let start : GroupState = record { due = []; spans = Some (i, j) ∷ replicate 9 None } in (
       start,
       record { whole = refl; each = λ k low high has. absurd (groupless e none k has); none = refl },
       record { last = start; n = 0; walk = passes_by e w i j start (λ k has. absurd (groupless e none k has)); counts = omega arith },

@@ -3,7 +3,7 @@ use Rattle.std.proofs.Common.{◌≡◌, ℕ, zero, suc, ◌+◌, ◌-◌, ◌*�
 use Rattle.sedpass.proofs.Words.{cases_lt, CostsWithin, Kept, Region}
 use Rattle.std.proofs.lemmas.Bool.Decides.{nat_tests}
 use Rattle.std.proofs.Math.Dec.{leb, ltb}
-use Rattle.sedpass.specs.Kept.{again, due_place, owed}
+use Rattle.sedpass.specs.Kept.{again, due_place, owed_region}
 
 lt_then : (a b u v : ℕ) → a < b → cond (ltb a b) u v ≡ u
 lt_then a b u v h = grind (arith, nat_tests)
@@ -69,14 +69,14 @@ again_cost m low to end s a t some within first inside pass =
 
 -- What is owed.
 
-owed_below : (m : ℕ) (r : Region) (i : ℕ) → i < r.low → owed m r i ≡ 100 * m * (r.end - i)
+owed_below : (m : ℕ) (r : Region) (i : ℕ) → i < r.low → owed_region m r i ≡ 100 * m * (r.end - i)
 owed_below m r i low = lt_then i r.low (100 * m * (r.end - i)) (again m (r.end - due_place r i)) low
 
-owed_above : (m : ℕ) (r : Region) (i : ℕ) → r.low ≤ i → owed m r i ≡ again m (r.end - due_place r i)
+owed_above : (m : ℕ) (r : Region) (i : ℕ) → r.low ≤ i → owed_region m r i ≡ again m (r.end - due_place r i)
 owed_above m r i low = lt_else i r.low (100 * m * (r.end - i)) (again m (r.end - due_place r i)) low
 
 -- never more than for the whole rest of the region
-pub owed_small : (m : ℕ) (r : Region) (i : ℕ) → owed m r i ≤ 100 * m * (r.end - i)
+pub owed_small : (m : ℕ) (r : Region) (i : ℕ) → owed_region m r i ≤ 100 * m * (r.end - i)
 owed_small m r i =
     ⊎_elim
     (λ (il : i < r.low). let a = owed_below m r i il in omega (arith, a))
@@ -89,7 +89,7 @@ owed_small m r i =
     rest_falls : (end d k : ℕ) → d ≤ k → end - k ≤ end - d
     rest_falls end d k up = omega arith
 
-pub owed_falls : (m : ℕ) (r : Region) (i k : ℕ) → i ≤ k → owed m r k ≤ owed m r i
+pub owed_falls : (m : ℕ) (r : Region) (i k : ℕ) → i ≤ k → owed_region m r k ≤ owed_region m r i
 owed_falls m r i k up =
     ⊎_elim
     (λ (il : i < r.low).
@@ -108,7 +108,7 @@ made_cost : (m c d s t : ℕ) → c + 1 ≤ d → t ≤ s + (33 * m + 39 * m * d
 made_cost m c d s t less cost = let h = again_few m c in let g = mul-le-mul_left (59 * m) less in omega (arith, h, g, cost)
 
 pub owed_made : (m : ℕ) (old new : Region) (place s t : ℕ) → place < old.low → place < old.end → new.low ≡ place → new.from ≡ place → place < new.to → new.end ≡ old.end → s ≤ t →
-    t ≤ s + (33 * m + 39 * m * (old.end - place)) → CostsWithin s t (owed m old place) (owed m new place)
+    t ≤ s + (33 * m + 39 * m * (old.end - place)) → CostsWithin s t (owed_region m old place) (owed_region m new place)
 owed_made m old new place s t below before low from to end grows cost =
     let b = owed_above m new place (omega (arith, low)) in
     let due : due_place new place ≡ new.to = live_place new.from new.to place (omega (arith, from)) to in
@@ -118,7 +118,7 @@ owed_made m old new place s t below before low from to end grows cost =
 
 -- the rest of the place's block is made again
 pub owed_again : (m : ℕ) (old new : Region) (place s t : ℕ) → old.low ≤ place → (place < old.from) ⊎ (old.to ≤ place) → new.low ≡ old.low → new.end ≡ old.end → new.from ≡ place → place < new.to →
-    CostsWithin s t (again m (old.end - place)) (again m (old.end - new.to)) → CostsWithin s t (owed m old place) (owed m new place)
+    CostsWithin s t (again m (old.end - place)) (again m (old.end - new.to)) → CostsWithin s t (owed_region m old place) (owed_region m new place)
 owed_again m old new place s t above out low end from to paid =
     let b = owed_above m new place (omega (arith, above, low)) in
     let was : due_place old place ≡ place = dead_place old.from old.to place out in
@@ -128,9 +128,9 @@ owed_again m old new place s t above out low end from to paid =
     (paid.0, let h = paid.1 in omega (arith, owed_above m old place above, b, before, after, h))
 
 -- as a call left what is kept
-pub owed_left : (m : ℕ) (old : Region) (place s t u : ℕ) (k other : Kept) → other ≡ k → u ≡ t → CostsWithin s t (owed m old place) (owed m k.region place) → CostsWithin s u (owed m old place) (owed m other.region place)
+pub owed_left : (m : ℕ) (old : Region) (place s t u : ℕ) (k other : Kept) → other ≡ k → u ≡ t → CostsWithin s t (owed_region m old place) (owed_region m k.region place) → CostsWithin s u (owed_region m old place) (owed_region m other.region place)
 owed_left m old place s t u k other same count paid =
-    subst (λ x. CostsWithin s x (owed m old place) (owed m other.region place)) (sym count) (subst (λ x. CostsWithin s t (owed m old place) (owed m x.region place)) (sym same) paid)
+    subst (λ x. CostsWithin s x (owed_region m old place) (owed_region m other.region place)) (sym count) (subst (λ x. CostsWithin s t (owed_region m old place) (owed_region m x.region place)) (sym same) paid)
 
 -- places are passed, or the search ends at one
 pub seek_on : (o a b e s s0 s1 s2 from place found : ℕ) → s + (a + 2 * from) ≤ s0 + (o + 2 * place) → s1 + b ≤ s + a → s2 + place ≤ s1 + (found + 1) → e ≤ b → place < found → s2 + (e + 2 * from) ≤ s0 + (o + 2 * found)

@@ -3,8 +3,8 @@ use Rattle.std.proofs.Common.{length-set, ◌≡◌, ℕ, ◌+◌, ◌-◌, ◌*
 use Rattle.std.proofs.Math.Path.{fun_ext}
 use Rattle.sedpass.proofs.Words.{slice_get_within, get_or-set_same, get_or-set_other, and_parts, and_from, cases_lt, cases_eq, eqb-true, eq-eqb, lt-ltb, le-ltb, IsArena, IsPart, WrittenExpression, tree_at, mirror_node, seen, seen-node, old_node, Node, NodeId, Empty, Set, Begin, End, Seq, Alt, Group, Star, Opt, Starts, CopiesLead, byte_is_in, enter_parts, takes_any, AgreeBelow, At, IsStart, one_start, SomeSpan, BeginsWith, Marked, Enters, at_root, with_whole, after_left, again, Ends, Matches-forward, CopiesLead-append, CopiesLead-last, open_at, close_at, takes_some, FromNode, Enters-from, Enters-part, Enters-inside, Enters-root, BeginsWith-part, both-iff, either-iff}
 use Rattle.sedre.specs.Packed.{PartsBelow}
-use Rattle.sedpass.specs.Regions.{EndsAt, Opposite, ReachesEnd, Meets}
-use Rattle.sedpass.specs.Rows.{Took, SameBytes, NoneEntered, InTree, is_tree, part_of, IsNodeRange, TreeBelow, TreeFrom, AreNull, ended_by, enter_looks, bits, TellTook, RowOfPlace, LeafAt, EndKept, TellFrom, RowFrom, LeadsTo}
+use Rattle.sedpass.specs.Regions.{EndsPastIn, Opposite, ReachesEnd, MeetsAt}
+use Rattle.sedpass.specs.Rows.{Took, SameBytes, NoneEntered, InTree, is_tree, part_of, IsNodeRange, TreeBelow, TreeFrom, AreNull, ended_by, enter_looks, bits, TellTook, RowOfPlace, LeafAt, EndKept, TellFrom, RowFrom, RowLeadsTo}
 use Rattle.sedpass.proofs.LeaveLemmas.{ends_at, reaches_mirror}
 use Rattle.sedpass.proofs.MeetingLemmas.{meets_whole}
 
@@ -330,8 +330,8 @@ module _ (nodes : List Node) (w : List ℕ) (r p : ℕ) (s : Starts) (keeps : Bo
       let asked : IsTrue (keeps || eqb x r) ↔ (IsTrue keeps ⊎ (x ≡ r)) = either-iff keeps (eqb x r) (IsTrue keeps) (x ≡ r) (λ h. h, λ h. h) (eqb-true x r, eq-eqb x r) in
       let law = ends_at nodes w r x p s in
       let truth = either-iff end (here && null) (Ends nodes w r s x p) (Enters nodes w r s x p × At nodes w x p p) ends (both-iff here null (Enters nodes w r s x p) (At nodes w x p p) enters nulls) in
-      let over : IsTrue (end || (here && null)) ↔ EndsAt nodes w r s x p = (λ h. law.1 (truth.0 h), λ h. truth.1 (law.0 h)) in
-      let kept = both-iff (keeps || eqb x r) (end || (here && null)) (IsTrue keeps ⊎ (x ≡ r)) (EndsAt nodes w r s x p) asked over in (
+      let over : IsTrue (end || (here && null)) ↔ EndsPastIn nodes w r s x p = (λ h. law.1 (truth.0 h), λ h. truth.1 (law.0 h)) in
+      let kept = both-iff (keeps || eqb x r) (end || (here && null)) (IsTrue keeps ⊎ (x ≡ r)) (EndsPastIn nodes w r s x p) asked over in (
         tell_more entered after Leaf x (takes_any node && here) is_after leaf (λ c ne. (others c ne).0) row.0,
         tell_more ended after_ended Kept x ((keeps || eqb x r) && (end || (here && null))) is_ended kept (λ c ne. (others c ne).1) row.1,
       )
@@ -355,7 +355,7 @@ row_took nodes w r x p s keeps entered ended byte m row same is = (
 )
 
 pub class_row : (nodes : List Node) (r : ℕ) (keeps end start : Bool) (entered ended after after_ended : ℕ → Bool) (byte other : Option ℕ) → SameBytes nodes other byte →
-    LeadsTo nodes r keeps entered ended byte end start after after_ended → LeadsTo nodes r keeps entered ended other end start after after_ended
+    RowLeadsTo nodes r keeps entered ended byte end start after after_ended → RowLeadsTo nodes r keeps entered ended other end start after after_ended
 class_row nodes r keeps end start entered ended after after_ended byte other same leads w s p at = leads w s p (λ x m is. at x m is ∙ same x m is)
 
 -- the root ends where a match does
@@ -426,7 +426,7 @@ behind_reaches e w r x p d u t entered ended arena opposite inside sum row =
 
 pub meet_rows : (e : WrittenExpression) (w : List ℕ) (r a p d : ℕ) (s u t : Starts) (keeps : Bool) (front front_ended entered behind : ℕ → Bool) → IsArena e.nodes → Opposite (length w) u t → t.last ≤ length w → p + d ≡ length w →
     RowOfPlace e.nodes w a s keeps p front front_ended → RowOfPlace (seen true e).nodes (reverse w) r u true d entered behind →
-    ((c : ℕ) × IsTrue (front c) × IsTrue (behind c)) ↔ Meets e.nodes w r t a s p
+    ((c : ℕ) × IsTrue (front c) × IsTrue (behind c)) ↔ MeetsAt e.nodes w r t a s p
 meet_rows e w r a p d s u t keeps front front_ended entered behind arena opposite inside sum ahead back = (
   λ h. let leaf = (ahead.leaves h.0).0 h.1 in
       (h.0, leaf.0, leaf.1, leaf.2, (behind_reaches e w r h.0 p d u t entered behind arena opposite inside sum back).0 h.2),

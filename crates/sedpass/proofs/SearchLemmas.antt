@@ -2,10 +2,10 @@
 use Rattle.std.proofs.Common.{inl, inr, ◌≡◌, ℕ, zero, suc, ◌+◌, ◌-◌, ◌*◌, ◌/◌, ◌<◌, ◌≤◌, ◌↔◌, Bool, true, false, max, List, length, Option, Some, None, IsTrue, refl, sym, ap, ◌∙◌, subst, ⊎_elim, true≢false, arith, mul-le-mul_left, IfSome, if◌then◌else◌}
 use Rattle.sedpass.proofs.Words.{cases_lt, IsArena, WrittenExpression, expression_tree, Tree, TakesAtLeast, SpanAnswer, Starts, At, one_start, IsLongestFrom, starts_to, AllBegin, NextStart, NoneIn, Table, Matches, IsLeftmostLongest, NotFound, SomeFound, Matches-forward, Matches-within, Region, Seeking, Prepared, least_less, least_none, least_both, least_since, Kept, Work, Way}
 use Rattle.sedtext.specs.declared.beginnings.Begins.{Begins}
-use Rattle.sedpass.specs.Table.{IsTable, SameShape, State, state_of, LeadsOn, Names, cell_of, MayBegin, IsColumn, IsAhead}
+use Rattle.sedpass.specs.Table.{IsTable, SameShape, PassState, state_of, LeadsOn, NamesState, cell_of, MayBegin, IsColumn, IsAhead}
 use Rattle.sedpass.specs.Kept.{AllMarked, SameSpace, ends_told, IsKept, IsRegion}
 use Rattle.sedpass.specs.Regions.{CeasesAt, all_of, ReachesEnd}
-use Rattle.sedpass.specs.Search.{LooksFrom, TrialsMade, owed_after, owed_kept, owed_search, search_cost, Serves, MaySearch, Searched}
+use Rattle.sedpass.specs.Search.{LooksFrom, TrialsMade, owed_after_search, owed_kept, owed_seeking, search_cost, SearchServes, MaySearch, Searched}
 use Rattle.sedpass.proofs.KeptLemmas.{space_same, keeps_same, same_shape, space_then}
 use Rattle.sedpass.proofs.OwedLemmas.{owed_small}
 use Rattle.sedpass.specs.declared.search.Trials.TheVariants.{Tired}
@@ -292,15 +292,15 @@ later_answer e w from k (Some f) low none is =
     )
 
 -- what searches by trials may still take
-pub unbegun : (m n : ℕ) (s : Seeking) (place : ℕ) → s.begun ≡ false → owed_search m n s place ≡ 40 * m * (2 * n + 1 - s.tried) + 142 * m * (n - place)
+pub unbegun : (m n : ℕ) (s : Seeking) (place : ℕ) → s.begun ≡ false → owed_seeking m n s place ≡ 40 * m * (2 * n + 1 - s.tried) + 142 * m * (n - place)
 unbegun m n s place is = ap (λ b. if b then owed_kept m n s.kept.region place else 40 * m * (2 * n + 1 - s.tried) + 142 * m * (n - place)) is
 
 -- and by the pass from the text's end
-by_pass : (m n : ℕ) (s : Seeking) → IsTrue s.begun → owed_search m n s ≡ owed_kept m n s.kept.region
+by_pass : (m n : ℕ) (s : Seeking) → IsTrue s.begun → owed_seeking m n s ≡ owed_kept m n s.kept.region
 by_pass m n s is = ap (λ b q. if b then owed_kept m n s.kept.region q else 40 * m * (2 * n + 1 - s.tried) + 142 * m * (n - q)) is
 
-pub pass_paid : (m n : ℕ) (mid begun new : Seeking) (start s t : ℕ) (r : Option (ℕ × ℕ)) → IsTrue begun.begun → IsTrue new.begun → owed_search m n begun start ≤ owed_search m n mid start →
-    t + owed_after (λ q. owed_kept m n new.kept.region q) r ≤ s + (owed_kept m n begun.kept.region start + 42 * m) → t + owed_after (owed_search m n new) r ≤ s + (owed_search m n mid start + 43 * m)
+pub pass_paid : (m n : ℕ) (mid begun new : Seeking) (start s t : ℕ) (r : Option (ℕ × ℕ)) → IsTrue begun.begun → IsTrue new.begun → owed_seeking m n begun start ≤ owed_seeking m n mid start →
+    t + owed_after_search (λ q. owed_kept m n new.kept.region q) r ≤ s + (owed_kept m n begun.kept.region start + 42 * m) → t + owed_after_search (owed_seeking m n new) r ≤ s + (owed_seeking m n mid start + 43 * m)
 pass_paid m n mid begun new start s t r is is' falls pays =
     let old = ap (λ due. due start) (by_pass m n begun is) in
     rw (by_pass m n new is') (omega (arith, old, falls, pays))
@@ -313,7 +313,7 @@ pub record ComesTo (p : Prepared) (w : List ℕ) (a a' : Table) (old mid : Seeki
   pub within : place ≤ length w
   pub none : NoneIn (expression_tree p.arena.expr) w from place
   pub grows : before ≤ after
-  pub cost : after + owed_search (length p.arena.expr.nodes) (length w) mid place ≤ before + owed_search (length p.arena.expr.nodes) (length w) old from
+  pub cost : after + owed_seeking (length p.arena.expr.nodes) (length w) mid place ≤ before + owed_seeking (length p.arena.expr.nodes) (length w) old from
   pub each : (t : ℕ) → t ≤ after + (142 * length p.arena.expr.nodes * (length w - place) + 42 * length p.arena.expr.nodes) → t ≤ before + search_cost (length p.arena.expr.nodes) (length w) from
   pub counts : TakesAtLeast before after (place - from)
 
@@ -411,7 +411,7 @@ alone_square m n some =
 
 -- What a table says, and what is kept of a pass, depends on the expression alone: made ready once more, it holds as before.
 
-abbrev LeadsIn : WrittenExpression → Table → ℕ → ℕ → State → Type 0
+abbrev LeadsIn : WrittenExpression → Table → ℕ → ℕ → PassState → Type 0
 LeadsIn e t n k b = (byte : ℕ) (edge : Bool) → byte < 256 → IsColumn t.layout byte edge k → LeadsOn (nodes_of t.way e) t.way (state_of (length e.nodes) t n) byte edge b
 
 -- passes may begin for the same nodes
@@ -428,7 +428,7 @@ module _ (p q : Prepared) (same : p.arena.expr ≡ q.arena.expr) where
     layout = rw (← same) table.layout;
     roots = λ n low. rw (← same) (table.roots n low);
     told = λ n low. rw (← same) (table.told n low);
-    filled = λ n k low column some. subst (λ (e : WrittenExpression). Names (length e.nodes) t (LeadsIn e t n k) (cell_of t n k)) same (table.filled n k low column some);
+    filled = λ n k low column some. subst (λ (e : WrittenExpression). NamesState (length e.nodes) t (LeadsIn e t n k) (cell_of t n k)) same (table.filled n k low column some);
     begun = λ root kind may now. rw (← same) (table.begun root kind (begins_for q p (sym same) t.way root may) now);
   }
 
@@ -452,7 +452,7 @@ module _ (p q : Prepared) (same : p.arena.expr ≡ q.arena.expr) where
     edges = λ b after before. rw (← same) (kept.edges b after before);
   }
 
-  pub serves_for : (w : List ℕ) (back : Table) (s : Seeking) → Serves p w back s → Serves q w back s
+  pub serves_for : (w : List ℕ) (back : Table) (s : Seeking) → SearchServes p w back s → SearchServes q w back s
   serves_for w back s serves = record {
     table = table_for back serves.table;
     room = rw (← same) serves.room;

@@ -1,10 +1,10 @@
 -- What holds while a spine is followed from node to node, and while tasks wait.
 use Rattle.std.proofs.Common.{◌≡◌, ℕ, zero, suc, true, false, true≢false, ◌+◌, ◌-◌, ◌*◌, ◌≤◌, List, [], ◌∷◌, ◌++◌, length, reverse, Option, None, Some, refl, sym, ap, ◌∙◌, subst, inl, inr, arith, mul-le-mul_left, slice_index_or}
-use Rattle.sedpass.proofs.Words.{reverse-append, size, Tree, tree_at, expression_tree, Node, IsReport, Groups, Matches, size-pos, GroupSet, Matched, Task, Apart, Forget, Done, One, Two, Told, Region, Subject, least_less, least_none, least_both}
+use Rattle.sedpass.proofs.Words.{reverse-append, size, Tree, tree_at, expression_tree, Node, IsReport, Groups, Matches, size-pos, GroupSet, Matched, GroupTask, Apart, Forget, Done, One, Two, Decided, Region, Subject, least_less, least_none, least_both}
 use Rattle.sedre.specs.Steps.{Takes, TakesExactly, TakesAtLeast}
-use Rattle.sedpass.specs.Decide.{told_of, told_in, found, GoesOn, IsTold, IsTurn, Turned, Works, undecided, next_of, part_cost, kind_cost, nodes_in, text_in, AreReady, AreShort, AreWithin, Runs, weights, looks, descents, tasks_of, entered_at}
+use Rattle.sedpass.specs.Decide.{told_of, told_in, spans_in, GoesOn, HasBlank, IsTurn, Turned, Works, undecided, next_of, part_cost, kind_cost, nodes_in, subject_text, AreReady, AreShort, AreWithin, RunsTasks, weights, looks, descents, tasks_after, entered_at}
 use Rattle.sedpass.specs.Prepared.{holds}
-use Rattle.sedpass.specs.Walks.{State, drop_groups, Walk}
+use Rattle.sedpass.specs.Walks.{GroupState, drop_groups, Walk}
 use Rattle.sedpass.specs.declared.groups.Then.{Then}
 use Rattle.sedpass.proofs.DecideLemmas.{flags_at}
 use Rattle.sedpass.proofs.OneGroupLemmas.{wanted}
@@ -12,10 +12,10 @@ use Rattle.sedpass.proofs.TurnLemmas.{left_turn}
 
 -- Tasks that are done.
 
-runs_as : (s : Subject) (tasks : List Task) (old new : State) (m n : ℕ) → m ≡ n → Runs (nodes_in s) (text_in s) tasks old new m → Runs (nodes_in s) (text_in s) tasks old new n
-runs_as s tasks old new m n same run = subst (Runs (nodes_in s) (text_in s) tasks old new) same run
+runs_as : (s : Subject) (tasks : List GroupTask) (old new : GroupState) (m n : ℕ) → m ≡ n → RunsTasks (nodes_in s) (subject_text s) tasks old new m → RunsTasks (nodes_in s) (subject_text s) tasks old new n
+runs_as s tasks old new m n same run = subst (RunsTasks (nodes_in s) (subject_text s) tasks old new) same run
 
-pub works_none : (s : Subject) (tasks : List Task) (told : Told) (steps : ℕ) → IsTold told → AreReady (nodes_in s) (text_in s) tasks → Works s tasks told tasks told 0 steps steps
+pub works_none : (s : Subject) (tasks : List GroupTask) (told : Decided) (steps : ℕ) → HasBlank told → AreReady (nodes_in s) (subject_text s) tasks → Works s tasks told tasks told 0 steps steps
 works_none s tasks told steps is ready = record {
   told = is;
   ready = ready;
@@ -27,7 +27,7 @@ works_none s tasks told steps is ready = record {
   counts = least_none steps _ (omega arith);
 }
 
-pub works_then : (s : Subject) (t0 t1 t2 : List Task) (a b c : Told) (d e n x y z : ℕ) → n ≤ d + e → Works s t0 a t1 b d x y → Works s t1 b t2 c e y z → Works s t0 a t2 c n x z
+pub works_then : (s : Subject) (t0 t1 t2 : List GroupTask) (a b c : Decided) (d e n x y z : ℕ) → n ≤ d + e → Works s t0 a t1 b d x y → Works s t1 b t2 c e y z → Works s t0 a t2 c n x z
 works_then s t0 t1 t2 a b c d e n x y z few one two = record {
   told = two.told;
   ready = two.ready;
@@ -43,7 +43,7 @@ works_then s t0 t1 t2 a b c d e n x y z few one two = record {
 }
 
 -- groups are forgotten
-pub works_forget : (s : Subject) (x : ℕ) (rest : List Task) (old new : Told) (steps : ℕ) → AreReady (nodes_in s) (text_in s) (Forget x ∷ rest) → IsTold new →
+pub works_forget : (s : Subject) (x : ℕ) (rest : List GroupTask) (old new : Decided) (steps : ℕ) → AreReady (nodes_in s) (subject_text s) (Forget x ∷ rest) → HasBlank new →
     told_in new ≡ drop_groups (tree_at (nodes_in s) x) (told_in old) → new.spans ≡ old.spans → Works s (Forget x ∷ rest) old rest new 1 steps steps
 works_forget s x rest old new steps ready told state spans = record {
   told = told;
@@ -51,13 +51,13 @@ works_forget s x rest old new steps ready told state spans = record {
   less = omega arith;
   spent = λ long short. (short, (omega arith, omega arith));
   n = 0;
-  run = λ f m run. runs_as s rest (drop_groups (tree_at (nodes_in s) x) (told_in old)) f m (0 + m) (omega arith) (subst (λ v. Runs (nodes_in s) (text_in s) rest v f m) state run);
+  run = λ f m run. runs_as s rest (drop_groups (tree_at (nodes_in s) x) (told_in old)) f m (0 + m) (omega arith) (subst (λ v. RunsTasks (nodes_in s) (subject_text s) rest v f m) state run);
   entered = least_none steps 0 refl;
   counts = least_none steps _ (rw spans (omega arith));
 }
 
 -- the last task of a stack comes first
-pub popped : (stack rest : List Task) (task : Task) → stack ≡ rest ++ (task ∷ []) → reverse stack ≡ task ∷ reverse rest
+pub popped : (stack rest : List GroupTask) (task : GroupTask) → stack ≡ rest ++ (task ∷ []) → reverse stack ≡ task ∷ reverse rest
 popped stack rest task is = ap reverse is ∙ reverse-append rest (task ∷ [])
 
 -- A turn, as it is paid.
@@ -71,8 +71,8 @@ done_once None = omega arith
 done_once (Some p) = omega arith
 
 -- fewer nodes can be looked at then, and fewer gone on to if one comes next
-turn_fewer : (nodes : List Node) (n : ℕ) (then : Then) (rest : List Task) → looks nodes (tasks_of then) + 1 ≤ n →
-    (looks nodes (tasks_of then ++ rest) + 1 ≤ n + looks nodes rest) × (descents nodes (tasks_of then ++ rest) + 1 ≤ (n - 1) + descents nodes rest + done (next_of then))
+turn_fewer : (nodes : List Node) (n : ℕ) (then : Then) (rest : List GroupTask) → looks nodes (tasks_after then) + 1 ≤ n →
+    (looks nodes (tasks_after then ++ rest) + 1 ≤ n + looks nodes rest) × (descents nodes (tasks_after then ++ rest) + 1 ≤ (n - 1) + descents nodes rest + done (next_of then))
 turn_fewer nodes n Done rest fewer = (omega (arith, fewer), omega (arith, fewer))
 turn_fewer nodes n (One next) rest fewer = (omega (arith, fewer), omega (arith, fewer, size-pos (tree_at nodes next.node)))
 turn_fewer nodes n (Two next (Forget x)) rest fewer = (omega (arith, fewer), omega (arith, fewer, size-pos (tree_at nodes next.node)))
@@ -89,40 +89,40 @@ turn_paid s here (Some next) long d d' l l' before after short fewer less paid =
     let cost : part_cost (length (nodes_in s)) (here.stop - here.start) ≤ part_cost (length (nodes_in s)) long = mul-le-mul_left (172 * length (nodes_in s)) short in
     omega (arith, less, paid, cost, mul-le-mul_left (part_cost (length (nodes_in s)) long) down)
 
-ready-append : (nodes : List Node) (w : List ℕ) (xs ys : List Task) → AreReady nodes w xs → AreReady nodes w ys → AreReady nodes w (xs ++ ys)
+ready-append : (nodes : List Node) (w : List ℕ) (xs ys : List GroupTask) → AreReady nodes w xs → AreReady nodes w ys → AreReady nodes w (xs ++ ys)
 ready-append nodes w [] ys left right = right
 ready-append nodes w (Apart here ∷ xs) ys left right = (left.0, ready-append nodes w xs ys left.1 right)
 ready-append nodes w (Forget x ∷ xs) ys left right = (left.0, ready-append nodes w xs ys left.1 right)
 
-weights-append : (nodes : List Node) (xs ys : List Task) → weights nodes (xs ++ ys) ≡ weights nodes xs + weights nodes ys
+weights-append : (nodes : List Node) (xs ys : List GroupTask) → weights nodes (xs ++ ys) ≡ weights nodes xs + weights nodes ys
 weights-append nodes [] ys = omega arith
 weights-append nodes (Apart here ∷ xs) ys = omega (arith, weights-append nodes xs ys)
 weights-append nodes (Forget x ∷ xs) ys = omega (arith, weights-append nodes xs ys)
 
 -- there are no more tasks than they weigh
-pub no_more : (nodes : List Node) (tasks : List Task) → length tasks ≤ weights nodes tasks
+pub no_more : (nodes : List Node) (tasks : List GroupTask) → length tasks ≤ weights nodes tasks
 no_more nodes [] = omega arith
 no_more nodes (Apart here ∷ tasks) = omega (arith, no_more nodes tasks, size-pos (tree_at nodes here.node))
 no_more nodes (Forget x ∷ tasks) = omega (arith, no_more nodes tasks)
 
 -- matches within a short one are short
-short-append : (long i j : ℕ) (tasks rest : List Task) → j ≤ i + long → AreWithin i j tasks → AreShort long rest → AreShort long (tasks ++ rest)
+short-append : (long i j : ℕ) (tasks rest : List GroupTask) → j ≤ i + long → AreWithin i j tasks → AreShort long rest → AreShort long (tasks ++ rest)
 short-append long i j [] rest short within all = all
 short-append long i j (Apart here ∷ tasks) rest short within all = (omega (arith, short, within.0, within.1), short-append long i j tasks rest short within.2 all)
 short-append long i j (Forget x ∷ tasks) rest short within all = short-append long i j tasks rest short within all
 
-turn_works : (s : Subject) (here : Matched) (then : Then) (rest : List Task) (old new : Told) (n before after : ℕ) → AreReady (nodes_in s) (text_in s) (Apart here ∷ rest) →
-    IsTurn s here (told_in old) (told_in new) then n → Takes before after (kind_cost s here (next_of then) + 1) → TakesAtLeast before after n → IsTold new →
-    TakesAtLeast before after (found new.spans - found old.spans) → Works s (Apart here ∷ rest) old (tasks_of then ++ rest) new 1 before after
+turn_works : (s : Subject) (here : Matched) (then : Then) (rest : List GroupTask) (old new : Decided) (n before after : ℕ) → AreReady (nodes_in s) (subject_text s) (Apart here ∷ rest) →
+    IsTurn s here (told_in old) (told_in new) then n → Takes before after (kind_cost s here (next_of then) + 1) → TakesAtLeast before after n → HasBlank new →
+    TakesAtLeast before after (spans_in new.spans - spans_in old.spans) → Works s (Apart here ∷ rest) old (tasks_after then ++ rest) new 1 before after
 turn_works s here then rest old new n before after ready turn cost entered told counts =
     let nodes = nodes_in s in
     let fewer = turn_fewer nodes (size (tree_at nodes here.node)) then rest turn.fewer in
     record {
       told = told;
-      ready = ready-append nodes (text_in s) (tasks_of then) rest turn.ready ready.1;
-      less = omega (arith, turn.less, weights-append nodes (tasks_of then) rest);
+      ready = ready-append nodes (subject_text s) (tasks_after then) rest turn.ready ready.1;
+      less = omega (arith, turn.less, weights-append nodes (tasks_after then) rest);
       spent = λ long short. (
-        short-append long here.start here.stop (tasks_of then) rest short.0 turn.within short.1,
+        short-append long here.start here.stop (tasks_after then) rest short.0 turn.within short.1,
         (cost.0, turn_paid s here (next_of then) long _ _ _ _ before after (omega (arith, short.0)) fewer.1 fewer.0 cost.1),
       );
       n = n;
@@ -136,9 +136,9 @@ unfolding TakesExactly TakesAtLeast
 least_look s t u a b look up few = omega (arith, look, up, few)
 
 -- whether the node was looked at or not
-pub works_turn : (s : Subject) (here : Matched) (then : Then) (rest : List Task) (old new : Told) (r : Region) (before after : ℕ) → AreReady (nodes_in s) (text_in s) (Apart here ∷ rest) →
-    Turned s here (told_in old) (told_in new) r then before after → IsTold new → TakesAtLeast before after (found new.spans - found old.spans) →
-    Works s (Apart here ∷ rest) old (tasks_of then ++ rest) new 1 before after
+pub works_turn : (s : Subject) (here : Matched) (then : Then) (rest : List GroupTask) (old new : Decided) (r : Region) (before after : ℕ) → AreReady (nodes_in s) (subject_text s) (Apart here ∷ rest) →
+    Turned s here (told_in old) (told_in new) r then before after → HasBlank new → TakesAtLeast before after (spans_in new.spans - spans_in old.spans) →
+    Works s (Apart here ∷ rest) old (tasks_after then ++ rest) new 1 before after
 works_turn s here then rest old new r before after ready (inl (none, same, nothing, still)) told counts =
     turn_works s here then rest old new 0 before after ready (rw (same, nothing) (left_turn s here (told_in old) none)) (rw (nothing, still) (omega arith, omega arith)) (rw still (least_none before 0 refl)) told counts
 works_turn s here then rest old new r before after ready (inr (node, begun, is, look, once, turned)) told counts =
@@ -146,19 +146,19 @@ works_turn s here then rest old new r before after ready (inr (node, begun, is, 
     turn_works s here then rest old new (entered_at node) before after ready turned.turn (omega (arith, once.0, cost.0), omega (arith, once.1, cost.1))
     (least_less before after 1 (entered_at node) (least_look before begun after 0 1 look cost.0 (omega arith)) (omega arith)) told counts
 
-pub turned_goes : (s : Subject) (here : Matched) (then : Then) (old new : State) (r : Region) (before after : ℕ) → Turned s here old new r then before after → GoesOn s r (next_of then)
+pub turned_goes : (s : Subject) (here : Matched) (then : Then) (old new : GroupState) (r : Region) (before after : ℕ) → Turned s here old new r then before after → GoesOn s r (next_of then)
 turned_goes s here then old new r before after (inl (none, same, nothing, still)) = rw nothing tt
 turned_goes s here then old new r before after (inr (node, begun, is, look, once, turned)) = turned.goes
 
 -- All tasks are done.
 
 -- the walk that was made over the match of the whole expression, and that each node was looked at that it enters
-pub walk_made : (s : Subject) (root i j d : ℕ) (start now : Told) (before after : ℕ) → root + 1 ≡ length (nodes_in s) →
-    Works s (Apart (record { node = root; start = i; stop = j }) ∷ []) start [] now d before after → (n : ℕ) × Walk (expression_tree s.prepared.now.arena.expr) (text_in s) i j (told_in start) (told_in now) n × TakesAtLeast before after n
+pub walk_made : (s : Subject) (root i j d : ℕ) (start now : Decided) (before after : ℕ) → root + 1 ≡ length (nodes_in s) →
+    Works s (Apart (record { node = root; start = i; stop = j }) ∷ []) start [] now d before after → (n : ℕ) × Walk (expression_tree s.prepared.now.arena.expr) (subject_text s) i j (told_in start) (told_in now) n × TakesAtLeast before after n
 walk_made s root i j d start now before after last works =
     let run = works.run (told_in now) 0 (refl, refl) in
     let same : root ≡ length (nodes_in s) - 1 = omega arith in
-    let w = text_in s in (
+    let w = subject_text s in (
       run.1,
       subst (λ x. Walk (tree_at (nodes_in s) x) w i j (told_in start) (told_in now) run.1) same
           (subst (λ mid. Walk (tree_at (nodes_in s) root) w i j (told_in start) mid run.1) (sym run.4.0) run.3),
@@ -166,7 +166,7 @@ walk_made s root i j d start now before after last works =
     )
 
 -- it gives each group that is due the span that the report says
-pub due_told : (e : Tree) (w : List ℕ) (i j n k : ℕ) (due : GroupSet) (now : State) (groups : Groups) → holds due 0 ≡ false → Matches e w i j → Walk e w i j (told_of due (undecided i j)) now n →
+pub due_told : (e : Tree) (w : List ℕ) (i j n k : ℕ) (due : GroupSet) (now : GroupState) (groups : Groups) → holds due 0 ≡ false → Matches e w i j → Walk e w i j (told_of due (undecided i j)) now n →
     IsReport e w i j groups → holds due k ≡ true → slice_index_or now.spans k None ≡ slice_index_or groups k None
 due_told e w i j n zero due now groups whole at walk report is = absurd (true≢false (sym is ∙ whole))
 due_told e w i j n (suc k) due now groups whole at walk report is = wanted e w i j n k (told_of due (undecided i j)) now groups refl at walk report (flags_at due (suc k) ∙ is)

@@ -1,9 +1,9 @@
 -- Tables of states.
 use Rattle.std.proofs.Common.{Result, Ok, Err, IfOk, ◌≡◌, ◌≢◌, ℕ, zero, suc, ◌+◌, ◌*◌, ◌/◌, ◌%◌, ◌^◌, ◌<◌, ◌≤◌, ◌↔◌, Bool, true, false, List, length, length-set, Option, Some, None, IsTrue, refl, sym, ap, ◌∙◌, subst, ⊎_elim, arith, mul-le-mul_left, slice_index_or, slice_set, replicate}
-use Rattle.sedpass.proofs.Words.{same_from_place, shl-shr, shl_whole, shl_below, from_bool, with_item, pow-le-pow_right, cases_eq, get_or-set_same, get_or-set_other, get_or_default, IsExpr, WrittenExpression, mirror_node, seen, old_node, Node, Set, AgreeBelow, row_of, Flags, Kind, Prepared, Way, Work, Beginning, Table}
+use Rattle.sedpass.proofs.Words.{same_from_place, shl-shr, shl_whole, shl_below, from_bool, with_item, pow-le-pow_right, cases_eq, get_or-set_same, get_or-set_other, get_or_default, IsExpr, WrittenExpression, mirror_node, seen, old_node, Node, Set, AgreeBelow, row_of, StateFlags, PlaceKind, Prepared, Way, Work, Beginning, Table}
 use Rattle.sedpass.specs.Prepared.{SameNulls}
-use Rattle.sedpass.specs.Rows.{nodes_of, at_begin, at_end, bits, SameBytes, LeadsTo, IsFirstRow}
-use Rattle.sedpass.specs.Table.{State, state_of, IsTold, HasRow, HasMarks, LeadsOn, BeginsIn, Names, IsNext, IsOffset, cell_of, LeadsBy, kind_number, beginning_at, beginning_of, MayBegin, HasRoom, IsRoomy, IsTable, SameRoom, SameShape, AddsStates, Codes, stops, code_of, ColumnAt, EdgeApart, EdgeFits, IsLayout, IsColumn}
+use Rattle.sedpass.specs.Rows.{nodes_of, at_begin, at_edge, bits, SameBytes, RowLeadsTo, IsFirstRow}
+use Rattle.sedpass.specs.Table.{PassState, state_of, FlagsShow, HasRow, HasMarks, LeadsOn, BeginsIn, NamesState, IsNext, IsOffset, cell_of, LeadsBy, kind_number, beginning_at, beginning_of, MayBegin, HasRoom, IsRoomy, IsTable, SameRoom, SameShape, AddsStates, Codes, stops, code_of, ColumnAt, EdgeApart, EdgeFits, IsLayout, IsColumn}
 use Rattle.sedpass.specs.declared.cells.Layout.{Layout}
 use Rattle.sedpass.proofs.LeaveLemmas.{twice}
 use Rattle.sedpass.proofs.RowLemmas.{bits_agree, bits_clear, bits_here, class_row}
@@ -14,10 +14,10 @@ use Rattle.sedpass.proofs.ClassLemmas.{bit_low, sides}
 pub bits_dead : (m : ℕ) (a : List Bool) → ((c : ℕ) → c < m → slice_index_or a c false ≡ false) ↔ ((c : ℕ) → bits m a c ≡ false)
 bits_dead m a = (bits_clear m a, λ none c lt. sym (bits_here m a c lt) ∙ none c)
 
-abbrev pub state : ℕ → (ℕ → Bool) → (ℕ → Bool) → Flags → State
+abbrev pub state : ℕ → (ℕ → Bool) → (ℕ → Bool) → StateFlags → PassState
 state r e d f = record { root = r; entered = e; ended = d; flags = f }
 
-pub state_same : (r r' : ℕ) (e e' d d' : ℕ → Bool) (f f' : Flags) → r ≡ r' → e ≡ e' → d ≡ d' → f ≡ f' → state r e d f ≡ state r' e' d' f'
+pub state_same : (r r' : ℕ) (e e' d d' : ℕ → Bool) (f f' : StateFlags) → r ≡ r' → e ≡ e' → d ≡ d' → f ≡ f' → state r e d f ≡ state r' e' d' f'
 state_same r r' e e' d d' f f' a b c g = ap (λ x. state x e d f) a ∙ ap (λ x. state r' x d f) b ∙ ap (λ x. state r' e' x f) c ∙ ap (λ x. state r' e' d' x) g
 
 -- Places of cells.
@@ -77,7 +77,7 @@ seen_bytes true e a b same = λ x members is.
     same x members (old.1 ∙ ap (λ (z : Node). Some z) set)
 
 -- a state leads on by bytes of one class
-pub leads_same : (e : WrittenExpression) (way : Way) (a b : State) (byte other : ℕ) (edge : Bool) → SameBytes e.nodes (Some other) (Some byte) → LeadsOn (nodes_of way e) way a byte edge b → LeadsOn (nodes_of way e) way a other edge b
+pub leads_same : (e : WrittenExpression) (way : Way) (a b : PassState) (byte other : ℕ) (edge : Bool) → SameBytes e.nodes (Some other) (Some byte) → LeadsOn (nodes_of way e) way a byte edge b → LeadsOn (nodes_of way e) way a other edge b
 leads_same e way a b byte other edge same leads =
     (leads.0, class_row (nodes_of way e) a.root way.keeps edge way.all_starts a.entered a.ended b.entered b.ended (Some byte) (Some other) (seen_bytes way.mirrored e (Some other) (Some byte) same) leads.1)
 
@@ -87,14 +87,14 @@ pub few_kinds : (a b : Bool) → kind_number a b < 4
 few_kinds a b = omega (arith, bit_low a, bit_low b)
 
 -- the number tells the kind
-kind_same : (one other : Kind) → kind_number one.begin one.end ≡ kind_number other.begin other.end → one ≡ other
+kind_same : (one other : PlaceKind) → kind_number one.begin one.end ≡ kind_number other.begin other.end → one ≡ other
 kind_same one other e =
     let begin = sides (from_bool one.end) (from_bool other.end) one.begin other.begin (omega (arith, e)) in
     let end = (sides 0 0 one.end other.end (omega (arith, begin.0))).1 in
-    ap (λ (x : Bool). let k : Kind = record { begin = x; end = one.end } in k) begin.1 ∙ ap (λ (x : Bool). let k : Kind = record { begin = other.begin; end = x } in k) end
+    ap (λ (x : Bool). let k : PlaceKind = record { begin = x; end = one.end } in k) begin.1 ∙ ap (λ (x : Bool). let k : PlaceKind = record { begin = other.begin; end = x } in k) end
 
 -- where another beginning is noted
-begin_apart : (all_starts : Bool) (root x other : ℕ) (kind kind' : Kind) → (IsTrue all_starts → x ≡ root) → (IsTrue all_starts → other ≡ root) → beginning_at all_starts x kind ≡ beginning_at all_starts other kind' → (x ≡ other) × (kind ≡ kind')
+begin_apart : (all_starts : Bool) (root x other : ℕ) (kind kind' : PlaceKind) → (IsTrue all_starts → x ≡ root) → (IsTrue all_starts → other ≡ root) → beginning_at all_starts x kind ≡ beginning_at all_starts other kind' → (x ≡ other) × (kind ≡ kind')
 begin_apart true root x other kind kind' one two e = (one refl ∙ sym (two refl), kind_same kind kind' e)
 begin_apart false root x other kind kind' one two e =
     let a = few_kinds kind.begin kind.end in
@@ -103,20 +103,20 @@ begin_apart false root x other kind kind' one two e =
 
 -- What the table names.
 
-abbrev code_by : Way → State → ℕ → ℕ → ℕ
+abbrev code_by : Way → PassState → ℕ → ℕ → ℕ
 code_by way a shift q = code_of (stops way a.flags) (q * 2 ^ shift)
 
-pub names_map : (m : ℕ) (t : Table) (P Q : State → Type 0) (v : ℕ) → ((a : State) → P a → Q a) → Names m t P v → Names m t Q v
+pub names_map : (m : ℕ) (t : Table) (P Q : PassState → Type 0) (v : ℕ) → ((a : PassState) → P a → Q a) → NamesState m t P v → NamesState m t Q v
 names_map m t P Q v up n = record { to = n.to; there = n.there; code = n.code; is = up (state_of m t n.to) n.is }
 
-pub codes_map : (p : Prepared) (t t' : Table) (P Q : State → Type 0) (v : ℕ) → ((a : State) → P a → Q a) → Codes p t t' P v → Codes p t t' Q v
+pub codes_map : (p : Prepared) (t t' : Table) (P Q : PassState → Type 0) (v : ℕ) → ((a : PassState) → P a → Q a) → Codes p t t' P v → Codes p t t' Q v
 codes_map p t t' P Q v up c = record { table = c.table; adds = c.adds; names = names_map (length p.arena.expr.nodes) t' P Q v up c.names }
 
 module _ (p : Prepared) (t t' : Table) (adds : AddsStates (length p.arena.expr.nodes) t t') (epoch : t'.epoch ≡ t.epoch) where
   abbrev m : ℕ
   m = length p.arena.expr.nodes
 
-  pub names_more : (P : State → Type 0) (v : ℕ) → Names m t P v → Names m t' P v
+  pub names_more : (P : PassState → Type 0) (v : ℕ) → NamesState m t P v → NamesState m t' P v
   names_more P v n = record {
     to = n.to;
     there = (let up = (adds.grows epoch).0 in let low = n.there in omega arith);
@@ -131,49 +131,49 @@ module _ (p : Prepared) (t t' : Table) (adds : AddsStates (length p.arena.expr.n
   offset_more o at = let up = (adds.grows epoch).0 in let low = at.0 in rw adds.shape.2 (omega arith, at.1)
 
   -- a state of the old table is one of the new table
-  pub names_moved : (Q : Way → State → State → Type 0) (o v : ℕ) → o / 2 ^ t.layout.shift < t.count → Names m t' (Q t.way (state_of m t (o / 2 ^ t.layout.shift))) v → Names m t' (Q t'.way (state_of m t' (o / 2 ^ t'.layout.shift))) v
+  pub names_moved : (Q : Way → PassState → PassState → Type 0) (o v : ℕ) → o / 2 ^ t.layout.shift < t.count → NamesState m t' (Q t.way (state_of m t (o / 2 ^ t.layout.shift))) v → NamesState m t' (Q t'.way (state_of m t' (o / 2 ^ t'.layout.shift))) v
   names_moved Q o v there n =
-      subst (λ (l : Layout). Names m t' (Q t'.way (state_of m t' (o / 2 ^ l.shift))) v) (sym adds.shape.2)
-      (subst (λ a. Names m t' (Q t'.way a) v) (sym (adds.kept epoch (o / 2 ^ t.layout.shift) there))
-      (subst (λ w. Names m t' (Q w (state_of m t (o / 2 ^ t.layout.shift))) v) (sym adds.shape.0) n))
+      subst (λ (l : Layout). NamesState m t' (Q t'.way (state_of m t' (o / 2 ^ l.shift))) v) (sym adds.shape.2)
+      (subst (λ a. NamesState m t' (Q t'.way a) v) (sym (adds.kept epoch (o / 2 ^ t.layout.shift) there))
+      (subst (λ w. NamesState m t' (Q w (state_of m t (o / 2 ^ t.layout.shift))) v) (sym adds.shape.0) n))
 
-  leads_more : (q k : ℕ) → q < t.count → (b : State) → LeadsBy p t q k b → LeadsBy p t' q k b
+  leads_more : (q k : ℕ) → q < t.count → (b : PassState) → LeadsBy p t q k b → LeadsBy p t' q k b
   leads_more q k there b leads byte edge small column =
       subst (λ w. LeadsOn (nodes_of w p.arena.expr) w (state_of m t' q) byte edge b) (sym adds.shape.0)
       (subst (λ a. LeadsOn (nodes_of t.way p.arena.expr) t.way a byte edge b) (sym (adds.kept epoch q there))
       (leads byte edge small (subst (λ (l : Layout). IsColumn l byte edge k) adds.shape.2 column)))
 
-  filled_more : (q k v : ℕ) → q < t.count → Names m t (LeadsBy p t q k) v → Names m t' (LeadsBy p t' q k) v
+  filled_more : (q k v : ℕ) → q < t.count → NamesState m t (LeadsBy p t q k) v → NamesState m t' (LeadsBy p t' q k) v
   filled_more q k v there n = names_map m t' (LeadsBy p t q k) (LeadsBy p t' q k) v (leads_more q k there) (names_more (LeadsBy p t q k) v n)
 
-  abbrev Begun : Table → Way → ℕ → Kind → Type 0
+  abbrev Begun : Table → Way → ℕ → PlaceKind → Type 0
   Begun u way root kind = MayBegin p way root → (beginning_of u (beginning_at way.all_starts root kind)).epoch ≡ u.epoch →
-      Names m u (BeginsIn (nodes_of way p.arena.expr) way root kind) (beginning_of u (beginning_at way.all_starts root kind)).code
+      NamesState m u (BeginsIn (nodes_of way p.arena.expr) way root kind) (beginning_of u (beginning_at way.all_starts root kind)).code
 
-  begun_more : (root : ℕ) (kind : Kind) → t'.beginnings ≡ t.beginnings → Begun t t.way root kind → Begun t' t'.way root kind
+  begun_more : (root : ℕ) (kind : PlaceKind) → t'.beginnings ≡ t.beginnings → Begun t t.way root kind → Begun t' t'.way root kind
   begun_more root kind same begun =
       let i = beginning_at t.way.all_starts root kind in
       let entry : beginning_of t' i ≡ beginning_of t i = ap (λ b. slice_index_or {A = Beginning} b.items i (record { epoch = 0; code = 0 })) same in
       subst (λ w. Begun t' w root kind) (sym adds.shape.0) (λ may is.
-      subst (λ (b : Beginning). Names m t' (BeginsIn (nodes_of t.way p.arena.expr) t.way root kind) b.code) (sym entry)
+      subst (λ (b : Beginning). NamesState m t' (BeginsIn (nodes_of t.way p.arena.expr) t.way root kind) b.code) (sym entry)
       (names_more (BeginsIn (nodes_of t.way p.arena.expr) t.way root kind) (beginning_of t i).code
       (begun may (sym (ap (λ (b : Beginning). b.epoch) entry) ∙ is ∙ epoch))))
 
   -- one more state, from which nothing is known yet
   pub one_more : IsTable p t → HasRoom m t' → t'.count ≡ t.count + 1 → t'.beginnings ≡ t.beginnings →
       ((q k : ℕ) → q < t.count → k < t.layout.width → cell_of t' q k ≡ cell_of t q k) → ((k : ℕ) → k < t.layout.width → cell_of t' t.count k ≡ 0) →
-      (state_of m t' t.count).root < m → IsTold (state_of m t' t.count) → IsTable p t'
+      (state_of m t' t.count).root < m → FlagsShow (state_of m t' t.count) → IsTable p t'
   one_more table room count begins before clear root told = record {
     expr = table.expr;
     room = room;
     layout = subst (λ l. IsLayout p.arena.expr.nodes l) (sym adds.shape.2) table.layout;
     roots = λ q there. ⊎_elim
         (λ (e : q ≡ t.count). subst (λ x. (state_of m t' x).root < m) (sym e) root)
-        (λ (ne : q ≢ t.count). let less : q < t.count = omega (arith, ne) in subst (λ (a : State). a.root < m) (sym (adds.kept epoch q less)) (table.roots q less))
+        (λ (ne : q ≢ t.count). let less : q < t.count = omega (arith, ne) in subst (λ (a : PassState). a.root < m) (sym (adds.kept epoch q less)) (table.roots q less))
         (cases_eq q t.count);
     told = λ q there. ⊎_elim
-        (λ (e : q ≡ t.count). subst (λ x. IsTold (state_of m t' x)) (sym e) told)
-        (λ (ne : q ≢ t.count). let less : q < t.count = omega (arith, ne) in subst (λ (a : State). IsTold a) (sym (adds.kept epoch q less)) (table.told q less))
+        (λ (e : q ≡ t.count). subst (λ x. FlagsShow (state_of m t' x)) (sym e) told)
+        (λ (ne : q ≢ t.count). let less : q < t.count = omega (arith, ne) in subst (λ (a : PassState). FlagsShow a) (sym (adds.kept epoch q less)) (table.told q less))
         (cases_eq q t.count);
     filled = λ q k there column some.
         let narrow : k < t.layout.width = subst (λ (l : Layout). k < l.width) adds.shape.2 column in
@@ -182,7 +182,7 @@ module _ (p : Prepared) (t t' : Table) (adds : AddsStates (length p.arena.expr.n
         (λ (ne : q ≢ t.count).
         let less : q < t.count = omega (arith, ne) in
         let same = before q k less narrow in
-        subst (λ v. Names m t' (LeadsBy p t' q k) v) (sym same) (filled_more q k (cell_of t q k) less (table.filled q k less narrow (subst (λ v. 0 < v) same some))))
+        subst (λ v. NamesState m t' (LeadsBy p t' q k) v) (sym same) (filled_more q k (cell_of t q k) less (table.filled q k less narrow (subst (λ v. 0 < v) same some))))
         (cases_eq q t.count);
     begun = λ root kind. begun_more root kind begins (table.begun root kind);
   }
@@ -199,8 +199,8 @@ noted_all P items at epoch code inside here all i =
     (cases_eq i at)
 
 -- one more cell is filled
-pub note_cell : (p : Prepared) (t : Table) → IsTable p t → (offset k v byte : ℕ) (edge : Bool) → IsOffset t offset → byte < 256 → IsColumn t.layout byte edge k → Names (length p.arena.expr.nodes) t (IsNext p t offset byte edge) v →
-    (SameNulls p.arena.expr.nodes → Names (length p.arena.expr.nodes) t (λ b. (end : Bool) → IsNext p t offset byte end b) v) → IsTable p (record t { cells = with_item t.cells (offset + k) v })
+pub note_cell : (p : Prepared) (t : Table) → IsTable p t → (offset k v byte : ℕ) (edge : Bool) → IsOffset t offset → byte < 256 → IsColumn t.layout byte edge k → NamesState (length p.arena.expr.nodes) t (IsNext p t offset byte edge) v →
+    (SameNulls p.arena.expr.nodes → NamesState (length p.arena.expr.nodes) t (λ b. (end : Bool) → IsNext p t offset byte end b) v) → IsTable p (record t { cells = with_item t.cells (offset + k) v })
 note_cell p t table offset k v byte edge there small column leads anywhere =
     let m = length p.arena.expr.nodes in
     let N : Table = record t { cells = with_item t.cells (offset + k) v } in
@@ -223,7 +223,7 @@ note_cell p t table offset k v byte edge there small column leads anywhere =
       past = old.past;
       early = old.early;
     } in
-    let here : Names m t (LeadsBy p t q k) v =
+    let here : NamesState m t (LeadsBy p t q k) v =
     ⊎_elim
     (λ (within : (t.layout.edge ≡ Some 0) × SameNulls p.arena.expr.nodes).
     names_map m t (λ b. (end : Bool) → IsNext p t offset byte end b) (LeadsBy p t q k) v
@@ -236,7 +236,7 @@ note_cell p t table offset k v byte edge there small column leads anywhere =
     let one = column_apart t.layout.columns class (slice_index_or t.layout.classes o 0) k edge end t.layout.edge apart column.0 at.0 column.1 at.1 in
     leads_same p.arena.expr t.way (state_of m t q) b byte o end (table.layout.classes o byte few small one.0) (subst (λ x. IsNext p t offset byte x b) (sym one.1) on)) leads)
     table.layout.apart in
-    let same_names : (P : State → Type 0) (x : ℕ) → Names m t P x → Names m N P x = λ P x n. record { to = n.to; there = n.there; code = n.code; is = n.is } in
+    let same_names : (P : PassState → Type 0) (x : ℕ) → NamesState m t P x → NamesState m N P x = λ P x n. record { to = n.to; there = n.there; code = n.code; is = n.is } in
     record {
       expr = table.expr;
       room = room;
@@ -251,13 +251,13 @@ note_cell p t table offset k v byte edge there small column leads anywhere =
           rw (value, at.1, at.0) (same_names (LeadsBy p t q k) v here))
           (λ (ne : x * size + j ≢ offset + k).
           let same : cell_of N x j ≡ cell_of t x j = get_or-set_other t.cells.items (offset + k) (x * size + j) v 0 ne in
-          subst (λ n. Names m N (LeadsBy p N x j) n) (sym same) (same_names (LeadsBy p t x j) (cell_of t x j) (table.filled x j less near (subst (λ n. 0 < n) same some))))
+          subst (λ n. NamesState m N (LeadsBy p N x j) n) (sym same) (same_names (LeadsBy p t x j) (cell_of t x j) (table.filled x j less near (subst (λ n. 0 < n) same some))))
           (cases_eq (x * size + j) (offset + k));
       begun = λ root kind may now. same_names (BeginsIn (nodes_of t.way p.arena.expr) t.way root kind) (beginning_of t (beginning_at t.way.all_starts root kind)).code (table.begun root kind may now);
     }
 
 -- one more beginning is noted
-pub note_beginning : (p : Prepared) (t : Table) → IsTable p t → (root code : ℕ) (kind : Kind) → MayBegin p t.way root → t.epoch < 4294967294 → Names (length p.arena.expr.nodes) t (BeginsIn (nodes_of t.way p.arena.expr) t.way root kind) code →
+pub note_beginning : (p : Prepared) (t : Table) → IsTable p t → (root code : ℕ) (kind : PlaceKind) → MayBegin p t.way root → t.epoch < 4294967294 → NamesState (length p.arena.expr.nodes) t (BeginsIn (nodes_of t.way p.arena.expr) t.way root kind) code →
     IsTable p (record t { beginnings = with_item t.beginnings (beginning_at t.way.all_starts root kind) (record { epoch = t.epoch; code = code }) })
 note_beginning p t table root code kind may epoch begins =
     let m = length p.arena.expr.nodes in
@@ -279,7 +279,7 @@ note_beginning p t table root code kind may epoch begins =
       past = noted_all (λ n. n ≤ t.epoch) t.beginnings.items at t.epoch code inside (omega arith) old.past;
       early = noted_all (λ n. n < 4294967294) t.beginnings.items at t.epoch code inside (omega (arith, epoch)) old.early;
     } in
-    let same_names : (P : State → Type 0) (x : ℕ) → Names m t P x → Names m N P x = λ P x n. record { to = n.to; there = n.there; code = n.code; is = n.is } in
+    let same_names : (P : PassState → Type 0) (x : ℕ) → NamesState m t P x → NamesState m N P x = λ P x n. record { to = n.to; there = n.there; code = n.code; is = n.is } in
     record {
       expr = table.expr;
       room = room;
@@ -296,7 +296,7 @@ note_beginning p t table root code kind may epoch begins =
           rw (ap (λ (b : Beginning). b.code) here, one.0, one.1) (same_names (BeginsIn (nodes_of t.way p.arena.expr) t.way root kind) code begins))
           (λ (ne : i ≢ at).
           let same : beginning_of N i ≡ beginning_of t i = get_or-set_other t.beginnings.items at i fresh none ne in
-          subst (λ (b : Beginning). Names m N (BeginsIn (nodes_of t.way p.arena.expr) t.way x other) b.code) (sym same)
+          subst (λ (b : Beginning). NamesState m N (BeginsIn (nodes_of t.way p.arena.expr) t.way x other) b.code) (sym same)
           (same_names (BeginsIn (nodes_of t.way p.arena.expr) t.way x other) (beginning_of t i).code (table.begun x other may' (sym (ap (λ (b : Beginning). b.epoch) same) ∙ now))))
           (cases_eq i at);
     }
@@ -344,11 +344,11 @@ adds_same m t t' shape epoch count same = record {
 }
 
 -- a new state
-module _ (m : ℕ) (t t' : Table) (root : ℕ) (leaves ends : List Bool) (flags : Flags) (there : t.count < t.room) (room : HasRoom m t) (shape : SameShape t t') (epoch : t'.epoch ≡ t.epoch) (count : t'.count ≡ t.count + 1)
+module _ (m : ℕ) (t t' : Table) (root : ℕ) (leaves ends : List Bool) (flags : StateFlags) (there : t.count < t.room) (room : HasRoom m t) (shape : SameShape t t') (epoch : t'.epoch ≡ t.epoch) (count : t'.count ≡ t.count + 1)
     (other_leaves : (q : ℕ) → q < length t.leaves → q ≢ t.count → row_of t'.leaves q ≡ row_of t.leaves q) (new_leaves : AgreeBelow m (row_of t'.leaves t.count) leaves)
     (other_ends : (q : ℕ) → q < length t.ends → q ≢ t.count → row_of t'.ends q ≡ row_of t.ends q) (new_ends : AgreeBelow m (row_of t'.ends t.count) ends)
     (roots : t'.roots.items ≡ slice_set t.roots.items t.count root) (all_flags : t'.flags.items ≡ slice_set t.flags.items t.count flags) where
-  abbrev none : Flags
+  abbrev none : StateFlags
   none = record { ends = false; dead = false }
 
   pub state_added : state_of m t' t.count ≡ state root (bits m leaves) (bits m ends) flags
@@ -385,8 +385,8 @@ root_read p t table offset state root there at is =
 
 -- the next state, as it was added to the table or found there
 module _ (p : Prepared) (t u : Table) (table : IsTable p t) (offset : ℕ) (there : IsOffset t offset) (state n root byte v : ℕ) (loaded : List Bool) (work : Work) (at : state ≡ offset / 2 ^ t.layout.shift) (nodes : n ≡ length p.arena.expr.nodes)
-    (root_is : root ≡ slice_index_or t.roots.items state root) (row : AgreeBelow n loaded (row_of t.leaves state)) (names : Names (length p.arena.expr.nodes) u (HasMarks p root work) v) where
-  abbrev here : State
+    (root_is : root ≡ slice_index_or t.roots.items state root) (row : AgreeBelow n loaded (row_of t.leaves state)) (names : NamesState (length p.arena.expr.nodes) u (HasMarks p root work) v) where
+  abbrev here : PassState
   here = state_of (length p.arena.expr.nodes) t (offset / 2 ^ t.layout.shift)
 
   same_root : root ≡ here.root
@@ -397,24 +397,24 @@ module _ (p : Prepared) (t u : Table) (table : IsTable p t) (offset : ℕ) (ther
       (subst (λ x. AgreeBelow (length p.arena.expr.nodes) loaded (row_of t.leaves x)) at (subst (λ x. AgreeBelow x loaded (row_of t.leaves state)) nodes row))
 
   abbrev Leads : Bool → Type 0
-  Leads edge = (before : ℕ → Bool) → LeadsTo (nodes_of t.way p.arena.expr) root t.way.keeps (bits (length p.arena.expr.nodes) loaded) before (Some byte) edge t.way.all_starts (bits (length p.arena.expr.nodes) work.leaves) (bits (length p.arena.expr.nodes) work.ends)
+  Leads edge = (before : ℕ → Bool) → RowLeadsTo (nodes_of t.way p.arena.expr) root t.way.keeps (bits (length p.arena.expr.nodes) loaded) before (Some byte) edge t.way.all_starts (bits (length p.arena.expr.nodes) work.leaves) (bits (length p.arena.expr.nodes) work.ends)
 
-  leads_state : (edge : Bool) → Leads edge → (b : State) → HasMarks p root work b → LeadsOn (nodes_of t.way p.arena.expr) t.way here byte edge b
+  leads_state : (edge : Bool) → Leads edge → (b : PassState) → HasMarks p root work b → LeadsOn (nodes_of t.way p.arena.expr) t.way here byte edge b
   leads_state edge leads b has = (
     has.0 ∙ same_root,
-    rw (has.2, has.1) (subst (λ x. LeadsTo (nodes_of t.way p.arena.expr) x t.way.keeps here.entered here.ended (Some byte) edge t.way.all_starts (bits (length p.arena.expr.nodes) work.leaves) (bits (length p.arena.expr.nodes) work.ends)) same_root
-        (subst (λ x. LeadsTo (nodes_of t.way p.arena.expr) root t.way.keeps x here.ended (Some byte) edge t.way.all_starts (bits (length p.arena.expr.nodes) work.leaves) (bits (length p.arena.expr.nodes) work.ends)) same_row (leads here.ended))),
+    rw (has.2, has.1) (subst (λ x. RowLeadsTo (nodes_of t.way p.arena.expr) x t.way.keeps here.entered here.ended (Some byte) edge t.way.all_starts (bits (length p.arena.expr.nodes) work.leaves) (bits (length p.arena.expr.nodes) work.ends)) same_root
+        (subst (λ x. RowLeadsTo (nodes_of t.way p.arena.expr) root t.way.keeps x here.ended (Some byte) edge t.way.all_starts (bits (length p.arena.expr.nodes) work.leaves) (bits (length p.arena.expr.nodes) work.ends)) same_row (leads here.ended))),
   )
 
-  pub names_leads : (edge : Bool) → Leads edge → Names (length p.arena.expr.nodes) u (LeadsOn (nodes_of t.way p.arena.expr) t.way here byte edge) v
+  pub names_leads : (edge : Bool) → Leads edge → NamesState (length p.arena.expr.nodes) u (LeadsOn (nodes_of t.way p.arena.expr) t.way here byte edge) v
   names_leads edge leads = names_map (length p.arena.expr.nodes) u (HasMarks p root work) (LeadsOn (nodes_of t.way p.arena.expr) t.way here byte edge) v (leads_state edge leads) names
 
-  pub names_anywhere : ((edge : Bool) → Leads edge) → Names (length p.arena.expr.nodes) u (λ b. (edge : Bool) → LeadsOn (nodes_of t.way p.arena.expr) t.way here byte edge b) v
+  pub names_anywhere : ((edge : Bool) → Leads edge) → NamesState (length p.arena.expr.nodes) u (λ b. (edge : Bool) → LeadsOn (nodes_of t.way p.arena.expr) t.way here byte edge b) v
   names_anywhere leads = names_map (length p.arena.expr.nodes) u (HasMarks p root work) (λ b. (edge : Bool) → LeadsOn (nodes_of t.way p.arena.expr) t.way here byte edge b) v (λ b has edge. leads_state edge (leads edge) b has) names
 
 -- a first state
-pub names_first : (p : Prepared) (u : Table) (way : Way) (root v : ℕ) (kind : Kind) (leaves ends : List Bool) → Names (length p.arena.expr.nodes) u (HasRow root (bits (length p.arena.expr.nodes) leaves) (bits (length p.arena.expr.nodes) ends)) v →
-    IsFirstRow (nodes_of way p.arena.expr) root way.keeps (at_begin way.mirrored kind) (at_end way.mirrored kind) (bits (length p.arena.expr.nodes) leaves) (bits (length p.arena.expr.nodes) ends) → Names (length p.arena.expr.nodes) u (BeginsIn (nodes_of way p.arena.expr) way root kind) v
+pub names_first : (p : Prepared) (u : Table) (way : Way) (root v : ℕ) (kind : PlaceKind) (leaves ends : List Bool) → NamesState (length p.arena.expr.nodes) u (HasRow root (bits (length p.arena.expr.nodes) leaves) (bits (length p.arena.expr.nodes) ends)) v →
+    IsFirstRow (nodes_of way p.arena.expr) root way.keeps (at_begin way.mirrored kind) (at_edge way.mirrored kind) (bits (length p.arena.expr.nodes) leaves) (bits (length p.arena.expr.nodes) ends) → NamesState (length p.arena.expr.nodes) u (BeginsIn (nodes_of way p.arena.expr) way root kind) v
 names_first p u way root v kind leaves ends n first =
     names_map (length p.arena.expr.nodes) u (HasRow root (bits (length p.arena.expr.nodes) leaves) (bits (length p.arena.expr.nodes) ends)) (BeginsIn (nodes_of way p.arena.expr) way root kind) v
     (λ b has. (
@@ -429,11 +429,11 @@ code_some true o v is = omega arith
 code_some false o v is = omega arith
 
 -- the code of a state is some number
-pub names_some : (p : Prepared) (t : Table) (P : State → Type 0) (v : ℕ) → Names (length p.arena.expr.nodes) t P v → 0 < v
+pub names_some : (p : Prepared) (t : Table) (P : PassState → Type 0) (v : ℕ) → NamesState (length p.arena.expr.nodes) t P v → 0 < v
 names_some p t P v n = code_some (stops t.way (state_of (length p.arena.expr.nodes) t n.to).flags) (n.to * 2 ^ t.layout.shift) v n.code
 
-module _ (p : Prepared) (t : Table) (table : IsTable p t) (P : State → Type 0) (v o : ℕ) (n : Names (length p.arena.expr.nodes) t P v) (tells : (b : Bool) (u : ℕ) → u < 2147483647 → v ≡ code_of b u → o ≡ u) where
-  named : State
+module _ (p : Prepared) (t : Table) (table : IsTable p t) (P : PassState → Type 0) (v o : ℕ) (n : NamesState (length p.arena.expr.nodes) t P v) (tells : (b : Bool) (u : ℕ) → u < 2147483647 → v ≡ code_of b u → o ≡ u) where
+  named : PassState
   named = state_of (length p.arena.expr.nodes) t n.to
 
   small_offset : n.to * 2 ^ t.layout.shift < 2147483647
@@ -469,11 +469,11 @@ module _ (p : Prepared) (t : Table) (table : IsTable p t) (offset byte k : ℕ) 
       let inside = cell_inside (2 ^ t.layout.shift) (offset / 2 ^ t.layout.shift) k t.count t.layout.width (length t.cells.items) at.0 column_inside table.layout.fits table.room.cells in
       omega (arith, inside, at.1)
 
-  pub known_cell : (v : ℕ) → byte < 256 → v ≡ slice_index_or t.cells.items (offset + k) 0 → 0 < v → Names (length p.arena.expr.nodes) t (LeadsOn (nodes_of t.way p.arena.expr) t.way (state_of (length p.arena.expr.nodes) t (offset / 2 ^ t.layout.shift)) byte edge) v
+  pub known_cell : (v : ℕ) → byte < 256 → v ≡ slice_index_or t.cells.items (offset + k) 0 → 0 < v → NamesState (length p.arena.expr.nodes) t (LeadsOn (nodes_of t.way p.arena.expr) t.way (state_of (length p.arena.expr.nodes) t (offset / 2 ^ t.layout.shift)) byte edge) v
   known_cell v small is some =
       let q = offset / 2 ^ t.layout.shift in
       let same : v ≡ cell_of t q k = is ∙ ap (λ x. slice_index_or t.cells.items (x + k) 0) at.1 in
-      subst (λ x. Names (length p.arena.expr.nodes) t (LeadsOn (nodes_of t.way p.arena.expr) t.way (state_of (length p.arena.expr.nodes) t q) byte edge) x) (sym same)
+      subst (λ x. NamesState (length p.arena.expr.nodes) t (LeadsOn (nodes_of t.way p.arena.expr) t.way (state_of (length p.arena.expr.nodes) t q) byte edge) x) (sym same)
       (names_map (length p.arena.expr.nodes) t (LeadsBy p t q k) (LeadsOn (nodes_of t.way p.arena.expr) t.way (state_of (length p.arena.expr.nodes) t q) byte edge) (cell_of t q k) (λ b leads. leads byte edge small column)
       (table.filled q k at.0 column_inside (subst (λ x. 0 < x) same some)))
 

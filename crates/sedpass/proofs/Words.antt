@@ -18,7 +18,7 @@ pub use Rattle.sedtext.specs.Answer.{SpanAnswer}
 pub use Rattle.sedtext.specs.Beginnings.{AllBegin, NextStart, NoneIn}
 pub use Rattle.sedtext.specs.Caps.{Captures, IsReport, LastCopy, LastCut, only, then}
 pub use Rattle.sedtext.specs.Costs.{CostsWithin}
-pub use Rattle.sedtext.specs.Following.{LiesOn, PassesOver}
+pub use Rattle.sedtext.specs.Following.{LiesOn, LooksPast}
 pub use Rattle.sedtext.specs.Groups.{Groups, forget, no_groups}
 pub use Rattle.sedtext.specs.Matching.{byte_is_in, leftmost_longest, groups_after, unless_null_at}
 pub use Rattle.sedtext.specs.Nodes.{IsRepetitionOf, parts_of, total_size}
@@ -38,19 +38,19 @@ pub use Rattle.std.proofs.lemmas.Option.{cond_some, get_or_from_slice_get, none-
 pub use Rattle.std.specs.Int.{bit_at, from_bool, trailing_zeros}
 pub use Rattle.std.specs.Option.{option_eq, option_or}
 pub use Rattle.std.specs.Vec.{with_item}
-pub use Rattle.sedpass.specs.declared.cells.Flags.{Flags}
+pub use Rattle.sedpass.specs.declared.cells.StateFlags.{StateFlags}
 pub use Rattle.sedpass.specs.declared.forwards.Passed.{Passed}
 pub use Rattle.sedpass.specs.declared.group_set.GroupSet.{GroupSet}
 pub use Rattle.sedpass.specs.declared.groups.Matched.{Matched}
-pub use Rattle.sedpass.specs.declared.groups.Task.{Task}
-pub use Rattle.sedpass.specs.declared.groups.Task.TheVariants.{Apart, Forget}
+pub use Rattle.sedpass.specs.declared.groups.GroupTask.{GroupTask}
+pub use Rattle.sedpass.specs.declared.groups.GroupTask.TheVariants.{Apart, Forget}
 pub use Rattle.sedpass.specs.declared.groups.Then.TheVariants.{Done, One, Two}
-pub use Rattle.sedpass.specs.declared.groups.Told.{Told}
+pub use Rattle.sedpass.specs.declared.groups.Decided.{Decided}
 pub use Rattle.sedpass.specs.declared.kept.Kept.{Kept}
 pub use Rattle.sedpass.specs.declared.kept.Region.{Region}
 pub use Rattle.sedpass.specs.declared.kept.Subject.{Subject}
 pub use Rattle.sedpass.specs.declared.nodes.Facts.{Facts}
-pub use Rattle.sedpass.specs.declared.nodes.Kind.{Kind}
+pub use Rattle.sedpass.specs.declared.nodes.PlaceKind.{PlaceKind}
 pub use Rattle.sedpass.specs.declared.nodes.Prepared.{Prepared}
 pub use Rattle.sedpass.specs.declared.rows.Way.{Way}
 pub use Rattle.sedpass.specs.declared.rows.Work.{Work}

@@ -29,7 +29,7 @@ pub record IsNumbering (numbers : List ℕ) (count : ℕ) : Type 0 where
   pub apart : (key other : ℕ) → key < 512 → other < 512 → slice_index_or numbers key 0 ≡ slice_index_or numbers other 0 → slice_index_or numbers key 0 < count → key ≡ other
 
 -- the key has a number, and the others have what they had
-pub record IsGiven (numbers : List ℕ) (key count : ℕ) (after : List ℕ) (next : ℕ) : Type 0 where
+pub record IsNumbered (numbers : List ℕ) (key count : ℕ) (after : List ℕ) (next : ℕ) : Type 0 where
   pub numbering : IsNumbering after next
   pub here : slice_index_or after key 0 < next
   pub grows : count ≤ next

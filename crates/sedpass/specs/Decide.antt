@@ -17,16 +17,16 @@ use Rattle.sedpass.specs.Prepared.{holds, length_of}
 use Rattle.sedpass.specs.Kept.{IsKept, KeptRoom, SameSpace}
 use Rattle.sedpass.specs.Regions.{IsLastIn}
 use Rattle.sedpass.specs.Table.{IsAhead, IsRoomy, IsTable, SameRoom, SameShape}
-use Rattle.sedpass.specs.Walks.{State, is_due, drop_groups, GroupStandsIn, NoneDue, Walk}
+use Rattle.sedpass.specs.Walks.{GroupState, is_due, drop_groups, GroupStandsIn, NoneDue, Walk}
 use Rattle.sedpass.specs.declared.group_set.GroupSet.{GroupSet}
 use Rattle.sedpass.specs.declared.groups.GroupRoom.{GroupRoom}
 use Rattle.sedpass.specs.declared.groups.GroupTables.{GroupTables}
 use Rattle.sedpass.specs.declared.groups.Matched.{Matched}
-use Rattle.sedpass.specs.declared.groups.Task.{Task}
-use Rattle.sedpass.specs.declared.groups.Task.TheVariants.{Apart, Forget}
+use Rattle.sedpass.specs.declared.groups.GroupTask.{GroupTask}
+use Rattle.sedpass.specs.declared.groups.GroupTask.TheVariants.{Apart, Forget}
 use Rattle.sedpass.specs.declared.groups.Then.{Then}
 use Rattle.sedpass.specs.declared.groups.Then.TheVariants.{Done, One, Two}
-use Rattle.sedpass.specs.declared.groups.Told.{Told}
+use Rattle.sedpass.specs.declared.groups.Decided.{Decided}
 use Rattle.sedpass.specs.declared.kept.Kept.{Kept}
 use Rattle.sedpass.specs.declared.kept.Region.{Region}
 use Rattle.sedpass.specs.declared.kept.Subject.{Subject}
@@ -37,26 +37,26 @@ abbrev pub flags_of : GroupSet → List Bool
 flags_of s = holds s 0 ∷ holds s 1 ∷ holds s 2 ∷ holds s 3 ∷ holds s 4 ∷ holds s 5 ∷ holds s 6 ∷ holds s 7 ∷ holds s 8 ∷ holds s 9 ∷ []
 
 -- which groups are due, and the spans of those that aren't
-abbrev pub told_of : GroupSet → Groups → State
+abbrev pub told_of : GroupSet → Groups → GroupState
 told_of due spans = record { due = flags_of due; spans = spans }
 
-abbrev pub told_in : Told → State
+abbrev pub told_in : Decided → GroupState
 told_in t = told_of t.due t.spans
 
 -- what is due has no span so far
-abbrev pub Blank : State → Type 0
+abbrev pub Blank : GroupState → Type 0
 Blank s = (k : ℕ) → is_due s k ≡ true → slice_index_or s.spans k None ≡ None
 
 -- and the whole match isn't due
-pub record IsTold (t : Told) : Type 0 where
+pub record HasBlank (t : Decided) : Type 0 where
   pub blank : Blank (told_in t)
   pub whole : holds t.due 0 ≡ false
 
 -- how many entries have a span
-abbrev pub found : Groups → ℕ
-found [] = 0
-found (None ∷ g) = found g
-found (Some span ∷ g) = 1 + found g
+abbrev pub spans_in : Groups → ℕ
+spans_in [] = 0
+spans_in (None ∷ g) = spans_in g
+spans_in (Some span ∷ g) = 1 + spans_in g
 
 -- the groups of a match before they are decided: entry 0 is the whole match, and no other has a span
 abbrev pub undecided : ℕ → ℕ → Groups
@@ -70,8 +70,8 @@ HasAll due e = (k : ℕ) → 1 ≤ k → k < 10 → GroupStandsIn e k → IsTrue
 abbrev pub nodes_in : Subject → List Node
 nodes_in s = s.prepared.now.arena.expr.nodes
 
-abbrev pub text_in : Subject → List ℕ
-text_in s = s.text.now
+abbrev pub subject_text : Subject → List ℕ
+subject_text s = s.text.now
 
 -- the node matches its span, within the text
 pub record IsMatch (nodes : List Node) (w : List ℕ) (here : Matched) : Type 0 where
@@ -81,71 +81,71 @@ pub record IsMatch (nodes : List Node) (w : List ℕ) (here : Matched) : Type 0 
   pub at : At nodes w here.node here.start here.stop
 
 -- the match is there, and what its node is
-pub record Stands (s : Subject) (here : Matched) (node : Node) : Type 0 where
+pub record NodeMatches (s : Subject) (here : Matched) (node : Node) : Type 0 where
   pub arena : IsArena (nodes_in s)
   pub is : slice_get (nodes_in s) here.node ≡ Some node
-  pub there : IsMatch (nodes_in s) (text_in s) here
+  pub there : IsMatch (nodes_in s) (subject_text s) here
 
 -- the tasks, the first one first, bring the state `old` to the state `new`, and enter n nodes
-abbrev pub Runs : List Node → List ℕ → List Task → State → State → ℕ → Type 0
-Runs nodes w [] old new n = (new ≡ old) × (n ≡ 0)
-Runs nodes w (Apart here ∷ tasks) old new n =
-    (mid : State) × (p : ℕ) × (q : ℕ) × Walk (tree_at nodes here.node) w here.start here.stop old mid p × Runs nodes w tasks mid new q × (n ≡ p + q)
-Runs nodes w (Forget x ∷ tasks) old new n = Runs nodes w tasks (drop_groups (tree_at nodes x) old) new n
+abbrev pub RunsTasks : List Node → List ℕ → List GroupTask → GroupState → GroupState → ℕ → Type 0
+RunsTasks nodes w [] old new n = (new ≡ old) × (n ≡ 0)
+RunsTasks nodes w (Apart here ∷ tasks) old new n =
+    (mid : GroupState) × (p : ℕ) × (q : ℕ) × Walk (tree_at nodes here.node) w here.start here.stop old mid p × RunsTasks nodes w tasks mid new q × (n ≡ p + q)
+RunsTasks nodes w (Forget x ∷ tasks) old new n = RunsTasks nodes w tasks (drop_groups (tree_at nodes x) old) new n
 
 -- each node is there, and one to be decided matches its span within the text
-abbrev pub AreReady : List Node → List ℕ → List Task → Type 0
+abbrev pub AreReady : List Node → List ℕ → List GroupTask → Type 0
 AreReady nodes w [] = Unit {0}
 AreReady nodes w (Apart here ∷ tasks) = IsMatch nodes w here × AreReady nodes w tasks
 AreReady nodes w (Forget x ∷ tasks) = (x < length nodes) × AreReady nodes w tasks
 
 -- how many tasks can still come of these
-abbrev pub weights : List Node → List Task → ℕ
+abbrev pub weights : List Node → List GroupTask → ℕ
 weights nodes [] = 0
 weights nodes (Apart here ∷ tasks) = 2 * size (tree_at nodes here.node) + weights nodes tasks
 weights nodes (Forget x ∷ tasks) = 1 + weights nodes tasks
 
 -- the sizes of all trees to be decided: so many nodes can still be looked at
-abbrev pub looks : List Node → List Task → ℕ
+abbrev pub looks : List Node → List GroupTask → ℕ
 looks nodes [] = 0
 looks nodes (Apart here ∷ tasks) = size (tree_at nodes here.node) + looks nodes tasks
 looks nodes (Forget x ∷ tasks) = looks nodes tasks
 
 -- the sizes of all trees to be decided, without their first nodes: so many nodes can still be gone on to
-abbrev pub descents : List Node → List Task → ℕ
+abbrev pub descents : List Node → List GroupTask → ℕ
 descents nodes [] = 0
 descents nodes (Apart here ∷ tasks) = (size (tree_at nodes here.node) - 1) + descents nodes tasks
 descents nodes (Forget x ∷ tasks) = descents nodes tasks
 
 -- each node to be decided matches within i..j
-abbrev pub AreWithin : ℕ → ℕ → List Task → Type 0
+abbrev pub AreWithin : ℕ → ℕ → List GroupTask → Type 0
 AreWithin i j [] = Unit {0}
 AreWithin i j (Apart here ∷ tasks) = (i ≤ here.start) × (here.stop ≤ j) × AreWithin i j tasks
 AreWithin i j (Forget x ∷ tasks) = AreWithin i j tasks
 
 -- each node to be decided matches no more than so many bytes
-abbrev pub AreShort : ℕ → List Task → Type 0
+abbrev pub AreShort : ℕ → List GroupTask → Type 0
 AreShort long [] = Unit {0}
 AreShort long (Apart here ∷ tasks) = (here.stop ≤ here.start + long) × AreShort long tasks
 AreShort long (Forget x ∷ tasks) = AreShort long tasks
 
 -- so many nodes were entered: those tasks that are left bring the new state to where all bring the old one
-abbrev pub Continues : List Node → List ℕ → List Task → State → List Task → State → ℕ → Type 0
-Continues nodes w tasks old rest new n = (f : State) (m : ℕ) → Runs nodes w rest new f m → Runs nodes w tasks old f (n + m)
+abbrev pub Continues : List Node → List ℕ → List GroupTask → GroupState → List GroupTask → GroupState → ℕ → Type 0
+Continues nodes w tasks old rest new n = (f : GroupState) (m : ℕ) → RunsTasks nodes w rest new f m → RunsTasks nodes w tasks old f (n + m)
 
 -- what comes in place of a node, the first task first
-abbrev pub tasks_of : Then → List Task
-tasks_of Done = []
-tasks_of (One next) = Apart next ∷ []
-tasks_of (Two next later) = Apart next ∷ later ∷ []
+abbrev pub tasks_after : Then → List GroupTask
+tasks_after Done = []
+tasks_after (One next) = Apart next ∷ []
+tasks_after (Two next later) = Apart next ∷ later ∷ []
 
 -- a turn at the match enters n nodes: this comes in its place, and the state is the new one
-pub record IsTurn (s : Subject) (here : Matched) (old new : State) (then : Then) (n : ℕ) : Type 0 where
-  pub run : (rest : List Task) → Continues (nodes_in s) (text_in s) (Apart here ∷ rest) old (tasks_of then ++ rest) new n
-  pub ready : AreReady (nodes_in s) (text_in s) (tasks_of then)
-  pub within : AreWithin here.start here.stop (tasks_of then)
-  pub less : weights (nodes_in s) (tasks_of then) + 1 ≤ 2 * size (tree_at (nodes_in s) here.node)
-  pub fewer : looks (nodes_in s) (tasks_of then) + 1 ≤ size (tree_at (nodes_in s) here.node)
+pub record IsTurn (s : Subject) (here : Matched) (old new : GroupState) (then : Then) (n : ℕ) : Type 0 where
+  pub run : (rest : List GroupTask) → Continues (nodes_in s) (subject_text s) (Apart here ∷ rest) old (tasks_after then ++ rest) new n
+  pub ready : AreReady (nodes_in s) (subject_text s) (tasks_after then)
+  pub within : AreWithin here.start here.stop (tasks_after then)
+  pub less : weights (nodes_in s) (tasks_after then) + 1 ≤ 2 * size (tree_at (nodes_in s) here.node)
+  pub fewer : looks (nodes_in s) (tasks_after then) + 1 ≤ size (tree_at (nodes_in s) here.node)
 
 -- how many nodes a turn enters: itself, unless it has no part
 abbrev pub entered_at : Node → ℕ
@@ -163,16 +163,16 @@ pub record HasDesk (s : Subject) (tables : GroupTables) (kept : Kept) : Type 0 w
   pub ahead : IsAhead s.prepared.now tables.ahead
 
 -- and the region is kept
-pub record IsDesk (s : Subject) (tables : GroupTables) (kept : Kept) : Type 0 where
+pub record IsGroupDesk (s : Subject) (tables : GroupTables) (kept : Kept) : Type 0 where
   pub region : IsKept s.prepared.now s.text.now tables.inside kept
   pub one_end : tables.inside.way.all_starts ≡ false
   pub ahead : IsAhead s.prepared.now tables.ahead
 
 -- the match of the node is there, and ends where the region does that is kept
 pub record IsAtEnd (s : Subject) (tables : GroupTables) (kept : Kept) (here : Matched) (node : Node) : Type 0 where
-  pub stands : Stands s here node
+  pub stands : NodeMatches s here node
   pub ends : EndsRegion s kept.region here
-  pub desk : IsDesk s tables kept
+  pub desk : IsGroupDesk s tables kept
 
 -- the way of each of the tables
 pub record HaveWays (t : GroupTables) : Type 0 where
@@ -210,13 +210,13 @@ pub record SameTables (old new : GroupTables) : Type 0 where
   pub ahead : SameShape old.ahead new.ahead
 
 -- a region is kept again, in the same room
-pub record KeepsDesk (s : Subject) (old new : GroupTables) (before after : Kept) : Type 0 where
-  pub desk : IsDesk s new after
+pub record KeepsGroupDesk (s : Subject) (old new : GroupTables) (before after : Kept) : Type 0 where
+  pub desk : IsGroupDesk s new after
   pub shape : SameTables old new
   pub space : SameSpace before after
 
 -- groups can be decided again, in the same room
-pub record KeepsRoom (s : Subject) (old new : GroupTables) (before after : GroupRoom) : Type 0 where
+pub record KeepsGroupRoom (s : Subject) (old new : GroupTables) (before after : GroupRoom) : Type 0 where
   pub desk : HasDesk s new after.kept
   pub shape : SameTables old new
   pub space : SameSpace before.kept after.kept
@@ -247,12 +247,12 @@ LooksAt s here node next before after = Unit {0}
 -- the last copy of the part in a match of a repetition begins there, or is an empty one; or there is none
 abbrev pub IsCopyFrom : Subject → Matched → NodeId → Bool → Option ℕ → Type 0
 IsCopyFrom s here a first (Some c) =
-    ((here.start < here.stop) × LastCopy (At (nodes_in s) (text_in s) a.index) here.stop here.start c)
-    ⊎ ((here.start ≡ here.stop) × (IsTrue first × At (nodes_in s) (text_in s) a.index c c) × (c ≡ here.start))
-IsCopyFrom s here a first None = (here.start ≡ here.stop) × ((IsTrue first × At (nodes_in s) (text_in s) a.index here.start here.start) → ⊥)
+    ((here.start < here.stop) × LastCopy (At (nodes_in s) (subject_text s) a.index) here.stop here.start c)
+    ⊎ ((here.start ≡ here.stop) × (IsTrue first × At (nodes_in s) (subject_text s) a.index c c) × (c ≡ here.start))
+IsCopyFrom s here a first None = (here.start ≡ here.stop) × ((IsTrue first × At (nodes_in s) (subject_text s) a.index here.start here.start) → ⊥)
 
 -- the tasks that wait, and before them one match
-abbrev pub waiting : Option Matched → List Task → List Task
+abbrev pub waiting : Option Matched → List GroupTask → List GroupTask
 waiting None stack = reverse stack
 waiting (Some here) stack = Apart here ∷ reverse stack
 
@@ -270,39 +270,39 @@ kind_cost s here None = 1
 kind_cost s here (Some next) = part_cost (length (nodes_in s)) (here.stop - here.start) + 1
 
 -- those of tasks, where none matches more than so many bytes: two for each node, and those to go on to each part
-abbrev pub tasks_cost : List Node → ℕ → List Task → ℕ
+abbrev pub tasks_cost : List Node → ℕ → List GroupTask → ℕ
 tasks_cost nodes long tasks = part_cost (length nodes) long * descents nodes tasks + 2 * looks nodes tasks
 
 -- A turn at a match of the node enters it, unless it has no part: this comes in its place, the first match in the region; what it costs,
 -- and what was looked at.
-pub record NodeTurned (s : Subject) (here : Matched) (node : Node) (old new : State) (r : Region) (then : Then) (before after : ℕ) : Type 0 where
+pub record NodeTurned (s : Subject) (here : Matched) (node : Node) (old new : GroupState) (r : Region) (then : Then) (before after : ℕ) : Type 0 where
   pub turn : IsTurn s here old new then (entered_at node)
   pub goes : GoesOn s r (next_of then)
   pub cost : Takes before after (kind_cost s here (next_of then))
   pub looks : LooksAt s here node (next_of then) before after
 
 -- of a match nothing comes where no group of it is due; else its node is looked at
-abbrev pub Turned : Subject → Matched → State → State → Region → Then → ℕ → ℕ → Type 0
+abbrev pub Turned : Subject → Matched → GroupState → GroupState → Region → Then → ℕ → ℕ → Type 0
 Turned s here old new r then before after =
     (NoneDue (tree_at (nodes_in s) here.node) old × (new ≡ old) × (then ≡ Done) × (after ≡ before))
     ⊎ ((node : Node) × (begun : ℕ) × (slice_get (nodes_in s) here.node ≡ Some node) × TakesExactly before begun 1 × Takes before begun 1 × NodeTurned s here node old new r then begun after)
 
 -- the tasks can be done there
-pub record MayWork (s : Subject) (tables : GroupTables) (room : GroupRoom) (told : Told) (tasks : List Task) : Type 0 where
+pub record MayWork (s : Subject) (tables : GroupTables) (room : GroupRoom) (told : Decided) (tasks : List GroupTask) : Type 0 where
   pub arena : IsArena (nodes_in s)
-  pub ready : AreReady (nodes_in s) (text_in s) tasks
+  pub ready : AreReady (nodes_in s) (subject_text s) tasks
   pub enough : weights (nodes_in s) tasks ≤ vec_capacity room.tasks
   pub desk : HasDesk s tables room.kept
-  pub is_told : IsTold told
+  pub is_told : HasBlank told
 
 -- The tasks are done as far as those left, which are ready, and of which d fewer can still come: what is known then, its cost, where
 -- none matches more than so many bytes, and n nodes that were entered, each of which was looked at.
-pub record Works (s : Subject) (tasks : List Task) (old : Told) (rest : List Task) (new : Told) (d before after : ℕ) : Type 0 where
-  pub told : IsTold new
-  pub ready : AreReady (nodes_in s) (text_in s) rest
+pub record Works (s : Subject) (tasks : List GroupTask) (old : Decided) (rest : List GroupTask) (new : Decided) (d before after : ℕ) : Type 0 where
+  pub told : HasBlank new
+  pub ready : AreReady (nodes_in s) (subject_text s) rest
   pub less : weights (nodes_in s) rest + d ≤ weights (nodes_in s) tasks
   pub spent : (long : ℕ) → AreShort long tasks → AreShort long rest × CostsWithin before after (tasks_cost (nodes_in s) long tasks) (tasks_cost (nodes_in s) long rest)
   pub n : ℕ
-  pub run : Continues (nodes_in s) (text_in s) tasks (told_in old) rest (told_in new) n
+  pub run : Continues (nodes_in s) (subject_text s) tasks (told_in old) rest (told_in new) n
   pub entered : TakesAtLeast before after n
-  pub counts : TakesAtLeast before after (found new.spans - found old.spans)
+  pub counts : TakesAtLeast before after (spans_in new.spans - spans_in old.spans)

@@ -5,7 +5,7 @@ use Rattle.sedre.specs.declared.types.Node.{Node}
 use Rattle.sedtext.specs.declared.starts.Starts.{Starts}
 use Rattle.sedtext.specs.Reach.{SomeSpan}
 use Rattle.sedpass.specs.Rows.{nodes_of}
-use Rattle.sedpass.specs.Table.{State, state_of, StateAt}
+use Rattle.sedpass.specs.Table.{PassState, state_of, StateAt}
 use Rattle.sedpass.specs.declared.nodes.Prepared.{Prepared}
 use Rattle.sedpass.specs.declared.rows.Way.{Way}
 use Rattle.sedpass.specs.declared.table.Table.{Table}
@@ -21,12 +21,12 @@ LastBelow nodes w r s n None = (k : ℕ) → k < n → SomeSpan nodes w r s k �
 LastBelow nodes w r s n (Some j) = (j < n) × SomeSpan nodes w r s j × ((k : ℕ) → k < n → SomeSpan nodes w r s k → k ≤ j)
 
 -- the last place of all, or in a sweep some place
-abbrev pub IsEnd : Bool → List Node → List ℕ → ℕ → Starts → Option ℕ → Type 0
-IsEnd all_starts nodes w r s None = (k : ℕ) → SomeSpan nodes w r s k → ⊥
-IsEnd all_starts nodes w r s (Some j) = SomeSpan nodes w r s j × (all_starts ≡ false → (k : ℕ) → SomeSpan nodes w r s k → k ≤ j)
+abbrev pub IsPassEnd : Bool → List Node → List ℕ → ℕ → Starts → Option ℕ → Type 0
+IsPassEnd all_starts nodes w r s None = (k : ℕ) → SomeSpan nodes w r s k → ⊥
+IsPassEnd all_starts nodes w r s (Some j) = SomeSpan nodes w r s j × (all_starts ≡ false → (k : ℕ) → SomeSpan nodes w r s k → k ≤ j)
 
 -- the state is that of the place, in a pass from `start` for the whole expression
-abbrev pub Arrives : Prepared → Way → List ℕ → ℕ → ℕ → State → Type 0
+abbrev pub Arrives : Prepared → Way → List ℕ → ℕ → ℕ → PassState → Type 0
 Arrives p way w start place a = (a.root ≡ p.root) × StateAt (nodes_of way p.arena.expr) w (starts_of way.all_starts start w) way.keeps place a
 
 -- the end is the last below the place, in such a pass
@@ -39,4 +39,4 @@ pub record PassIs (p : Prepared) (t : Table) (w : List ℕ) (start : ℕ) (at : 
   pub within : at.place ≤ length w
   pub state : Arrives p t.way w start at.place (state_of (length p.arena.expr.nodes) t (at.offset / 2 ^ t.layout.shift))
   pub last : EndsBelow p t.way w start (at.place + 1) at.end
-  pub over : IsTrue at.over → IsEnd t.way.all_starts (nodes_of t.way p.arena.expr) w p.root (starts_of t.way.all_starts start w) at.end
+  pub over : IsTrue at.over → IsPassEnd t.way.all_starts (nodes_of t.way p.arena.expr) w p.root (starts_of t.way.all_starts start w) at.end

@@ -5,9 +5,9 @@ use Rattle.sedre.specs.declared.types.Node.{Node}
 use Rattle.sedtext.specs.declared.starts.Starts.{Starts}
 use Rattle.sedtext.specs.Reach.{one_start, starts_to}
 use Rattle.sedtext.specs.Words.{row_of}
-use Rattle.sedpass.specs.Regions.{ReachesEnd, Meets}
+use Rattle.sedpass.specs.Regions.{ReachesEnd, MeetsAt}
 use Rattle.sedpass.specs.Rows.{nodes_of, bits, RowOfPlace}
-use Rattle.sedpass.specs.Table.{State, state_of, StateAt, IsOffset, IsTable, MayBegin, SameShape}
+use Rattle.sedpass.specs.Table.{PassState, state_of, StateAt, IsOffset, IsTable, MayBegin, SameShape}
 use Rattle.sedpass.specs.declared.nodes.Prepared.{Prepared}
 use Rattle.sedpass.specs.declared.rows.Way.{Way}
 use Rattle.sedpass.specs.declared.table.Table.{Table}
@@ -32,7 +32,7 @@ RowKept p w way root end place entered ended =
     RowOfPlace (nodes_of way p.arena.expr) (reverse w) root (starts_told way.all_starts (length w) end) way.keeps (length w - place) entered ended
 
 -- the state is that of the place in the pass
-abbrev pub KeptAt : Prepared → List ℕ → Way → (root end place : ℕ) → State → Type 0
+abbrev pub KeptAt : Prepared → List ℕ → Way → (root end place : ℕ) → PassState → Type 0
 KeptAt p w way root end place a = (a.root ≡ root) × RowKept p w way root end place a.entered a.ended
 
 -- of the places from one up to another: the node x is marked, or isn't, as asked
@@ -132,7 +132,7 @@ Follows p w t a i place offset =
 -- the two meet at each place from one up to another
 abbrev pub Meet : Prepared → List ℕ → Table → Kept → ℕ → ℕ → ℕ → ℕ → Type 0
 Meet p w t k a i from to = (q : ℕ) → from ≤ q → q < to →
-    Meets p.arena.expr.nodes w k.region.root (ends_told t.way.all_starts (length w) k.region.end) a (one_start i) q
+    MeetsAt p.arena.expr.nodes w k.region.root (ends_told t.way.all_starts (length w) k.region.end) a (one_start i) q
 
 -- What it may cost.
 
@@ -147,5 +147,5 @@ again m (suc places) = 59 * m * (suc places) + 13 * m
 
 -- the steps that looks into the region from a place on may take: to make what isn't made yet, of which a place at least is then in the
 -- table, and each of the others once again
-abbrev pub owed : ℕ → Region → ℕ → ℕ
-owed m r place = if nat_lt place r.low then 100 * m * (r.end - place) else again m (r.end - due_place r place)
+abbrev pub owed_region : ℕ → Region → ℕ → ℕ
+owed_region m r place = if nat_lt place r.low then 100 * m * (r.end - place) else again m (r.end - due_place r place)

@@ -6,7 +6,7 @@ use Rattle.sedre.specs.Tree.{Tree, set, begin, end, seq, alt, group, star, Writt
 use Rattle.sedre.specs.declared.types.Node.{Node}
 use Rattle.sedpass.specs.Classes.{AreClasses}
 use Rattle.sedpass.specs.declared.nodes.Facts.{Facts}
-use Rattle.sedpass.specs.declared.nodes.Kind.{Kind}
+use Rattle.sedpass.specs.declared.nodes.PlaceKind.{PlaceKind}
 use Rattle.sedpass.specs.Walks.{has_group}
 use Rattle.sedpass.specs.declared.group_set.GroupSet.{GroupSet}
 
@@ -45,7 +45,7 @@ abbrev pub holds : GroupSet → ℕ → Bool
 holds groups k = nat_lt k 10 && eqb (bit_at groups.bits k) 1
 
 -- What a contract sees of an expression that was copied into room made once: the expression, and how many nodes there is room for.
-pub record Held : Type 0 where
+pub record HeldExpression : Type 0 where
   pub expr : WrittenExpression
   pub room : ℕ
 
@@ -60,7 +60,7 @@ nullable first last (group k a) = nullable first last a
 nullable first last other = true
 
 -- the node matches the null string at places of the kind
-abbrev pub null_in : List Node → Kind → ℕ → Bool
+abbrev pub null_in : List Node → PlaceKind → ℕ → Bool
 null_in nodes kind x = nullable kind.begin kind.end (tree_at nodes x)
 
 -- what is known of null strings at places of a kind: a bit for each
@@ -68,15 +68,15 @@ abbrev pub null_at : ℕ → Bool → Bool → Bool
 null_at kinds first last = eqb (bit_at kinds (from_bool first + 2 * from_bool last)) 1
 
 -- the expression is one byte of a set
-abbrev pub is_set : Tree → Bool
-is_set (set members) = true
-is_set other = false
+abbrev pub is_one_set : Tree → Bool
+is_one_set (set members) = true
+is_one_set other = false
 
 -- the part that is a set, if the expression repeats one, in groups or not; x is the index of its last node
-abbrev pub run_of : Tree → ℕ → Option ℕ
-run_of (group k a) x = run_of a (x - 1)
-run_of (star a first) x = cond (is_set a) (Some (x - 1)) None
-run_of other x = None
+abbrev pub repeated_set : Tree → ℕ → Option ℕ
+repeated_set (group k a) x = repeated_set a (x - 1)
+repeated_set (star a first) x = cond (is_one_set a) (Some (x - 1)) None
+repeated_set other x = None
 
 -- what is known of a node: the tree there, and its index
 pub record IsFacts (t : Tree) (x : ℕ) (facts : Facts) : Type 0 where
@@ -84,7 +84,7 @@ pub record IsFacts (t : Tree) (x : ℕ) (facts : Facts) : Type 0 where
   pub null : (first last : Bool) → null_at facts.null first last ≡ nullable first last t
   pub groups : (k : ℕ) → holds facts.groups k ≡ (reported k && has_group t k)
   pub long : facts.length ≡ length_of t
-  pub run : facts.run ≡ run_of t x
+  pub run : facts.run ≡ repeated_set t x
 
 -- the same of all nodes
 abbrev pub AreFacts : List Node → List Facts → Type 0

@@ -10,8 +10,8 @@ use Rattle.sedtext.specs.declared.starts.Starts.{Starts}
 use Rattle.sedtext.specs.Matching.{byte_is_in}
 use Rattle.sedtext.specs.Places.{IsPlace}
 use Rattle.sedtext.specs.Reach.{At, IsStart, Enters, PartFrom}
-use Rattle.sedpass.specs.Regions.{EndsAt}
-use Rattle.sedpass.specs.declared.nodes.Kind.{Kind}
+use Rattle.sedpass.specs.Regions.{EndsPastIn}
+use Rattle.sedpass.specs.declared.nodes.PlaceKind.{PlaceKind}
 use Rattle.sedpass.specs.declared.rows.Way.{Way}
 
 -- the nodes that a pass of the way sees
@@ -19,13 +19,13 @@ abbrev pub nodes_of : Way → WrittenExpression → List Node
 nodes_of way e = (seen way.mirrored e).nodes
 
 -- whether places of the kind are the beginning, and the end, of the text as a pass sees it, mirrored or not
-abbrev pub at_begin : Bool → Kind → Bool
+abbrev pub at_begin : Bool → PlaceKind → Bool
 at_begin true kind = kind.end
 at_begin false kind = kind.begin
 
-abbrev pub at_end : Bool → Kind → Bool
-at_end true kind = kind.begin
-at_end false kind = kind.end
+abbrev pub at_edge : Bool → PlaceKind → Bool
+at_edge true kind = kind.begin
+at_edge false kind = kind.end
 
 -- the first m of the marks
 abbrev pub bits : ℕ → List Bool → ℕ → Bool
@@ -93,7 +93,7 @@ LeafAt nodes w r s p c = (members : List Bool) × (slice_get nodes c ≡ Some (S
 
 -- the node has ended at the place: any in r where the row keeps them, else r alone
 abbrev pub EndKept : List Node → List ℕ → ℕ → Starts → Bool → ℕ → ℕ → Type 0
-EndKept nodes w r s keeps p c = (IsTrue keeps ⊎ (c ≡ r)) × EndsAt nodes w r s c p
+EndKept nodes w r s keeps p c = (IsTrue keeps ⊎ (c ≡ r)) × EndsPastIn nodes w r s c p
 
 -- the row of the place: which leaves are entered there, and which nodes have ended
 pub record RowOfPlace (nodes : List Node) (w : List ℕ) (r : ℕ) (s : Starts) (keeps : Bool) (p : ℕ) (entered ended : ℕ → Bool) : Type 0 where
@@ -108,8 +108,8 @@ abbrev pub RowFrom : List Node → List ℕ → ℕ → Starts → Bool → (p y
 RowFrom nodes w r s keeps p y entered ended = TellFrom y entered (LeafAt nodes w r s p) × TellFrom y ended (EndKept nodes w r s keeps p)
 
 -- from one row this byte leads to the other, at a place that is the text's end or not, and a start or not
-abbrev pub LeadsTo : List Node → ℕ → Bool → (ℕ → Bool) → (ℕ → Bool) → Option ℕ → Bool → Bool → (ℕ → Bool) → (ℕ → Bool) → Type 0
-LeadsTo nodes r keeps entered ended byte end start after after_ended = (w : List ℕ) (s : Starts) (p : ℕ) → SameBytes nodes (slice_get w p) byte →
+abbrev pub RowLeadsTo : List Node → ℕ → Bool → (ℕ → Bool) → (ℕ → Bool) → Option ℕ → Bool → Bool → (ℕ → Bool) → (ℕ → Bool) → Type 0
+RowLeadsTo nodes r keeps entered ended byte end start after after_ended = (w : List ℕ) (s : Starts) (p : ℕ) → SameBytes nodes (slice_get w p) byte →
     (IsTrue end ↔ (p + 1 ≡ length w)) → (IsTrue start ↔ IsStart s (p + 1)) → RowOfPlace nodes w r s keeps p entered ended → RowOfPlace nodes w r s keeps (p + 1) after after_ended
 
 -- a pass from a place of the kind begins with the row

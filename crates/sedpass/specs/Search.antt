@@ -9,7 +9,7 @@ use Rattle.sedtext.specs.Beginnings.{AllBegin, NoneIn}
 use Rattle.sedtext.specs.Spans.{IsLeftmostLongest, NotFound}
 use Rattle.sedtext.specs.declared.beginnings.Begins.{Begins}
 use Rattle.sedpass.specs.Table.{IsAhead, IsTable, SameShape}
-use Rattle.sedpass.specs.Kept.{IsKept, KeptRoom, SameSpace, owed}
+use Rattle.sedpass.specs.Kept.{IsKept, KeptRoom, SameSpace, owed_region}
 use Rattle.sedpass.specs.declared.nodes.Prepared.{Prepared}
 use Rattle.sedpass.specs.declared.table.Table.{Table}
 use Rattle.sedpass.specs.declared.kept.Kept.{Kept}
@@ -19,7 +19,7 @@ use Rattle.sedpass.specs.declared.search.Trials.{Trials}
 use Rattle.sedpass.specs.declared.search.Trials.TheVariants.{Hit, Nothing, Tired}
 
 -- there is room for a pass from the text's end, and what is kept of it is right if it was begun
-pub record Serves (p : Prepared) (w : List ℕ) (back : Table) (s : Seeking) : Type 0 where
+pub record SearchServes (p : Prepared) (w : List ℕ) (back : Table) (s : Seeking) : Type 0 where
   pub table : IsTable p back
   pub room : KeptRoom (length p.arena.expr.nodes) (length w) back s.kept
   pub all_starts : IsTrue back.way.all_starts
@@ -29,7 +29,7 @@ pub record Serves (p : Prepared) (w : List ℕ) (back : Table) (s : Seeking) : T
 pub record MaySearch (p : Prepared) (w : List ℕ) (first : Begins) (a b : Table) (s : Seeking) : Type 0 where
   pub begins : AllBegin (expression_tree p.arena.expr) first
   pub ahead : IsAhead p a
-  pub serves : Serves p w b s
+  pub serves : SearchServes p w b s
 
 -- from a and b, ahead and back, the tables came to be a' and b', of the same shapes, the one ahead is right, and there is as much room
 -- for what is kept
@@ -42,7 +42,7 @@ pub record TablesStay (p : Prepared) (a a' b b' : Table) (k k' : Kept) : Type 0 
 -- a search was made, which leaves all as the next one in the text needs it
 pub record Searched (p : Prepared) (w : List ℕ) (a a' b b' : Table) (s s' : Seeking) : Type 0 where
   pub tables : TablesStay p a a' b b' s.kept s'.kept
-  pub serves : Serves p w b' s'
+  pub serves : SearchServes p w b' s'
 
 -- what trials from the place on found
 abbrev pub TrialsAnswer : Tree → List ℕ → ℕ → Trials → Type 0
@@ -93,24 +93,24 @@ search_cost m n from = m * (5 * n + 142 * (n - from) + 40 * (n - from - 1) + 44)
 
 -- the steps that searches from a place on may still take, over what one search takes besides: by the pass from the text's end,
 abbrev pub owed_kept : ℕ → ℕ → Region → ℕ → ℕ
-owed_kept m n r place = owed m r place + 42 * m * (n - place)
+owed_kept m n r place = owed_region m r place + 42 * m * (n - place)
 
 -- by that or by trials,
-abbrev pub owed_search : ℕ → ℕ → Seeking → ℕ → ℕ
-owed_search m n s place =
+abbrev pub owed_seeking : ℕ → ℕ → Seeking → ℕ → ℕ
+owed_seeking m n s place =
     if s.begun then owed_kept m n s.kept.region place else 40 * m * (2 * n + 1 - s.tried) + 142 * m * (n - place)
 
 -- and after an answer: none where there is no match
-abbrev pub owed_after : (ℕ → ℕ) → Option (ℕ × ℕ) → ℕ
-owed_after due None = 0
-owed_after due (Some f) = due f.1
+abbrev pub owed_after_search : (ℕ → ℕ) → Option (ℕ × ℕ) → ℕ
+owed_after_search due None = 0
+owed_after_search due (Some f) = due f.1
 
 -- Of all occurrences in one text.
 
 -- the steps that the searches after an occurrence that ended at the place may still take: two for each byte of the rest of the text,
 -- and two more
 abbrev pub owed_behind : ℕ → ℕ → Seeking → ℕ → ℕ
-owed_behind m n s place = owed_search m n s place + 86 * m * (n + 1 - place)
+owed_behind m n s place = owed_seeking m n s place + 86 * m * (n + 1 - place)
 
 -- the steps in which an occurrence is sought from a place on: in the square of the text's length at most, and one at least for each
 -- byte from that place on up to its end

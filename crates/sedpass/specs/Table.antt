@@ -6,12 +6,12 @@ use Rattle.sedre.specs.Arena.{IsExpr}
 use Rattle.sedre.specs.declared.types.Node.{Node}
 use Rattle.sedtext.specs.declared.starts.Starts.{Starts}
 use Rattle.sedtext.specs.Words.{row_of}
-use Rattle.sedpass.specs.Rows.{nodes_of, at_begin, at_end, bits, RowOfPlace, LeadsTo, IsFirstRow}
-use Rattle.sedpass.specs.declared.nodes.Kind.{Kind}
+use Rattle.sedpass.specs.Rows.{nodes_of, at_begin, at_edge, bits, RowOfPlace, RowLeadsTo, IsFirstRow}
+use Rattle.sedpass.specs.declared.nodes.PlaceKind.{PlaceKind}
 use Rattle.sedpass.specs.declared.nodes.Prepared.{Prepared}
 use Rattle.sedpass.specs.declared.rows.Way.{Way}
 use Rattle.sedpass.specs.declared.rows.Work.{Work}
-use Rattle.sedpass.specs.declared.cells.Flags.{Flags}
+use Rattle.sedpass.specs.declared.cells.StateFlags.{StateFlags}
 use Rattle.sedpass.specs.declared.cells.Layout.{Layout}
 use Rattle.sedpass.specs.declared.table.Beginning.{Beginning}
 use Rattle.sedpass.specs.declared.table.Table.{Table}
@@ -21,7 +21,7 @@ use Rattle.sedpass.specs.Prepared.{SameNulls}
 -- Codes of states, and where the cells of a state are.
 
 -- whether a pass stops at a state: its root ends, or no match that began goes on (where the ends are kept, only this)
-abbrev pub stops : Way → Flags → Bool
+abbrev pub stops : Way → StateFlags → Bool
 stops way flags = (not way.keeps && (flags.ends || (flags.dead && not way.all_starts))) || (way.keeps && flags.dead)
 
 -- the number that names the state whose cells begin there: so those at which a pass stops are the low ones
@@ -63,14 +63,14 @@ IsColumn layout byte edge k = (slice_index_or layout.classes byte 0 < layout.col
 -- States.
 
 -- the root of a pass, the row of a place in it, and what is known of the row
-pub record State : Type 0 where
+pub record PassState : Type 0 where
   pub root : ℕ
   pub entered : ℕ → Bool
   pub ended : ℕ → Bool
-  pub flags : Flags
+  pub flags : StateFlags
 
 -- the state of a table with this number, for m nodes
-abbrev pub state_of : ℕ → Table → ℕ → State
+abbrev pub state_of : ℕ → Table → ℕ → PassState
 state_of m t q = record {
   root = slice_index_or t.roots.items q 0;
   entered = bits m (row_of t.leaves q);
@@ -79,29 +79,29 @@ state_of m t q = record {
 }
 
 -- the flags show whether the root ends, and whether no leaf is entered
-abbrev pub IsTold : State → Type 0
-IsTold a = (a.flags.ends ≡ a.ended a.root) × (IsTrue a.flags.dead ↔ ((c : ℕ) → a.entered c ≡ false))
+abbrev pub FlagsShow : PassState → Type 0
+FlagsShow a = (a.flags.ends ≡ a.ended a.root) × (IsTrue a.flags.dead ↔ ((c : ℕ) → a.entered c ≡ false))
 
 -- the state has this root and row
-abbrev pub HasRow : ℕ → (ℕ → Bool) → (ℕ → Bool) → State → Type 0
+abbrev pub HasRow : ℕ → (ℕ → Bool) → (ℕ → Bool) → PassState → Type 0
 HasRow root entered ended a = (a.root ≡ root) × (a.entered ≡ entered) × (a.ended ≡ ended)
 
 -- the state's row is that of the place
-abbrev pub StateAt : List Node → List ℕ → Starts → Bool → ℕ → State → Type 0
+abbrev pub StateAt : List Node → List ℕ → Starts → Bool → ℕ → PassState → Type 0
 StateAt nodes w s keeps p a = RowOfPlace nodes w a.root s keeps p a.entered a.ended
 
 -- this byte leads from the one state to the other, where the text's edge comes after it, or doesn't
-abbrev pub LeadsOn : List Node → Way → State → ℕ → Bool → State → Type 0
-LeadsOn nodes way a byte edge b = (b.root ≡ a.root) × LeadsTo nodes a.root way.keeps a.entered a.ended (Some byte) edge way.all_starts b.entered b.ended
+abbrev pub LeadsOn : List Node → Way → PassState → ℕ → Bool → PassState → Type 0
+LeadsOn nodes way a byte edge b = (b.root ≡ a.root) × RowLeadsTo nodes a.root way.keeps a.entered a.ended (Some byte) edge way.all_starts b.entered b.ended
 
 -- a pass for the root begins in the state, at places of the kind
-abbrev pub BeginsIn : List Node → Way → ℕ → Kind → State → Type 0
-BeginsIn nodes way root kind a = (a.root ≡ root) × IsFirstRow nodes root way.keeps (at_begin way.mirrored kind) (at_end way.mirrored kind) a.entered a.ended
+abbrev pub BeginsIn : List Node → Way → ℕ → PlaceKind → PassState → Type 0
+BeginsIn nodes way root kind a = (a.root ≡ root) × IsFirstRow nodes root way.keeps (at_begin way.mirrored kind) (at_edge way.mirrored kind) a.entered a.ended
 
 -- Codes.
 
 -- the number is the code of a state of the table of which P is true
-pub record Names (m : ℕ) (t : Table) (P : State → Type 0) (v : ℕ) : Type 0 where
+pub record NamesState (m : ℕ) (t : Table) (P : PassState → Type 0) (v : ℕ) : Type 0 where
   pub to : ℕ
   pub there : to < t.count
   pub code : v ≡ code_of (stops t.way (state_of m t to).flags) (to * 2 ^ t.layout.shift)
@@ -112,11 +112,11 @@ abbrev pub IsOffset : Table → ℕ → Type 0
 IsOffset t offset = (offset / 2 ^ t.layout.shift < t.count) × (offset ≡ offset / 2 ^ t.layout.shift * 2 ^ t.layout.shift)
 
 -- the state has this root and the row of the marks
-abbrev pub HasMarks : Prepared → ℕ → Work → State → Type 0
+abbrev pub HasMarks : Prepared → ℕ → Work → PassState → Type 0
 HasMarks p root work = HasRow root (bits (length p.arena.expr.nodes) work.leaves) (bits (length p.arena.expr.nodes) work.ends)
 
 -- the state comes after the one whose cells begin at the offset, and this byte, where the text's edge comes after it, or doesn't
-abbrev pub IsNext : Prepared → Table → (offset byte : ℕ) → Bool → State → Type 0
+abbrev pub IsNext : Prepared → Table → (offset byte : ℕ) → Bool → PassState → Type 0
 IsNext p t offset byte edge = LeadsOn (nodes_of t.way p.arena.expr) t.way (state_of (length p.arena.expr.nodes) t (offset / 2 ^ t.layout.shift)) byte edge
 
 -- Cells.
@@ -126,7 +126,7 @@ abbrev pub cell_of : Table → ℕ → ℕ → ℕ
 cell_of t q k = slice_index_or t.cells.items (q * 2 ^ t.layout.shift + k) 0
 
 -- each byte of the column leads from the state of number q to this one
-abbrev pub LeadsBy : Prepared → Table → ℕ → ℕ → State → Type 0
+abbrev pub LeadsBy : Prepared → Table → ℕ → ℕ → PassState → Type 0
 LeadsBy p t q k b = (byte : ℕ) (edge : Bool) → byte < 256 → IsColumn t.layout byte edge k →
     LeadsOn (nodes_of t.way p.arena.expr) t.way (state_of (length p.arena.expr.nodes) t q) byte edge b
 
@@ -136,7 +136,7 @@ abbrev pub kind_number : Bool → Bool → ℕ
 kind_number begin end = from_bool begin + 2 * from_bool end
 
 -- where a beginning is noted; in a sweep it is always one of the whole expression
-abbrev pub beginning_at : Bool → ℕ → Kind → ℕ
+abbrev pub beginning_at : Bool → ℕ → PlaceKind → ℕ
 beginning_at true root kind = kind_number kind.begin kind.end
 beginning_at false root kind = 4 * root + kind_number kind.begin kind.end
 
@@ -150,7 +150,7 @@ MayBegin p way root = (root < length p.arena.expr.nodes) × (IsTrue way.all_star
 -- Tables.
 
 -- of each state that there is room for: its rows, with so many marks, its root, and what is known of it
-pub record HasRows (states marks : ℕ) (leaf_rows end_rows : List (List Bool)) (all_roots : List ℕ) (all_flags : List Flags) : Type 0 where
+pub record HasRows (states marks : ℕ) (leaf_rows end_rows : List (List Bool)) (all_roots : List ℕ) (all_flags : List StateFlags) : Type 0 where
   pub some : 2 ≤ states
   pub few : states ≤ 65535
   pub leaves : length leaf_rows ≡ states
@@ -169,7 +169,7 @@ pub record HasRoom (m : ℕ) (t : Table) : Type 0 where
   pub reserved : t.room * 2 ^ t.layout.shift ≤ t.reserved
   pub capacity : t.reserved ≤ vec_capacity t.cells
   pub index : 2 ≤ length t.index.items
-  pub begins : (root : ℕ) (kind : Kind) → root < t.marks → beginning_at t.way.all_starts root kind < length t.beginnings.items
+  pub begins : (root : ℕ) (kind : PlaceKind) → root < t.marks → beginning_at t.way.all_starts root kind < length t.beginnings.items
   -- no beginning is of a later epoch, nor of one of the last two
   pub past : (i : ℕ) → (beginning_of t i).epoch ≤ t.epoch
   pub early : (i : ℕ) → (beginning_of t i).epoch < 4294967294
@@ -184,10 +184,10 @@ pub record IsTable (p : Prepared) (t : Table) : Type 0 where
   pub room : HasRoom (length p.arena.expr.nodes) t
   pub layout : IsLayout p.arena.expr.nodes t.layout
   pub roots : (q : ℕ) → q < t.count → (state_of (length p.arena.expr.nodes) t q).root < length p.arena.expr.nodes
-  pub told : (q : ℕ) → q < t.count → IsTold (state_of (length p.arena.expr.nodes) t q)
-  pub filled : (q k : ℕ) → q < t.count → k < t.layout.width → 0 < cell_of t q k → Names (length p.arena.expr.nodes) t (LeadsBy p t q k) (cell_of t q k)
-  pub begun : (root : ℕ) (kind : Kind) → MayBegin p t.way root → (beginning_of t (beginning_at t.way.all_starts root kind)).epoch ≡ t.epoch →
-      Names (length p.arena.expr.nodes) t (BeginsIn (nodes_of t.way p.arena.expr) t.way root kind) (beginning_of t (beginning_at t.way.all_starts root kind)).code
+  pub told : (q : ℕ) → q < t.count → FlagsShow (state_of (length p.arena.expr.nodes) t q)
+  pub filled : (q k : ℕ) → q < t.count → k < t.layout.width → 0 < cell_of t q k → NamesState (length p.arena.expr.nodes) t (LeadsBy p t q k) (cell_of t q k)
+  pub begun : (root : ℕ) (kind : PlaceKind) → MayBegin p t.way root → (beginning_of t (beginning_at t.way.all_starts root kind)).epoch ≡ t.epoch →
+      NamesState (length p.arena.expr.nodes) t (BeginsIn (nodes_of t.way p.arena.expr) t.way root kind) (beginning_of t (beginning_at t.way.all_starts root kind)).code
 
 -- an empty table was made: one for the expression for which it is laid out, or, laid out as widely as there is, for any
 pub record IsMade (asked : Way) (states nodes : ℕ) (layout : Layout) (t : Table) : Type 0 where
@@ -227,7 +227,7 @@ pub record AddsStates (m : ℕ) (old new : Table) : Type 0 where
   pub forgot : (new.epoch ≡ old.epoch → ⊥) → new.count ≤ 1
 
 -- the new table is right, a state was added at most, and the number is the code of a state of which P is true
-pub record Codes (p : Prepared) (old new : Table) (P : State → Type 0) (v : ℕ) : Type 0 where
+pub record Codes (p : Prepared) (old new : Table) (P : PassState → Type 0) (v : ℕ) : Type 0 where
   pub table : IsTable p new
   pub adds : AddsStates (length p.arena.expr.nodes) old new
-  pub names : Names (length p.arena.expr.nodes) new P v
+  pub names : NamesState (length p.arena.expr.nodes) new P v

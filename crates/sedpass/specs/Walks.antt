@@ -7,20 +7,20 @@ use Rattle.sedtext.specs.Caps.{LastCut, LastCopy}
 use Rattle.sedtext.specs.Groups.{Groups}
 
 -- which groups are due, that is not decided yet, and the spans of those that are decided
-pub record State : Type 0 where
+pub record GroupState : Type 0 where
   pub due : List Bool
   pub spans : Groups
 
 -- whether group k is due
-abbrev pub is_due : State → ℕ → Bool
+abbrev pub is_due : GroupState → ℕ → Bool
 is_due s k = slice_index_or s.due k false
 
 -- group k is decided, if it is due
-abbrev pub settle : ℕ → Option (ℕ × ℕ) → State → State
+abbrev pub settle : ℕ → Option (ℕ × ℕ) → GroupState → GroupState
 settle k v s = (if slice_index_or s.due k false then record { due = slice_set s.due k false; spans = slice_set s.spans k v } else s)
 
 -- the groups inside the expression that are still due have no span
-abbrev pub drop_groups : Tree → State → State
+abbrev pub drop_groups : Tree → GroupState → GroupState
 drop_groups (seq a b) s = drop_groups b (drop_groups a s)
 drop_groups (alt a b) s = drop_groups b (drop_groups a s)
 drop_groups (group k a) s = drop_groups a (settle k None s)
@@ -42,47 +42,47 @@ abbrev pub GroupStandsIn : Tree → ℕ → Type 0
 GroupStandsIn e k = IsTrue (has_group e k)
 
 -- no group of the expression is due
-abbrev pub NoneDue : Tree → State → Type 0
+abbrev pub NoneDue : Tree → GroupState → Type 0
 NoneDue e s = (k : ℕ) → GroupStandsIn e k → is_due s k ≡ false
 
 -- nor is anything done then
-abbrev pub PassedBy : Tree → State → State → ℕ → Type 0
+abbrev pub PassedBy : Tree → GroupState → GroupState → ℕ → Type 0
 PassedBy e old new n = NoneDue e old × (new ≡ old) × (n ≡ 0)
 
 -- The groups that are due in the expression's match i..j are decided from its end, and n nodes are entered. A node of which no group is
 -- due is passed by; of a repetition the last copy alone is entered, and the groups in it that get no span there have none.
-abbrev pub Walk : Tree → List ℕ → ℕ → ℕ → State → State → ℕ → Type 0
+abbrev pub Walk : Tree → List ℕ → ℕ → ℕ → GroupState → GroupState → ℕ → Type 0
 Walk (seq a b) w i j old new n = PassedBy (seq a b) old new n
-    ⊎ ((p : ℕ) × (q : ℕ) × (n ≡ 1 + (p + q)) × (k : ℕ) × LastCut (Matches a w) (Matches b w) i j k × (mid : State) × Walk b w k j old mid p × Walk a w i k mid new q)
+    ⊎ ((p : ℕ) × (q : ℕ) × (n ≡ 1 + (p + q)) × (k : ℕ) × LastCut (Matches a w) (Matches b w) i j k × (mid : GroupState) × Walk b w k j old mid p × Walk a w i k mid new q)
 Walk (alt a b) w i j old new n = PassedBy (alt a b) old new n
     ⊎ ((p : ℕ) × (n ≡ 1 + p) × ((Matches a w i j × Walk a w i j old new p) ⊎ ((Matches a w i j → ⊥) × Walk b w i j old new p)))
 Walk (group k a) w i j old new n = PassedBy (group k a) old new n
-    ⊎ ((p : ℕ) × (n ≡ 1 + p) × (mid : State) × Walk a w i j (settle k (Some (i, j)) old) mid p × (new ≡ drop_groups a mid))
+    ⊎ ((p : ℕ) × (n ≡ 1 + p) × (mid : GroupState) × Walk a w i j (settle k (Some (i, j)) old) mid p × (new ≡ drop_groups a mid))
 Walk (star a first) w i j old new n = PassedBy (star a first) old new n
     ⊎ ((p : ℕ) × (n ≡ 1 + p) × (
-    ((i < j) × (c : ℕ) × LastCopy (Matches a w) j i c × (mid : State) × Walk a w c j old mid p × (new ≡ drop_groups a mid))
-    ⊎ (((i ≡ j) × IsTrue first × Matches a w i i × (mid : State) × Walk a w i i old mid p × (new ≡ drop_groups a mid))
+    ((i < j) × (c : ℕ) × LastCopy (Matches a w) j i c × (mid : GroupState) × Walk a w c j old mid p × (new ≡ drop_groups a mid))
+    ⊎ (((i ≡ j) × IsTrue first × Matches a w i i × (mid : GroupState) × Walk a w i i old mid p × (new ≡ drop_groups a mid))
     ⊎ ((i ≡ j) × (IsTrue first → Matches a w i i → ⊥) × (new ≡ old) × (p ≡ 0)))))
 Walk (opt a first) w i j old new n = PassedBy (opt a first) old new n
     ⊎ ((p : ℕ) × (n ≡ 1 + p) × (
-    ((i < j) × (mid : State) × Walk a w i j old mid p × (new ≡ drop_groups a mid))
-    ⊎ (((i ≡ j) × IsTrue first × Matches a w i i × (mid : State) × Walk a w i i old mid p × (new ≡ drop_groups a mid))
+    ((i < j) × (mid : GroupState) × Walk a w i j old mid p × (new ≡ drop_groups a mid))
+    ⊎ (((i ≡ j) × IsTrue first × Matches a w i i × (mid : GroupState) × Walk a w i i old mid p × (new ≡ drop_groups a mid))
     ⊎ ((i ≡ j) × (IsTrue first → Matches a w i i → ⊥) × (new ≡ old) × (p ≡ 0)))))
 Walk other w i j old new n = (new ≡ old) × (n ≡ 0)
 
 -- a state to begin with: entry 0 is the whole match and no other has a span, and each group of the expression is due
-pub record IsStart (e : Tree) (i j : ℕ) (s : State) : Type 0 where
+pub record IsFirstState (e : Tree) (i j : ℕ) (s : GroupState) : Type 0 where
   pub whole : is_due s 0 ≡ false
   pub each : (k : ℕ) → 1 ≤ k → k < 10 → GroupStandsIn e k → is_due s k ≡ true
   pub none : s.spans ≡ Some (i, j) ∷ replicate 9 None
 
 -- the count of steps grew by one at least for each node that is entered while the groups due in the match i..j are decided
-pub record LooksAtEntered (e : Tree) (w : List ℕ) (i j : ℕ) (start : State) (before after : ℕ) : Type 0 where
-  pub last : State
+pub record LooksAtEntered (e : Tree) (w : List ℕ) (i j : ℕ) (start : GroupState) (before after : ℕ) : Type 0 where
+  pub last : GroupState
   pub n : ℕ
   pub walk : Walk e w i j start last n
   pub counts : TakesAtLeast before after n
 
 -- all groups of the match are decided so
 abbrev pub EntersGroups : Tree → List ℕ → ℕ → ℕ → ℕ → ℕ → Type 0
-EntersGroups e w i j before after = (start : State) × IsStart e i j start × LooksAtEntered e w i j start before after
+EntersGroups e w i j before after = (start : GroupState) × IsFirstState e i j start × LooksAtEntered e w i j start before after

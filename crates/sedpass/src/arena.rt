@@ -22,9 +22,9 @@ pub struct Arena {
 impl Model for Arena {
     ghost use Rattle.std.specs.Prelude.{vec_capacity};
     ghost use Rattle.sedre.specs.Arena.{IsExpr};
-    ghost use Rattle.sedpass.specs.Prepared.{Held};
+    ghost use Rattle.sedpass.specs.Prepared.{HeldExpression};
 
-    ghost Value = { Held };
+    ghost Value = { HeldExpression };
 
     ghost view = { λ a. record { expr = record { nodes = a.nodes.items; groups = a.groups }; room = vec_capacity a.nodes } };
 

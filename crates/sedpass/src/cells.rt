@@ -18,7 +18,7 @@ const MOST_CELLS: usize = 256;
 
 /// What is known of a state.
 #[derive(Clone, Copy)]
-pub struct Flags {
+pub struct StateFlags {
     /// The root of its pass ends there.
     pub ends: bool,
     /// No leaf is entered there.
@@ -42,7 +42,7 @@ pub struct Layout {
 
 /// Whether a pass stops at a state.
 #[inline(always)]
-pub fn stops(way: Way, flags: Flags) -> bool
+pub fn stops(way: Way, flags: StateFlags) -> bool
     ensures { result ≡ stops way flags }
 {
     if way.keeps {

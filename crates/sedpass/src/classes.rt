@@ -1,7 +1,7 @@
 //! Classes of bytes: those that no set of an expression distinguishes are in one.
 ghost use Rattle.sedre.specs.declared.types.Node.{Node};
 ghost use Rattle.std.specs.Prelude.{List, ◌<◌};
-ghost use Rattle.sedpass.specs.Classes.{AreClasses, HaveSets, IsNumbering, IsGiven, IsFiner};
+ghost use Rattle.sedpass.specs.Classes.{AreClasses, HaveSets, IsNumbering, IsNumbered, IsFiner};
 
 use sedre::ByteSet;
 
@@ -18,7 +18,7 @@ pub struct Classes {
 fn give(numbers: &mut [u16; 512], key: usize, count: usize) -> usize
     requires key { key < 512 }
     requires count { count < 256 }
-    ensures { IsNumbering numbers.old count → IsGiven numbers.old key count numbers.new result }
+    ensures { IsNumbering numbers.old count → IsNumbered numbers.old key count numbers.new result }
 {
     if numbers[key] == 256 {
         numbers[key] = count as u16;

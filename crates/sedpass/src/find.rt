@@ -1,7 +1,7 @@
 //! Whether an expression matches in a text (XBD 9.1).
 ghost use Rattle.std.specs.Prelude.{◌+◌, ◌*◌, ◌≤◌, ◌↔◌, length, IsTrue};
 ghost use Rattle.sedtext.specs.Beginnings.{AllBegin};
-ghost use Rattle.sedtext.specs.Following.{PassesOver};
+ghost use Rattle.sedtext.specs.Following.{LooksPast};
 ghost use Rattle.sedtext.specs.Spans.{SomeFound};
 ghost use Rattle.sedre.specs.Tree.{expression_tree};
 ghost use Rattle.sedre.specs.Steps.{Takes};
@@ -28,7 +28,7 @@ pub fn is_match(
     ensures any { IsSweep subject.entry.prepared.now any.new }
     ensures shape { SameShape any.old any.new }
     ensures matches { IsTrue result ↔ SomeFound (expression_tree subject.entry.prepared.now.arena.expr) subject.entry.text.now from }
-    ensures passes { IsTrue result → PassesOver (expression_tree subject.entry.prepared.now.arena.expr) subject.entry.text.now from steps.old steps.new }
+    ensures passes { IsTrue result → LooksPast (expression_tree subject.entry.prepared.now.arena.expr) subject.entry.text.now from steps.old steps.new }
     ensures cost { Takes steps.old steps.new (43 * length subject.entry.prepared.now.arena.expr.nodes * (length subject.entry.text.now + 1)) }
 {
     match next_start(begins, subject.text, from, steps) {

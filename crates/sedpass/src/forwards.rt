@@ -1,12 +1,12 @@
 //! Passes for the whole expression, which stop as soon as no later place matters.
 ghost use Rattle.std.specs.Prelude.{◌≡◌, ℕ, false, ◌+◌, ◌-◌, ◌*◌, ◌/◌, ◌<◌, ◌≤◌, ◌↔◌, length, min, IfSome, IsTrue, is_some};
 ghost use Rattle.sedtext.specs.Costs.{CostsWithin};
-ghost use Rattle.sedtext.specs.Following.{PassesOver};
+ghost use Rattle.sedtext.specs.Following.{LooksPast};
 ghost use Rattle.sedtext.specs.Reach.{IsLongestFrom};
 ghost use Rattle.sedtext.specs.Spans.{SomeFound};
 ghost use Rattle.sedre.specs.Tree.{expression_tree};
 ghost use Rattle.sedre.specs.Steps.{TakesAtLeast};
-ghost use Rattle.sedpass.specs.Table.{Names, IsOffset, IsTable, SameShape};
+ghost use Rattle.sedpass.specs.Table.{NamesState, IsOffset, IsTable, SameShape};
 ghost use Rattle.sedpass.specs.Forwards.{Arrives, EndsBelow, PassIs};
 
 use crate::cells::{PLAIN, offset_of};
@@ -41,11 +41,11 @@ impl Table {
         end: Option<usize>,
     ) -> Passed
         requires table { IsTable prepared.now self.now }
-        requires code { Names (length prepared.now.arena.expr.nodes) self.now (λ a. Unit {0}) code }
+        requires code { NamesState (length prepared.now.arena.expr.nodes) self.now (λ a. Unit {0}) code }
         ensures place { result.place ≡ place }
         ensures offset { IsOffset self.now result.offset }
         ensures passes { self.now.way.keeps ≡ false → (start : ℕ) → start ≤ place → place ≤ length text.now →
-            Names (length prepared.now.arena.expr.nodes) self.now (Arrives prepared.now self.now.way text.now start place) code →
+            NamesState (length prepared.now.arena.expr.nodes) self.now (Arrives prepared.now self.now.way text.now start place) code →
             EndsBelow prepared.now self.now.way text.now start place end →
             PassIs prepared.now self.now text.now start result }
     {
@@ -160,7 +160,7 @@ impl Table {
         ensures reached { IfSome result.end (λ j. j ≤ result.place) }
         ensures longest { self.old.way.all_starts ≡ false → IsLongestFrom (expression_tree prepared.now.arena.expr) text.now from result.end }
         ensures found { IsTrue self.old.way.all_starts → IsTrue (is_some result.end) ↔ SomeFound (expression_tree prepared.now.arena.expr) text.now from }
-        ensures passes { IfSome result.end (λ j. PassesOver (expression_tree prepared.now.arena.expr) text.now from steps.old steps.new) }
+        ensures passes { IfSome result.end (λ j. LooksPast (expression_tree prepared.now.arena.expr) text.now from steps.old steps.new) }
         ensures cost { CostsWithin steps.old steps.new (40 * length prepared.now.arena.expr.nodes * (result.place + 1)) (40 * length prepared.now.arena.expr.nodes * from) }
         ensures counts { TakesAtLeast steps.old steps.new (2 * (result.place - from) + 1) }
     {

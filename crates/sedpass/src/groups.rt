@@ -11,12 +11,12 @@ ghost use Rattle.sedtext.specs.Caps.{LastCut, IsReport};
 ghost use Rattle.sedtext.specs.Groups.{Groups};
 ghost use Rattle.sedtext.specs.Places.{Ascending};
 ghost use Rattle.sedtext.specs.Reach.{At};
-ghost use Rattle.sedpass.specs.Decide.{found, undecided, HasAll, told_of, told_in, IsTold, EndsRegion, IsDesk, IsAtEnd, IsCopyFrom, NodeTurned, Turned, MayWork, Works, waiting, part_cost, HasNoKnownLength, next_of, IsSetAt, HasDesk, AreGroupTables, AreRoomy, HasSpace, SameRooms, SameTables, KeepsDesk, KeepsRoom, nodes_in, text_in, IsMatch, Stands, tasks_of};
+ghost use Rattle.sedpass.specs.Decide.{spans_in, undecided, HasAll, told_of, told_in, HasBlank, EndsRegion, IsGroupDesk, IsAtEnd, IsCopyFrom, NodeTurned, Turned, MayWork, Works, waiting, part_cost, HasNoKnownLength, next_of, IsSetAt, HasDesk, AreGroupTables, AreRoomy, HasSpace, SameRooms, SameTables, KeepsGroupDesk, KeepsGroupRoom, nodes_in, subject_text, IsMatch, NodeMatches, tasks_after};
 ghost use Rattle.sedpass.specs.Kept.{SameKept, SameSpace};
 ghost use Rattle.sedpass.specs.Prepared.{IsFacts, holds};
 ghost use Rattle.sedpass.specs.Regions.{IsRunOf};
-ghost use Rattle.sedpass.specs.Walks.{State, settle, drop_groups, LooksAtEntered};
-ghost use Rattle.sedpass.specs.declared.groups.Task.TheVariants.{Apart};
+ghost use Rattle.sedpass.specs.Walks.{GroupState, settle, drop_groups, LooksAtEntered};
+ghost use Rattle.sedpass.specs.declared.groups.GroupTask.TheVariants.{Apart};
 ghost use Rattle.sedpass.specs.declared.kept.Region.{Region};
 
 use crate::group_set::GroupSet;
@@ -43,7 +43,7 @@ pub struct Matched {
 
 /// One thing that is still to do.
 #[derive(Clone, Copy)]
-pub enum Task {
+pub enum GroupTask {
     /// Decide the groups of a node on a span, in a region of its own.
     Apart(Matched),
     /// What is still due of a node's groups has no span.
@@ -58,7 +58,7 @@ pub enum Then {
     /// A match in the same region.
     One(Matched),
     /// Such a match, and a task after it.
-    Two(Matched, Task),
+    Two(Matched, GroupTask),
 }
 
 /// The tables by which groups are decided.
@@ -72,7 +72,7 @@ pub struct GroupTables {
 
 /// What is known of the groups so far.
 #[derive(Clone, Copy)]
-pub struct Told {
+pub struct Decided {
     /// The groups for which nothing was written yet.
     pub due: GroupSet,
     /// What was written.
@@ -85,7 +85,7 @@ pub struct GroupRoom {
     /// The region.
     pub kept: Kept,
     /// The tasks that wait, the next one last.
-    pub tasks: Vec<Task>,
+    pub tasks: Vec<GroupTask>,
 }
 
 /// The way of passes ahead, each from one start.
@@ -172,11 +172,11 @@ fn facts_at(prepared: &Prepared, x: usize) -> Facts
 }
 
 /// Gives a group its span, if it is due.
-fn settle_group(told: &mut Told, k: usize, span: (usize, usize))
-    requires { IsTold told.old }
-    ensures told { IsTold told.new }
+fn settle_group(told: &mut Decided, k: usize, span: (usize, usize))
+    requires { HasBlank told.old }
+    ensures told { HasBlank told.new }
     ensures state { told_in told.new ≡ settle k (Some span) (told_in told.old) }
-    ensures few { found told.new.spans ≤ found told.old.spans + 1 }
+    ensures few { spans_in told.new.spans ≤ spans_in told.old.spans + 1 }
 {
     if told.due.has(k) {
         told.due = told.due.without(GroupSet::one(k));
@@ -185,10 +185,10 @@ fn settle_group(told: &mut Told, k: usize, span: (usize, usize))
 }
 
 /// What is still due of a node's groups has no span.
-fn forget(prepared: &Prepared, told: &mut Told, x: usize)
+fn forget(prepared: &Prepared, told: &mut Decided, x: usize)
     requires inside { x < length prepared.now.arena.expr.nodes }
-    requires told { IsTold told.old }
-    ensures told { IsTold told.new }
+    requires told { HasBlank told.old }
+    ensures told { HasBlank told.new }
     ensures state { told_in told.new ≡ drop_groups (tree_at prepared.now.arena.expr.nodes x) (told_in told.old) }
     ensures spans { told.new.spans ≡ told.old.spans }
 {
@@ -204,7 +204,7 @@ fn has_empty_copy(
     steps: &mut Steps,
 ) -> bool
     requires { part < length (nodes_in subject) }
-    ensures copy { IsTrue result ↔ (IsTrue first × At (nodes_in subject.entry) (text_in subject.entry) part place place) }
+    ensures copy { IsTrue result ↔ (IsTrue first × At (nodes_in subject.entry) (subject_text subject.entry) part place place) }
     ensures cost { Takes steps.old steps.new 1 }
 {
     first && subject.is_null(part, place, steps)
@@ -222,7 +222,7 @@ fn last_copy(
 ) -> Option<usize>
     requires { IsAtEnd subject tables.old kept.old here (Star a first) }
     ensures copy { IsCopyFrom subject.entry here a first result }
-    ensures desk { KeepsDesk subject.entry tables.old tables.new kept.old kept.new }
+    ensures desk { KeepsGroupDesk subject.entry tables.old tables.new kept.old kept.new }
     ensures cost { Takes steps.old steps.new (part_cost (length (nodes_in subject.entry)) (here.stop - here.start) + 1) }
     ensures counts { HasNoKnownLength (nodes_in subject.entry) a.index → TakesAtLeast steps.old steps.new (here.stop - here.start) }
 {
@@ -246,8 +246,8 @@ fn last_copy(
 
 /// Where a concatenation is cut, if the length of a part decides it.
 fn fixed_cut(subject: Subject, here: Matched, a: NodeId, b: NodeId) -> Option<usize>
-    requires { Stands subject here (Seq a b) }
-    ensures cut { IfSome result (λ k. LastCut (At (nodes_in subject.entry) (text_in subject.entry) a.index) (At (nodes_in subject.entry) (text_in subject.entry) b.index) here.start here.stop k) }
+    requires { NodeMatches subject here (Seq a b) }
+    ensures cut { IfSome result (λ k. LastCut (At (nodes_in subject.entry) (subject_text subject.entry) a.index) (At (nodes_in subject.entry) (subject_text subject.entry) b.index) here.start here.stop k) }
     ensures some { result ≡ None → here.start ≡ here.stop → ⊥ }
     ensures open { HasNoKnownLength (nodes_in subject.entry) a.index → HasNoKnownLength (nodes_in subject.entry) b.index → IfSome result (λ k. k ≡ here.start) }
 {
@@ -274,9 +274,9 @@ fn last_cut(
     steps: &mut Steps,
 ) -> usize
     requires { IsAtEnd subject tables.old kept.old here (Seq a b) }
-    ensures cut { LastCut (At (nodes_in subject.entry) (text_in subject.entry) a.index) (At (nodes_in subject.entry) (text_in subject.entry) b.index) here.start here.stop result }
+    ensures cut { LastCut (At (nodes_in subject.entry) (subject_text subject.entry) a.index) (At (nodes_in subject.entry) (subject_text subject.entry) b.index) here.start here.stop result }
     ensures same { SameKept kept.old kept.new }
-    ensures desk { KeepsDesk subject.entry tables.old tables.new kept.old kept.new }
+    ensures desk { KeepsGroupDesk subject.entry tables.old tables.new kept.old kept.new }
     ensures cost { Takes steps.old steps.new (part_cost (length (nodes_in subject.entry)) (here.stop - here.start)) }
     ensures counts { HasNoKnownLength (nodes_in subject.entry) a.index → HasNoKnownLength (nodes_in subject.entry) b.index → TakesAtLeast steps.old steps.new (result - here.start) }
 {
@@ -302,8 +302,8 @@ fn turn_seq(
     steps: &mut Steps,
 ) -> Then
     requires { IsAtEnd subject tables.old kept.old here (Seq a b) }
-    ensures turned { (s : State) → NodeTurned subject.entry here (Seq a b) s s kept.new.region result steps.old steps.new }
-    ensures desk { KeepsDesk subject.entry tables.old tables.new kept.old kept.new }
+    ensures turned { (s : GroupState) → NodeTurned subject.entry here (Seq a b) s s kept.new.region result steps.old steps.new }
+    ensures desk { KeepsGroupDesk subject.entry tables.old tables.new kept.old kept.new }
 {
     let cut = last_cut(subject, tables, kept, here, a, b, steps);
     let left = Matched {
@@ -316,7 +316,7 @@ fn turn_seq(
         start: cut,
         stop: here.stop,
     };
-    Then::Two(right, Task::Apart(left))
+    Then::Two(right, GroupTask::Apart(left))
 }
 
 /// What comes in place of an alternation: the left alternative, if it matches, and else the right one.
@@ -330,8 +330,8 @@ fn turn_alt(
     steps: &mut Steps,
 ) -> Then
     requires { IsAtEnd subject tables.old kept.old here (Alt a b) }
-    ensures turned { (s : State) → NodeTurned subject.entry here (Alt a b) s s kept.new.region result steps.old steps.new }
-    ensures desk { KeepsDesk subject.entry tables.old tables.new kept.old kept.new }
+    ensures turned { (s : GroupState) → NodeTurned subject.entry here (Alt a b) s s kept.new.region result steps.old steps.new }
+    ensures desk { KeepsGroupDesk subject.entry tables.old tables.new kept.old kept.new }
 {
     let left = a.index();
     let spans = kept.spans(subject, &mut tables.inside, left, here.start, steps);
@@ -350,27 +350,27 @@ fn turn_star(
     steps: &mut Steps,
 ) -> Then
     requires { IsAtEnd subject tables.old kept.old here (Star a first) }
-    ensures turned { (s : State) → NodeTurned subject.entry here (Star a first) s s kept.new.region result steps.old steps.new }
-    ensures desk { KeepsDesk subject.entry tables.old tables.new kept.old kept.new }
+    ensures turned { (s : GroupState) → NodeTurned subject.entry here (Star a first) s s kept.new.region result steps.old steps.new }
+    ensures desk { KeepsGroupDesk subject.entry tables.old tables.new kept.old kept.new }
 {
     match last_copy(subject, tables, kept, here, a, first, steps) {
         None => Then::Done,
         Some(start) => {
             let (node, stop) = (a.index(), here.stop);
             kept.begin(subject, &tables.inside, node, stop);
-            Then::Two(Matched { node, start, stop }, Task::Forget(node))
+            Then::Two(Matched { node, start, stop }, GroupTask::Forget(node))
         }
     }
 }
 
 /// What comes in place of one copy or none.
 fn turn_opt(subject: Subject, here: Matched, a: NodeId, first: bool, steps: &mut Steps) -> Then
-    requires { Stands subject here (Opt a first) }
-    ensures { (s : State) (r : Region) → EndsRegion subject.entry r here → NodeTurned subject.entry here (Opt a first) s s r result steps.old steps.new }
+    requires { NodeMatches subject here (Opt a first) }
+    ensures { (s : GroupState) (r : Region) → EndsRegion subject.entry r here → NodeTurned subject.entry here (Opt a first) s s r result steps.old steps.new }
 {
     let part = a.index();
     if here.start < here.stop || has_empty_copy(subject, part, first, here.start, steps) {
-        Then::Two(Matched { node: part, ..here }, Task::Forget(part))
+        Then::Two(Matched { node: part, ..here }, GroupTask::Forget(part))
     } else {
         Then::Done
     }
@@ -381,17 +381,17 @@ fn turn_node(
     subject: Subject,
     tables: &mut GroupTables,
     kept: &mut Kept,
-    told: &mut Told,
+    told: &mut Decided,
     here: Matched,
     node: &Node,
     steps: &mut Steps,
 ) -> Then
     requires at { IsAtEnd subject tables.old kept.old here node.now }
-    requires told { IsTold told.old }
+    requires told { HasBlank told.old }
     ensures turned { NodeTurned subject.entry here node.now (told_in told.old) (told_in told.new) kept.new.region result steps.old steps.new }
-    ensures desk { KeepsDesk subject.entry tables.old tables.new kept.old kept.new }
-    ensures told { IsTold told.new }
-    ensures few { found told.new.spans ≤ found told.old.spans + 1 }
+    ensures desk { KeepsGroupDesk subject.entry tables.old tables.new kept.old kept.new }
+    ensures told { HasBlank told.new }
+    ensures few { spans_in told.new.spans ≤ spans_in told.old.spans + 1 }
 {
     match node {
         Node::Seq(a, b) => turn_seq(subject, tables, kept, here, *a, *b, steps),
@@ -399,7 +399,7 @@ fn turn_node(
         Node::Group(k, a) => {
             settle_group(told, *k, (here.start, here.stop));
             let part = a.index();
-            Then::Two(Matched { node: part, ..here }, Task::Forget(part))
+            Then::Two(Matched { node: part, ..here }, GroupTask::Forget(part))
         }
         Node::Star(a, first) => turn_star(subject, tables, kept, here, *a, *first, steps),
         Node::Opt(a, first) => turn_opt(subject, here, *a, *first, steps),
@@ -412,19 +412,19 @@ fn turn(
     subject: Subject,
     tables: &mut GroupTables,
     kept: &mut Kept,
-    told: &mut Told,
+    told: &mut Decided,
     here: Matched,
     steps: &mut Steps,
 ) -> Then
     requires arena { IsArena (nodes_in subject) }
-    requires there { IsMatch (nodes_in subject) (text_in subject) here }
+    requires there { IsMatch (nodes_in subject) (subject_text subject) here }
     requires ends { EndsRegion subject kept.old.region here }
-    requires desk { IsDesk subject tables.old kept.old }
-    requires told { IsTold told.old }
+    requires desk { IsGroupDesk subject tables.old kept.old }
+    requires told { HasBlank told.old }
     ensures turned { Turned subject.entry here (told_in told.old) (told_in told.new) kept.new.region result steps.old steps.new }
-    ensures desk { KeepsDesk subject.entry tables.old tables.new kept.old kept.new }
-    ensures told { IsTold told.new }
-    ensures counts { TakesAtLeast steps.old steps.new (found told.new.spans - found told.old.spans) }
+    ensures desk { KeepsGroupDesk subject.entry tables.old tables.new kept.old kept.new }
+    ensures told { HasBlank told.new }
+    ensures counts { TakesAtLeast steps.old steps.new (spans_in told.new.spans - spans_in told.old.spans) }
 {
     let groups = facts_at(subject.prepared, here.node).groups;
     if !groups.meets(told.due) {
@@ -435,10 +435,10 @@ fn turn(
 }
 
 /// Lets the task wait that comes after the match, and gives the match.
-fn put(then: Then, tasks: &mut Vec<Task>) -> Option<Matched>
+fn put(then: Then, tasks: &mut Vec<GroupTask>) -> Option<Matched>
     requires { vec_len tasks.old + 1 ≤ vec_capacity tasks.old }
     ensures first { result ≡ next_of then }
-    ensures items { waiting result tasks.new.items ≡ tasks_of then ++ reverse tasks.old.items }
+    ensures items { waiting result tasks.new.items ≡ tasks_after then ++ reverse tasks.old.items }
     ensures room { vec_capacity tasks.old ≤ vec_capacity tasks.new }
 {
     match then {
@@ -456,12 +456,12 @@ fn spine(
     subject: Subject,
     tables: &mut GroupTables,
     room: &mut GroupRoom,
-    told: &mut Told,
+    told: &mut Decided,
     here: Matched,
     steps: &mut Steps,
 )
     requires { MayWork subject tables.old room.old told.old (Apart here ∷ reverse room.old.tasks.items) }
-    ensures room { KeepsRoom subject.entry tables.old tables.new room.old room.new }
+    ensures room { KeepsGroupRoom subject.entry tables.old tables.new room.old room.new }
     ensures works { Works subject.entry (Apart here ∷ reverse room.old.tasks.items) told.old (reverse room.new.tasks.items) told.new 1 steps.old steps.new }
 {
     room.kept
@@ -493,13 +493,13 @@ pub fn decide(
     steps: &mut Steps,
 ) -> GroupSpans
     requires whole { holds due 0 ≡ false }
-    requires order { Ascending start stop (length (text_in subject)) }
-    requires spans { At (nodes_in subject) (text_in subject) subject.prepared.now.root start stop }
+    requires order { Ascending start stop (length (subject_text subject)) }
+    requires spans { At (nodes_in subject) (subject_text subject) subject.prepared.now.root start stop }
     requires tasks { room.old.tasks.items ≡ [] }
     requires room { 2 * length (nodes_in subject) ≤ vec_capacity room.old.tasks }
     requires desk { HasDesk subject tables.old room.old.kept }
-    ensures report { HasAll due (expression_tree subject.entry.prepared.now.arena.expr) → IsReport (expression_tree subject.entry.prepared.now.arena.expr) (text_in subject.entry) start stop result }
-    ensures due { (groups : Groups) (k : ℕ) → IsReport (expression_tree subject.entry.prepared.now.arena.expr) (text_in subject.entry) start stop groups → IsTrue (holds due k) →
+    ensures report { HasAll due (expression_tree subject.entry.prepared.now.arena.expr) → IsReport (expression_tree subject.entry.prepared.now.arena.expr) (subject_text subject.entry) start stop result }
+    ensures due { (groups : Groups) (k : ℕ) → IsReport (expression_tree subject.entry.prepared.now.arena.expr) (subject_text subject.entry) start stop groups → IsTrue (holds due k) →
         slice_index_or result k None ≡ slice_index_or groups k None }
     ensures tasks { room.new.tasks.items ≡ [] }
     ensures room { vec_capacity room.old.tasks ≤ vec_capacity room.new.tasks }
@@ -507,20 +507,20 @@ pub fn decide(
     ensures shape { SameTables tables.old tables.new }
     ensures space { SameSpace room.old.kept room.new.kept }
     ensures cost { let m = length (nodes_in subject.entry) in Takes steps.old steps.new (172 * m * (m - 1) * (stop - start) + 2 * m) }
-    ensures counts { TakesAtLeast steps.old steps.new (found result - 1) }
-    ensures entered { LooksAtEntered (expression_tree subject.entry.prepared.now.arena.expr) (text_in subject.entry) start stop (told_of due (undecided start stop)) steps.old steps.new }
+    ensures counts { TakesAtLeast steps.old steps.new (spans_in result - 1) }
+    ensures entered { LooksAtEntered (expression_tree subject.entry.prepared.now.arena.expr) (subject_text subject.entry) start stop (told_of due (undecided start stop)) steps.old steps.new }
 {
     subject.prepared.arena.is_expression();
     let mut spans = [None; 10];
     spans[0] = Some((start, stop));
-    let mut told = Told { due, spans };
+    let mut told = Decided { due, spans };
     let node = subject.prepared.root;
     let whole = Matched { node, start, stop };
-    room.tasks.push_reserved(Task::Apart(whole));
+    room.tasks.push_reserved(GroupTask::Apart(whole));
     'all: while let Some(task) = room.tasks.pop() {
         match task {
-            Task::Forget(x) => forget(subject.prepared, &mut told, x),
-            Task::Apart(here) => spine(subject, tables, room, &mut told, here, steps),
+            GroupTask::Forget(x) => forget(subject.prepared, &mut told, x),
+            GroupTask::Apart(here) => spine(subject, tables, room, &mut told, here, steps),
         }
     }
     told.spans

@@ -8,9 +8,9 @@ ghost use Rattle.sedtext.specs.Costs.{CostsWithin};
 ghost use Rattle.sedtext.specs.Reach.{At, one_start};
 ghost use Rattle.sedtext.specs.Words.{row_of};
 ghost use Rattle.sedre.specs.Steps.{Takes, TakesAtLeast, TakesExactly};
-ghost use Rattle.sedpass.specs.Regions.{CeasesAt, IsLastIn, Meets, ReachesEnd};
+ghost use Rattle.sedpass.specs.Regions.{CeasesAt, IsLastIn, MeetsAt, ReachesEnd};
 ghost use Rattle.sedpass.specs.Table.{AddsStates, IsOffset, IsTable, MayBegin, SameShape, state_of};
-ghost use Rattle.sedpass.specs.Kept.{AllMarked, ComesDown, EdgesFrom, Follows, IsEdge, IsKept, IsRegion, KeepsRegion, KeptAt, KeptRoom, Meet, PassesDownTo, SameKept, SameSpace, again, ends_told, owed};
+ghost use Rattle.sedpass.specs.Kept.{AllMarked, ComesDown, EdgesFrom, Follows, IsEdge, IsKept, IsRegion, KeepsRegion, KeptAt, KeptRoom, Meet, PassesDownTo, SameKept, SameSpace, again, ends_told, owed_region};
 
 use crate::cells::offset_of;
 use crate::nodes::{Prepared, kind_of};
@@ -119,7 +119,7 @@ impl Kept {
         ensures root { self.new.region.root ≡ root }
         ensures end { self.new.region.end ≡ end }
         ensures space { SameSpace self.old self.new }
-        ensures owed { (i : ℕ) → i ≤ end → owed (length subject.entry.prepared.now.arena.expr.nodes) self.new.region i
+        ensures owed { (i : ℕ) → i ≤ end → owed_region (length subject.entry.prepared.now.arena.expr.nodes) self.new.region i
             ≤ 100 * length subject.entry.prepared.now.arena.expr.nodes * (end - i) }
     {
         extend_states(&mut self.states, subject.text.len());
@@ -304,7 +304,7 @@ impl Kept {
         ensures from { self.new.region.from ≤ place }
         ensures to { (result ≡ self.new.region.to) × (place < result) }
         ensures cost { let m = length subject.entry.prepared.now.arena.expr.nodes in
-            CostsWithin steps.old steps.new (owed m self.old.region place) (owed m self.new.region place) }
+            CostsWithin steps.old steps.new (owed_region m self.old.region place) (owed_region m self.new.region place) }
     {
         if place < self.region.low {
             self.make(subject, table, place, steps);
@@ -330,7 +330,7 @@ impl Kept {
         ensures keeps { KeepsRegion subject.entry.prepared.now subject.entry.text.now table.old table.new self.old self.new }
         ensures spans { IsTrue result ↔ At subject.entry.prepared.now.arena.expr.nodes subject.entry.text.now x place self.old.region.end }
         ensures cost { let m = length subject.entry.prepared.now.arena.expr.nodes in
-            CostsWithin steps.old steps.new (owed m self.old.region place + 1) (owed m self.new.region place) }
+            CostsWithin steps.old steps.new (owed_region m self.old.region place + 1) (owed_region m self.new.region place) }
         ensures counts { TakesAtLeast steps.old steps.new 1 }
     {
         if place == self.region.end {
@@ -362,7 +362,7 @@ impl Kept {
         ensures found { result < self.old.region.end → IsTrue marked ↔ ReachesEnd subject.entry.prepared.now.arena.expr.nodes subject.entry.text.now self.old.region.root
             (ends_told table.old.way.all_starts (length subject.entry.text.now) self.old.region.end) x result }
         ensures cost { let m = length subject.entry.prepared.now.arena.expr.nodes in
-            CostsWithin steps.old steps.new (owed m self.old.region from + 2 * result + 2) (owed m self.new.region result + 2 * from) }
+            CostsWithin steps.old steps.new (owed_region m self.old.region from + 2 * result + 2) (owed_region m self.new.region result + 2 * from) }
         ensures counts { TakesAtLeast steps.old steps.new (result - from) }
     {
         let mut place = from;
@@ -431,7 +431,7 @@ impl Kept {
         ensures ceases { CeasesAt subject.entry.prepared.now.arena.expr.nodes subject.entry.text.now self.old.region.root
             (ends_told table.old.way.all_starts (length subject.entry.text.now) self.old.region.end) a from result }
         ensures cost { let m = length subject.entry.prepared.now.arena.expr.nodes in
-            CostsWithin steps.old steps.new (owed m self.old.region from + 36 * m * (result + 1)) (owed m self.new.region result + 36 * m * from) }
+            CostsWithin steps.old steps.new (owed_region m self.old.region from + 36 * m * (result + 1)) (owed_region m self.new.region result + 36 * m * from) }
         ensures counts { TakesAtLeast steps.old steps.new (2 * (result - from) + 1) }
     {
         let kind = kind_of(from, subject.text.len());
@@ -477,7 +477,7 @@ impl Kept {
         ensures meets { (a i : ℕ) → a ≤ self.old.region.root → i ≤ from → Follows subject.entry.prepared.now subject.entry.text.now ahead.old a i from offset →
             Follows subject.entry.prepared.now subject.entry.text.now ahead.new a i result.0 result.1
             × Meet subject.entry.prepared.now subject.entry.text.now table.now self.old a i from result.0
-            × (result.0 < self.old.region.to → Meets subject.entry.prepared.now.arena.expr.nodes subject.entry.text.now self.old.region.root
+            × (result.0 < self.old.region.to → MeetsAt subject.entry.prepared.now.arena.expr.nodes subject.entry.text.now self.old.region.root
             (ends_told table.now.way.all_starts (length subject.entry.text.now) self.old.region.end) a (one_start i) result.0 → ⊥) }
         ensures cost { let m = length subject.entry.prepared.now.arena.expr.nodes in CostsWithin steps.old steps.new (36 * m * result.0 + m) (36 * m * from) }
         ensures whole { let m = length subject.entry.prepared.now.arena.expr.nodes in result.0 ≡ self.old.region.to → CostsWithin steps.old steps.new (36 * m * result.0) (36 * m * from) }

@@ -8,7 +8,7 @@ ghost use Rattle.sedre.specs.Mirror.{seen};
 ghost use Rattle.sedre.specs.Packed.{PartsBelow};
 ghost use Rattle.sedre.specs.Steps.{Takes, TakesExactly, TakesAtLeast};
 ghost use Rattle.sedpass.specs.Walks.{has_group};
-ghost use Rattle.sedpass.specs.Prepared.{IsPrepared, IsFacts, AreFacts, IsShort, IsOfEachKind, is_set, run_of, null_at, null_in, nullable, sum_of, same_of, length_of};
+ghost use Rattle.sedpass.specs.Prepared.{IsPrepared, IsFacts, AreFacts, IsShort, IsOfEachKind, is_one_set, repeated_set, null_at, null_in, nullable, sum_of, same_of, length_of};
 ghost use Rattle.sedpass.specs.Rows.{IsNodeRange};
 ghost use Rattle.sedpass.specs.declared.nodes.Facts.{Facts};
 
@@ -21,18 +21,18 @@ use std::alloc::{AllocError, Global};
 /// A kind of place: whether it is the text's beginning, and whether it is its end. An expression matches the null string
 /// at one place of a kind if it does at all of them.
 #[derive(Clone, Copy)]
-pub struct Kind {
+pub struct PlaceKind {
     pub begin: bool,
     pub end: bool,
 }
 
 /// The kind of a place in a text of so many bytes.
 #[inline(always)]
-pub fn kind_of(place: usize, length: usize) -> Kind
+pub fn kind_of(place: usize, length: usize) -> PlaceKind
     ensures begin { IsTrue result.begin ↔ (place ≡ 0) }
     ensures end { IsTrue result.end ↔ (place ≡ length) }
 {
-    Kind {
+    PlaceKind {
         begin: place == 0,
         end: place == length,
     }
@@ -47,7 +47,7 @@ const AT_END: u8 = 0b1100;
 
 /// Whether a kind is among those with these bits. Its number is 1 for the beginning, 2 for the end, and their sum for both.
 #[inline(always)]
-fn has_kind(kinds: u8, kind: Kind) -> bool
+fn has_kind(kinds: u8, kind: PlaceKind) -> bool
     ensures { result ≡ null_at kinds kind.begin kind.end }
 {
     (kinds >> (u8::from(kind.begin) + 2 * u8::from(kind.end))) & 1 == 1
@@ -71,7 +71,7 @@ pub struct Facts {
 /// What is known of a node without parts.
 fn of_leaf(x: usize, null: u8, length: usize) -> Facts
     ensures { (t : Tree) → size t ≡ 1 → ((first last : Bool) → null_at null first last ≡ nullable first last t) → ((k : ℕ) → has_group t k ≡ false) →
-        length_of t ≡ Some length → run_of t x ≡ None → IsFacts t x result }
+        length_of t ≡ Some length → repeated_set t x ≡ None → IsFacts t x result }
 {
     Facts {
         low: x,
@@ -134,7 +134,7 @@ fn of_group(k: usize, part: Facts) -> Facts
 
 /// The index of a part, if that is a set: it has no parts, and its matches have one byte.
 fn set_at(part: NodeId, told: Facts) -> Option<usize>
-    ensures { (a : Tree) → IsFacts a part.index told → result ≡ cond (is_set a) (Some part.index) None }
+    ensures { (a : Tree) → IsFacts a part.index told → result ≡ cond (is_one_set a) (Some part.index) None }
 {
     let x = part.index();
     if told.low == x && told.length == Some(1) {
@@ -146,7 +146,7 @@ fn set_at(part: NodeId, told: Facts) -> Option<usize>
 
 /// What is known of a repetition, or of a part that may be left out, from that of the part. `run` is the part, if it is a set.
 fn of_many(part: Facts, run: Option<usize>) -> Facts
-    ensures star { (a : Tree) (first : Bool) (x z : ℕ) → IsFacts a x part → x + 1 ≡ z → run ≡ cond (is_set a) (Some x) None → IsFacts (star a first) z result }
+    ensures star { (a : Tree) (first : Bool) (x z : ℕ) → IsFacts a x part → x + 1 ≡ z → run ≡ cond (is_one_set a) (Some x) None → IsFacts (star a first) z result }
     ensures opt { (a : Tree) (first : Bool) (x z : ℕ) → IsFacts a x part → x + 1 ≡ z → run ≡ None → IsFacts (opt a first) z result }
 {
     Facts {
@@ -273,7 +273,7 @@ impl Prepared {
 
     /// Whether a node matches the null string at a place of a kind. Counts one look.
     #[inline(always)]
-    pub fn null_at(&self, x: usize, kind: Kind, steps: &mut Steps) -> bool
+    pub fn null_at(&self, x: usize, kind: PlaceKind, steps: &mut Steps) -> bool
         requires inside { x < length self.now.arena.expr.nodes }
         ensures null { result ≡ null_in self.now.arena.expr.nodes kind x }
         ensures cost { Takes steps.old steps.new 1 }

@@ -7,7 +7,7 @@ ghost use Rattle.sedtext.specs.Following.{LiesOn, next_span};
 ghost use Rattle.sedtext.specs.Matching.{leftmost_longest, unless_null_at};
 ghost use Rattle.sedre.specs.Tree.{expression_tree};
 ghost use Rattle.sedpass.specs.Kept.{KeptRoom};
-ghost use Rattle.sedpass.specs.Search.{MaySearch, SearchTakes, Searched, Serves, owed_after, owed_behind};
+ghost use Rattle.sedpass.specs.Search.{MaySearch, SearchTakes, Searched, SearchServes, owed_after_search, owed_behind};
 ghost use Rattle.sedpass.specs.Table.{IsTable};
 
 use crate::kept::Subject;
@@ -24,7 +24,7 @@ pub fn begin_text(subject: Subject, back: &Table, seeking: &mut Seeking)
     ensures kept { seeking.new.kept ≡ seeking.old.kept }
     ensures begun { seeking.new.begun ≡ false }
     ensures tried { seeking.new.tried ≡ if seeking.old.begun then length subject.entry.text.now else 0 }
-    ensures serves { Serves subject.entry.prepared.now subject.entry.text.now back.now seeking.new }
+    ensures serves { SearchServes subject.entry.prepared.now subject.entry.text.now back.now seeking.new }
     ensures owed { let m = length subject.entry.prepared.now.arena.expr.nodes in let n = length subject.entry.text.now in
         owed_behind m n seeking.new 0 + 43 * m ≤ 308 * m * (n + 1) }
 {
@@ -66,7 +66,7 @@ pub fn next_after(
     ensures next { result ≡ next_span (leftmost_longest (expression_tree subject.entry.prepared.now.arena.expr) subject.entry.text.now) (length subject.entry.text.now) (Some at) }
     ensures lies { IfSome result (LiesOn (length subject.entry.text.now) (Some at)) }
     ensures cost { let m = length subject.entry.prepared.now.arena.expr.nodes in let n = length subject.entry.text.now in
-        CostsWithin steps.old steps.new (owed_behind m n seeking.old at) (owed_after (owed_behind m n seeking.new) result) }
+        CostsWithin steps.old steps.new (owed_behind m n seeking.old at) (owed_after_search (owed_behind m n seeking.new) result) }
     ensures looks { SearchTakes (length subject.entry.prepared.now.arena.expr.nodes) (length subject.entry.text.now) at steps.old steps.new result }
 {
     let first = next_match(subject, begins, ahead, back, seeking, at, steps);

@@ -11,9 +11,9 @@ ghost use Rattle.sedtext.specs.PartMarks.{enter_parts};
 ghost use Rattle.sedtext.specs.Places.{takes_any};
 ghost use Rattle.sedtext.specs.Reach.{IsStart, Ends, Marked};
 ghost use Rattle.sedpass.specs.Prepared.{null_in, SameNulls};
-ghost use Rattle.sedpass.specs.Rows.{nodes_of, at_begin, at_end, bits, LeadsTo, IsFirstRow, RowOfPlace, InTree, AreNull, TellTook, ended_by, enter_looks};
+ghost use Rattle.sedpass.specs.Rows.{nodes_of, at_begin, at_edge, bits, RowLeadsTo, IsFirstRow, RowOfPlace, InTree, AreNull, TellTook, ended_by, enter_looks};
 
-use crate::nodes::{Kind, Prepared};
+use crate::nodes::{PlaceKind, Prepared};
 use sedre::{Node, Steps};
 use sedtext::counted::NodeMarks;
 use sedtext::counted::members::takes_byte;
@@ -71,7 +71,7 @@ fn ends_here(
     node: &Node,
     x: usize,
     byte: Option<u8>,
-    kind: Kind,
+    kind: PlaceKind,
     work: &Work,
     steps: &mut Steps,
 ) -> bool
@@ -101,7 +101,7 @@ fn enter(
     prepared: &Prepared,
     node: &Node,
     here: bool,
-    kind: Kind,
+    kind: PlaceKind,
     work: &mut Work,
     steps: &mut Steps,
 )
@@ -159,7 +159,7 @@ fn ascend(
     way: Way,
     root: usize,
     byte: Option<u8>,
-    kind: Kind,
+    kind: PlaceKind,
     work: &mut Work,
     steps: &mut Steps,
 )
@@ -184,7 +184,7 @@ fn descend(
     way: Way,
     root: usize,
     first: bool,
-    kind: Kind,
+    kind: PlaceKind,
     work: &mut Work,
     steps: &mut Steps,
 )
@@ -217,11 +217,11 @@ fn descend(
 
 /// The kind of a place after a byte: it is not where a pass begins, mirrored or not, and maybe where it ends.
 #[inline(always)]
-fn edge_kind(mirrored: bool, edge: bool) -> Kind
+fn edge_kind(mirrored: bool, edge: bool) -> PlaceKind
     ensures begin { at_begin mirrored result ≡ false }
-    ensures end { at_end mirrored result ≡ edge }
+    ensures end { at_edge mirrored result ≡ edge }
 {
-    Kind {
+    PlaceKind {
         begin: edge && mirrored,
         end: edge && !mirrored,
     }
@@ -238,11 +238,11 @@ pub fn step(
     steps: &mut Steps,
 )
     requires root { root < length prepared.now.arena.expr.nodes }
-    ensures leads { (before : ℕ → Bool) → LeadsTo (nodes_of way prepared.now.arena.expr) root way.keeps
+    ensures leads { (before : ℕ → Bool) → RowLeadsTo (nodes_of way prepared.now.arena.expr) root way.keeps
         (bits (length prepared.now.arena.expr.nodes) work.old.leaves) before (Some byte) edge way.all_starts
         (bits (length prepared.now.arena.expr.nodes) work.new.leaves) (bits (length prepared.now.arena.expr.nodes) work.new.ends) }
     // Where no node is null at places of one kind alone, it is the row at the text's edge and before it.
-    ensures anywhere { SameNulls prepared.now.arena.expr.nodes → (end : Bool) (before : ℕ → Bool) → LeadsTo (nodes_of way prepared.now.arena.expr) root way.keeps
+    ensures anywhere { SameNulls prepared.now.arena.expr.nodes → (end : Bool) (before : ℕ → Bool) → RowLeadsTo (nodes_of way prepared.now.arena.expr) root way.keeps
         (bits (length prepared.now.arena.expr.nodes) work.old.leaves) before (Some byte) end way.all_starts
         (bits (length prepared.now.arena.expr.nodes) work.new.leaves) (bits (length prepared.now.arena.expr.nodes) work.new.ends) }
     ensures cost { Takes steps.old steps.new (17 * length prepared.now.arena.expr.nodes - 3) }
@@ -259,12 +259,12 @@ pub fn first(
     prepared: &Prepared,
     way: Way,
     root: usize,
-    kind: Kind,
+    kind: PlaceKind,
     work: &mut Work,
     steps: &mut Steps,
 )
     requires root { root < length prepared.now.arena.expr.nodes }
-    ensures first { IsFirstRow (nodes_of way prepared.now.arena.expr) root way.keeps (at_begin way.mirrored kind) (at_end way.mirrored kind)
+    ensures first { IsFirstRow (nodes_of way prepared.now.arena.expr) root way.keeps (at_begin way.mirrored kind) (at_edge way.mirrored kind)
         (bits (length prepared.now.arena.expr.nodes) work.new.leaves) (bits (length prepared.now.arena.expr.nodes) work.new.ends) }
     ensures cost { Takes steps.old steps.new (17 * length prepared.now.arena.expr.nodes - 3) }
     ensures counts { TakesAtLeast steps.old steps.new

@@ -11,7 +11,7 @@ ghost use Rattle.sedre.specs.Tree.{expression_tree};
 ghost use Rattle.sedre.specs.Steps.{Takes};
 ghost use Rattle.sedpass.specs.Table.{IsAhead, SameShape};
 ghost use Rattle.sedpass.specs.Kept.{IsKept, SameSpace};
-ghost use Rattle.sedpass.specs.Search.{IsNextMatch, LooksFrom, MaySearch, Searched, Serves, TablesStay, TrialsMade, owed_kept, owed_search, owed_after, search_cost};
+ghost use Rattle.sedpass.specs.Search.{IsNextMatch, LooksFrom, MaySearch, Searched, SearchServes, TablesStay, TrialsMade, owed_kept, owed_seeking, owed_after_search, search_cost};
 
 use crate::kept::{Kept, Subject};
 use crate::rows::Work;
@@ -106,7 +106,7 @@ pub fn next_kept(
     ensures tables { TablesStay subject.entry.prepared.now ahead.old ahead.new back.old back.new kept.old kept.new }
     ensures next { IsNextMatch subject.entry.prepared.now subject.entry.text.now from back.new kept.new steps.old steps.new result }
     ensures cost { let m = length subject.entry.prepared.now.arena.expr.nodes in let n = length subject.entry.text.now in
-        CostsWithin steps.old steps.new (owed_kept m n kept.old.region from + 42 * m) (owed_after (λ q. owed_kept m n kept.new.region q) result) }
+        CostsWithin steps.old steps.new (owed_kept m n kept.old.region from + 42 * m) (owed_after_search (λ q. owed_kept m n kept.new.region q) result) }
     ensures each { let m = length subject.entry.prepared.now.arena.expr.nodes in
         Takes steps.old steps.new (142 * m * (length subject.entry.text.now - from) + 42 * m) }
 {
@@ -121,12 +121,12 @@ pub fn next_kept(
 
 /// Begins the pass from the text's end, unless it was begun.
 fn begin_kept(subject: Subject, back: &Table, seeking: &mut Seeking)
-    requires { Serves subject.prepared.now subject.text.now back.now seeking.old }
+    requires { SearchServes subject.prepared.now subject.text.now back.now seeking.old }
     ensures begun { IsTrue seeking.new.begun }
     ensures kept { IsKept subject.entry.prepared.now subject.entry.text.now back.now seeking.new.kept }
     ensures space { SameSpace seeking.old.kept seeking.new.kept }
     ensures owed { let m = length subject.entry.prepared.now.arena.expr.nodes in let n = length subject.entry.text.now in
-        (place : ℕ) → place ≤ n → owed_search m n seeking.new place ≤ owed_search m n seeking.old place }
+        (place : ℕ) → place ≤ n → owed_seeking m n seeking.new place ≤ owed_seeking m n seeking.old place }
 {
     if !seeking.begun {
         let length = subject.text.len();
@@ -152,7 +152,7 @@ pub fn next_match(
     ensures searched { Searched subject.entry.prepared.now subject.entry.text.now ahead.old ahead.new back.old back.new seeking.old seeking.new }
     ensures answer { SpanAnswer (expression_tree subject.entry.prepared.now.arena.expr) subject.entry.text.now from result }
     ensures cost { let m = length subject.entry.prepared.now.arena.expr.nodes in let n = length subject.entry.text.now in
-        CostsWithin steps.old steps.new (owed_search m n seeking.old from + 43 * m) (owed_after (owed_search m n seeking.new) result) }
+        CostsWithin steps.old steps.new (owed_seeking m n seeking.old from + 43 * m) (owed_after_search (owed_seeking m n seeking.new) result) }
     ensures each { Takes steps.old steps.new (search_cost (length subject.entry.prepared.now.arena.expr.nodes) (length subject.entry.text.now) from) }
     ensures counts { LooksFrom from steps.old steps.new result }
 {

@@ -7,12 +7,12 @@ ghost use Rattle.std.specs.Prelude.{◌≡◌, ℕ, false, ◌+◌, ◌*◌, ◌
 ghost use Rattle.sedtext.specs.Words.{row_of};
 ghost use Rattle.sedre.specs.Steps.{Takes, TakesAtLeast};
 ghost use Rattle.sedpass.specs.Rows.{nodes_of, bits};
-ghost use Rattle.sedpass.specs.declared.nodes.Kind.{Kind};
+ghost use Rattle.sedpass.specs.declared.nodes.PlaceKind.{PlaceKind};
 ghost use Rattle.sedpass.specs.declared.nodes.Prepared.{Prepared};
-ghost use Rattle.sedpass.specs.Table.{state_of, HasRow, HasMarks, BeginsIn, Names, IsNext, IsOffset, beginning_at, MayBegin, IsRoomy, IsTable, SameRoom, SameShape, Codes, IsMade};
+ghost use Rattle.sedpass.specs.Table.{state_of, HasRow, HasMarks, BeginsIn, NamesState, IsNext, IsOffset, beginning_at, MayBegin, IsRoomy, IsTable, SameRoom, SameShape, Codes, IsMade};
 
-use crate::cells::{Flags, Layout, code_of, empty_cells, stops};
-use crate::nodes::{Kind, Prepared};
+use crate::cells::{StateFlags, Layout, code_of, empty_cells, stops};
+use crate::nodes::{PlaceKind, Prepared};
 use crate::rows::{Way, Work, first, step};
 use sedre::Steps;
 use sedtext::counted::Rows;
@@ -69,7 +69,7 @@ pub struct Table {
     /// For each state the root of its pass.
     pub roots: Vec<usize>,
     /// For each state what is known of it.
-    pub flags: Vec<Flags>,
+    pub flags: Vec<StateFlags>,
     /// For each state and column the code of the state that comes next, or 0 where it isn't known yet. There is room for all
     /// states; the cells of a state are there once it was added, so that memory is touched only then.
     pub cells: Vec<u32>,
@@ -94,7 +94,7 @@ fn next_epoch(epoch: u32) -> u32
 fn count_beginnings(all_starts: bool, nodes: usize) -> usize
     requires some { 0 < nodes }
     requires few { nodes ≤ 65536 }
-    ensures begins { (root : ℕ) (kind : Kind) → root < nodes → beginning_at all_starts root kind < result }
+    ensures begins { (root : ℕ) (kind : PlaceKind) → root < nodes → beginning_at all_starts root kind < result }
 {
     if all_starts { 4 } else { 4 * nodes }
 }
@@ -125,7 +125,7 @@ impl Table {
             count: 0,
             epoch: 1,
             roots: vec![in alloc; 0; room]?,
-            flags: vec![in alloc; Flags {
+            flags: vec![in alloc; StateFlags {
                 ends: false,
                 dead: false
             }; room]?,
@@ -285,7 +285,7 @@ impl Table {
         self.leaves.store(state, &work.leaves, nodes, steps);
         self.ends.store(state, &work.ends, nodes, steps);
         self.roots[state] = root;
-        let flags = Flags {
+        let flags = StateFlags {
             ends: work.ends.get(root, steps),
             dead: work.leaves.is_clear(nodes, steps),
         };
@@ -359,7 +359,7 @@ impl Table {
     pub fn known(&self, prepared: &Prepared, offset: usize, byte: u8, edge: bool) -> u32
         requires table { IsTable prepared.now self.now }
         requires offset { IsOffset self.now offset }
-        ensures { 0 < result → Names (length prepared.now.arena.expr.nodes) self.now (IsNext prepared.now self.now offset byte edge) result }
+        ensures { 0 < result → NamesState (length prepared.now.arena.expr.nodes) self.now (IsNext prepared.now self.now offset byte edge) result }
     {
         match self.layout.column(byte, edge) {
             Some(column) => self.cells[offset + column],
@@ -395,7 +395,7 @@ impl Table {
 
     /// Where a beginning is noted.
     #[inline(always)]
-    fn beginning_at(&self, root: usize, kind: Kind) -> usize
+    fn beginning_at(&self, root: usize, kind: PlaceKind) -> usize
         requires { root ≤ 65536 }
         ensures { result ≡ beginning_at self.now.way.all_starts root kind }
     {
@@ -409,7 +409,7 @@ impl Table {
         &mut self,
         prepared: &Prepared,
         root: usize,
-        kind: Kind,
+        kind: PlaceKind,
         work: &mut Work,
         steps: &mut Steps,
     ) -> u32
@@ -436,7 +436,7 @@ impl Table {
         &mut self,
         prepared: &Prepared,
         root: usize,
-        kind: Kind,
+        kind: PlaceKind,
         work: &mut Work,
         steps: &mut Steps,
     ) -> u32

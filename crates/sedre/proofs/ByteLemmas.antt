@@ -13,7 +13,7 @@ use Rattle.std.proofs.lemmas.Bool.{cases_eq, cases_lt, lt-ltb, le-ltb}
 use Rattle.std.proofs.lemmas.Option.{slice_get-get_or}
 use Rattle.std.proofs.lemmas.Bool.Decides.{eqb_tells}
 use Rattle.std.proofs.lemmas.Nat.Bits.{bit_at-zero, bit_at-lt}
-use Rattle.sedre.specs.Sets.{set_of, has, union, complement, only, between, other_case, folded_set}
+use Rattle.sedre.specs.Sets.{set_of, has, union, complement, only, is_between, other_case, folded_set}
 use Rattle.sedre.specs.Words.{words_of, is_set, set_of_words, AreWords}
 use Rattle.sedre.specs.WordLaws.{has-set_of, words_of-set_of_words}
 
@@ -193,10 +193,10 @@ and_false : (a : Bool) → (a && false) ≡ false
 and_false true = refl
 and_false false = refl
 
-pub between_true : (least most c : ℕ) → least ≤ c → c ≤ most → between least most c ≡ true
+pub between_true : (least most c : ℕ) → least ≤ c → c ≤ most → is_between least most c ≡ true
 between_true least most c low high = search (rules, tests)
 
-pub between_false : (least most c : ℕ) → most < c → between least most c ≡ false
+pub between_false : (least most c : ℕ) → most < c → is_between least most c ≡ false
 between_false least most c high = ap (λ x. nat_le least c && x) (search (rules, tests)) ∙ and_false (nat_le least c)
 
 more : (test : ℕ → Bool) (b c : ℕ) → test b ≡ true → ((test c && nat_lt c b) || (c == b)) ≡ (test c && nat_lt c (b + 1))
@@ -237,7 +237,7 @@ filled_full test b set full filled =
 
 -- ---- letters in either case
 
-between_under : (least most c : ℕ) → c < least → between least most c ≡ false
+between_under : (least most c : ℕ) → c < least → is_between least most c ≡ false
 between_under least most c low = let under : nat_le least c ≡ false = search (rules, tests) in ap (λ x. x && nat_le c most) under
 
 -- an upper case letter, a lower case letter, or another byte

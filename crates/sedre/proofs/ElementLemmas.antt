@@ -2,7 +2,7 @@
 use Rattle.std.proofs.Common.{◌≡◌, ℕ, ◌+◌, ◌-◌, ◌<◌, ◌≤◌, List, [], ◌∷◌, length, take, drop, refl, sym, ap, ◌∙◌, arith, Some, None, option_map, add-one, length-drop, length-take-le}
 use Rattle.std.proofs.lemmas.List.{take_all}
 use Rattle.sedre.specs.declared.elements.Element.{Element}
-use Rattle.sedre.specs.Brackets.{before_closing, content, form, form_of}
+use Rattle.sedre.specs.Brackets.{before_closing, content, front_form, form_of}
 
 pair : {A : Type 0} (a b : A) (m n : ℕ) → a ≡ b → m ≡ n → ◌≡◌ {A = A × ℕ} (a, m) (b, n)
 pair a b m n p q = cc
@@ -24,8 +24,8 @@ content_is c more (x ∷ rest) some is =
     ∙ ap (option_map (λ n. x ∷ take n rest)) is ∙ ap (λ n. Some (take n (x ∷ rest))) (sym (add-one more))
 
 pub form_is : (c more left : ℕ) (bs : List ℕ) (held : Element) → 0 < length bs → before_closing c (take (length bs - 1) (drop 1 bs)) ≡ Some more → more + 1 ≤ length bs →
-    held ≡ form_of c (take (more + 1) bs) → ◌≡◌ {A = Element × ℕ} (held, more + 5) (form c left (content c bs))
+    held ≡ form_of c (take (more + 1) bs) → ◌≡◌ {A = Element × ℕ} (held, more + 5) (front_form c left (content c bs))
 form_is c more left bs held some is inside is_held =
     let width : more + 5 ≡ length (take (more + 1) bs) + 4 = omega (arith, length-take-le (more + 1) bs inside) in
     pair held (form_of c (take (more + 1) bs)) (more + 5) (length (take (more + 1) bs) + 4) is_held width
-    ∙ sym (ap (form c left) (content_is c more bs some is))
+    ∙ sym (ap (front_form c left) (content_is c more bs some is))

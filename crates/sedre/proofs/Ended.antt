@@ -2,19 +2,19 @@
 use Rattle.std.proofs.Common.{Bool, ◌≡◌, ◌≢◌, ℕ, ◌+◌, ◌<◌, ◌≤◌, ◌⊎◌, inl, inr, length, get_or, List, [], ◌∷◌, true, Option, Result, Ok, Err, refl, ap, subst, sym, ◌∙◌, IfOk, IfErr, OnOk, arith, append-nil}
 use Rattle.std.specs.Result.{is_ok}
 use Rattle.sedre.specs.declared.types.Kind.{Kind}
-use Rattle.sedre.specs.declared.types.Reason.{Reason}
+use Rattle.sedre.specs.declared.types.ExprReason.{ExprReason}
 use Rattle.sedre.specs.declared.types.ExprFault.{ExprFault}
 use Rattle.sedre.specs.declared.types.TheConstants.{NO_MEMORY}
 use Rattle.sedre.specs.declared.parts.TreeExtent.{TreeExtent}
 use Rattle.sedre.specs.declared.stack.Stack.{Stack}
-use Rattle.sedre.specs.declared.syntax.NextItem.TheVariants.{Is, Ends}
-use Rattle.sedre.specs.declared.syntax.Item.{Item}
-use Rattle.sedre.specs.declared.syntax.Item.TheVariants.{Byte, Open, Close, Bar, Repeat, AtBegin, AtEnd}
-use Rattle.sedre.specs.Items.{item_at}
+use Rattle.sedre.specs.declared.syntax.NextToken.TheVariants.{Is, Ends}
+use Rattle.sedre.specs.declared.syntax.Token.{Token}
+use Rattle.sedre.specs.declared.syntax.Token.TheVariants.{Byte, Open, Close, Bar, Repeat, AtBegin, AtEnd}
+use Rattle.sedre.specs.Tokens.{token_at}
 use Rattle.sedre.specs.Tree.{Tree, WrittenExpression, expression_tree, size}
 use Rattle.sedre.specs.Grammar.{depth, ReadsAs, FaultyWith}
 use Rattle.sedre.specs.Arena.{IsExpr}
-use Rattle.sedre.specs.Stacks.{Nesting, CanTake, whole_level, Stored, postorder, written, part_of}
+use Rattle.sedre.specs.Stacks.{Nesting, CanTake, whole_level, Stored, postorder, written_trees, extent_kept}
 use Rattle.sedre.specs.Finished.{GroupsNumbered, IsFinished, IsOverLimit}
 use Rattle.sedre.proofs.Written.{length-postorder}
 use Rattle.sedre.proofs.Kept.{fitting_all}
@@ -52,11 +52,11 @@ no_length [] h = refl
 no_length (l ∷ ls) h = absurd (omega (arith, h))
 
 -- the one tree on the stack
-pub one_part : (limit : ℕ) (s : Stack) (t : Tree) (p : TreeExtent) → Stored limit s (t ∷ []) → p ≡ get_or s.parts.items 0 p → p ≡ part_of limit (size t) t
-one_part limit s t p st e = e ∙ ap (λ (ps : List TreeExtent). get_or ps 0 p) st.parts_are ∙ ap (λ (n : ℕ). part_of limit n t) (let h : 0 + size t ≡ size t = omega arith in h)
+pub one_part : (limit : ℕ) (s : Stack) (t : Tree) (p : TreeExtent) → Stored limit s (t ∷ []) → p ≡ get_or s.parts.items 0 p → p ≡ extent_kept limit (size t) t
+one_part limit s t p st e = e ∙ ap (λ (ps : List TreeExtent). get_or ps 0 p) st.parts_are ∙ ap (λ (n : ℕ). extent_kept limit n t) (let h : 0 + size t ≡ size t = omega arith in h)
 
 pub one_tree : (limit : ℕ) (s : Stack) (t : Tree) → Stored limit s (t ∷ []) → size t < limit → s.nodes ≡ postorder 0 t
-one_tree limit s t st h = st.nodes_are ∙ ap (written 0) (fitting_all limit 0 (t ∷ []) (omega (arith, h))) ∙ append-nil (postorder 0 t)
+one_tree limit s t st h = st.nodes_are ∙ ap (written_trees 0) (fitting_all limit 0 (t ∷ []) (omega (arith, h))) ∙ append-nil (postorder 0 t)
 
 pub small_tree : (limit : ℕ) (s : Stack) (t : Tree) (p : TreeExtent) → Stored limit s (t ∷ []) → p ≡ get_or s.parts.items 0 p → p.end < s.limit → size t < limit
 small_tree limit s t p st e h = omega (arith, h, st.limit_is, ap (λ (q : TreeExtent). q.end) (one_part limit s t p st e))
@@ -84,7 +84,7 @@ finished limit s k p e opened st read small shallow eg is =
     }
 
 module _ (kind : Kind) (folded : Bool) (delimiter : Option ℕ) (text : List ℕ) where
-  pub can_take : {before : Option Item} {at next : ℕ} (i : Item) {s : Nesting} → Reading kind folded delimiter text before at s → item_at kind folded delimiter text before at ≡ Is i next →
+  pub can_take : {before : Option Token} {at next : ℕ} (i : Token) {s : Nesting} → Reading kind folded delimiter text before at s → token_at kind folded delimiter text before at ≡ Is i next →
       (i ≡ Close → s.below ≢ []) → CanTake i s
   can_take (Byte members) r f closes = tt
   can_take Open r f closes = tt
@@ -98,17 +98,17 @@ module _ (kind : Kind) (folded : Bool) (delimiter : Option ℕ) (text : List ℕ
   pub reads_numbered : {e : Tree} {groups : ℕ} → ReadsAs kind folded delimiter text e groups → GroupsNumbered groups e
   reads_numbered {e = e} {groups = groups} r = subst (GroupsNumbered groups) r.is (of_alternation groups r.alternatives (of_alternatives r.grammar).1)
 
-  pub finished_reads : {before : Option Item} {at : ℕ} (s : Nesting) (limit : ℕ) (e : WrittenExpression) → Reading kind folded delimiter text before at s → item_at kind folded delimiter text before at ≡ Ends → s.below ≡ [] →
+  pub finished_reads : {before : Option Token} {at : ℕ} (s : Nesting) (limit : ℕ) (e : WrittenExpression) → Reading kind folded delimiter text before at s → token_at kind folded delimiter text before at ≡ Ends → s.below ≡ [] →
       IsFinished s limit e → ReadsAs kind folded delimiter text (expression_tree e) e.groups
   finished_reads s limit e r f none d =
       let R : Tree → ℕ → Type 0 = λ t g. ReadsAs kind folded delimiter text t g in
       subst (λ (g : ℕ). R (expression_tree e) g) (sym d.groups) (subst (λ (t : Tree). R t s.opened) (sym d.tree_is) (reading_whole kind folded delimiter text r f none))
 
-  pub finished_no_fault : {before : Option Item} {at : ℕ} (s : Nesting) (max_nodes : ℕ) (e : WrittenExpression) → Reading kind folded delimiter text before at s → item_at kind folded delimiter text before at ≡ Ends → s.below ≡ [] →
-      IsFinished s (max_nodes + 1) e → (place : ℕ) (reason : Reason) → FaultyWith kind folded delimiter text max_nodes place reason → ⊥
+  pub finished_no_fault : {before : Option Token} {at : ℕ} (s : Nesting) (max_nodes : ℕ) (e : WrittenExpression) → Reading kind folded delimiter text before at s → token_at kind folded delimiter text before at ≡ Ends → s.below ≡ [] →
+      IsFinished s (max_nodes + 1) e → (place : ℕ) (reason : ExprReason) → FaultyWith kind folded delimiter text max_nodes place reason → ⊥
   finished_no_fault s max_nodes e r f none d place reason = no_fault kind folded delimiter text (reading_whole kind folded delimiter text r f none) d.shallow (omega (arith, d.small))
 
-  pub over_limit : {before : Option Item} {at : ℕ} (s : Nesting) (max_nodes : ℕ) (fault : ExprFault) → Reading kind folded delimiter text before at s → item_at kind folded delimiter text before at ≡ Ends → s.below ≡ [] →
+  pub over_limit : {before : Option Token} {at : ℕ} (s : Nesting) (max_nodes : ℕ) (fault : ExprFault) → Reading kind folded delimiter text before at s → token_at kind folded delimiter text before at ≡ Ends → s.below ≡ [] →
       IsOverLimit s (max_nodes + 1) (length text) fault ⊎ (fault ≡ NO_MEMORY) → FaultyWith kind folded delimiter text max_nodes fault.place fault.reason ⊎ (fault ≡ NO_MEMORY)
   over_limit s max_nodes fault r f none (inr m) = inr m
   over_limit s max_nodes fault r f none (inl (inl d)) =

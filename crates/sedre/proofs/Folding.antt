@@ -1,22 +1,22 @@
--- What is a fault doesn't depend on whether case is folded: items and trees are the same but for the sets in them.
+-- What is a fault doesn't depend on whether case is folded: tokens and trees are the same but for the sets in them.
 use Rattle.std.proofs.Common.{◌≡◌, ◌⊎◌, inl, inr, ℕ, zero, suc, ◌+◌, ◌-◌, false, Bool, List, [], ◌∷◌, ◌++◌, drop, Option, Some, None, Ok, Err, refl, ap, subst, sym, ◌∙◌, arith}
 use Rattle.std.specs.Prelude.{nat_eq}
 use Rattle.std.specs.List.{last_or}
 use Rattle.sedre.specs.declared.types.Kind.{Kind}
-use Rattle.sedre.specs.declared.types.Reason.{Reason}
+use Rattle.sedre.specs.declared.types.ExprReason.{ExprReason}
 use Rattle.sedre.specs.declared.types.ExprFault.{ExprFault}
 use Rattle.sedre.specs.declared.types.TheConstants.{NO_MEMORY}
 use Rattle.sedre.specs.declared.syntax.Symbol.{Symbol}
 use Rattle.sedre.specs.declared.syntax.Symbol.TheVariants.{Literal, BracketOpening}
-use Rattle.sedre.specs.declared.syntax.NextItem.{NextItem}
-use Rattle.sedre.specs.declared.syntax.NextItem.TheVariants.{Is, Ends, Bad}
-use Rattle.sedre.specs.declared.syntax.Item.{Item}
-use Rattle.sedre.specs.declared.syntax.Item.TheVariants.{Byte, Open, Close, Bar, Repeat, AtBegin, AtEnd}
+use Rattle.sedre.specs.declared.syntax.NextToken.{NextToken}
+use Rattle.sedre.specs.declared.syntax.NextToken.TheVariants.{Is, Ends, Bad}
+use Rattle.sedre.specs.declared.syntax.Token.{Token}
+use Rattle.sedre.specs.declared.syntax.Token.TheVariants.{Byte, Open, Close, Bar, Repeat, AtBegin, AtEnd}
 use Rattle.sedre.specs.Tree.{Tree, size}
-use Rattle.sedre.specs.Grammar.{depth, without_alternation, concatenation, alternation, copies, optional, further, repetition, AreAlternatives, ArePieces, IsPiece, first, another, none, more, byte, begin_anchor, end_anchor, subexpression, repeated, CutExpression, done, item, open_groups, Row, bad, stray, unclosed, deep, large, FaultyWith}
+use Rattle.sedre.specs.Grammar.{depth, without_alternation, concatenation, alternation, with_copies, optional, further, repetition, AreAlternatives, ArePieces, IsPiece, first, another, none, more, byte, begin_anchor, end_anchor, subexpression, repeated, CutExpression, done, item, open_groups, FaultRow, bad, stray, unclosed, deep, large, FaultyWith}
 use Rattle.sedre.specs.Tree as t
-use Rattle.sedre.specs.Brackets.{ListedBytes, judged, list_at, listed, elements_from, begins}
-use Rattle.sedre.specs.Items.{front_symbol, item_at, item_for, list_item}
+use Rattle.sedre.specs.Brackets.{ListedBytes, judged_list, list_at, all_listed, elements_from, is_at_front}
+use Rattle.sedre.specs.Tokens.{front_symbol, token_at, token_for, list_token}
 
 -- ---- trees
 
@@ -66,7 +66,7 @@ alternation-same nothing = same
 alternation-same (also p nothing) = p
 alternation-same (also p (also q r)) = alts p (alternation-same (also q r))
 
-copies-same : (n : ℕ) {a b : Tree} {ts us : List Tree} → Same a b → SameAll ts us → SameAll (copies n a ts) (copies n b us)
+copies-same : (n : ℕ) {a b : Tree} {ts us : List Tree} → Same a b → SameAll ts us → SameAll (with_copies n a ts) (with_copies n b us)
 copies-same zero p r = r
 copies-same (suc n) p r = also p (copies-same n p r)
 
@@ -86,43 +86,43 @@ append-same : {ts us vs ws : List Tree} → SameAll ts us → SameAll vs ws → 
 append-same nothing q = q
 append-same (also p r) q = also p (append-same r q)
 
--- ---- items
+-- ---- tokens
 
-data AlikeItem : Item → Item → Type 0 where
+data AlikeItem : Token → Token → Type 0 where
   bytes : {m n : List Bool} → AlikeItem (Byte m) (Byte n)
-  one : {i : Item} → AlikeItem i i
+  one : {i : Token} → AlikeItem i i
 
-data Alike : List Item → List Item → Type 0 where
+data Alike : List Token → List Token → Type 0 where
   empty : Alike [] []
-  next : {i j : Item} {is js : List Item} → AlikeItem i j → Alike is js → Alike (i ∷ is) (j ∷ js)
+  next : {i j : Token} {is js : List Token} → AlikeItem i j → Alike is js → Alike (i ∷ is) (j ∷ js)
 
-record Split (is js ks : List Item) : Type 0 where
-  pub left : List Item
-  pub right : List Item
+record Split (is js ks : List Token) : Type 0 where
+  pub left : List Token
+  pub right : List Token
   pub whole : left ++ right ≡ ks
   pub lefts : Alike is left
   pub rights : Alike js right
 
-split : (is : List Item) {js ks : List Item} → Alike (is ++ js) ks → Split is js ks
+split : (is : List Token) {js ks : List Token} → Alike (is ++ js) ks → Split is js ks
 split [] {ks = ks} a = record { left = []; right = ks; whole = refl; lefts = empty; rights = a }
 split (i ∷ is) (next {j = j} x a) =
     let s = split is a in
-    record { left = j ∷ s.left; right = s.right; whole = ap (λ (l : List Item). j ∷ l) s.whole; lefts = next x s.lefts; rights = s.rights }
+    record { left = j ∷ s.left; right = s.right; whole = ap (λ (l : List Token). j ∷ l) s.whole; lefts = next x s.lefts; rights = s.rights }
 
-after_bar : {js ks : List Item} → Alike (Bar ∷ js) ks → (rest : List Item) × (Bar ∷ rest ≡ ks) × Alike js rest
+after_bar : {js ks : List Token} → Alike (Bar ∷ js) ks → (rest : List Token) × (Bar ∷ rest ≡ ks) × Alike js rest
 after_bar (next {js = rest} one a) = (rest, refl, a)
 
-only_close : {ks : List Item} → Alike (Close ∷ []) ks → Close ∷ [] ≡ ks
+only_close : {ks : List Token} → Alike (Close ∷ []) ks → Close ∷ [] ≡ ks
 only_close (next one empty) = refl
 
-only_repeat : {least : ℕ} {most : Option ℕ} {ks : List Item} → Alike (Repeat least most ∷ []) ks → Repeat least most ∷ [] ≡ ks
+only_repeat : {least : ℕ} {most : Option ℕ} {ks : List Token} → Alike (Repeat least most ∷ []) ks → Repeat least most ∷ [] ≡ ks
 only_repeat (next one empty) = refl
 
-after_open : {js ks : List Item} → Alike (Open ∷ js) ks → (rest : List Item) × (Open ∷ rest ≡ ks) × Alike js rest
+after_open : {js ks : List Token} → Alike (Open ∷ js) ks → (rest : List Token) × (Open ∷ rest ≡ ks) × Alike js rest
 after_open (next {js = rest} one a) = (rest, refl, a)
 
 mutual
-  alternatives_alike : {g h : ℕ} {is js : List Item} {bs : List Tree} → AreAlternatives g is bs h → Alike is js → (ds : List Tree) × AreAlternatives g js ds h × SameAll bs ds
+  alternatives_alike : {g h : ℕ} {is js : List Token} {bs : List Tree} → AreAlternatives g is bs h → Alike is js → (ds : List Tree) × AreAlternatives g js ds h × SameAll bs ds
   alternatives_alike (first p) a =
       let q = pieces_alike p a in
       (concatenation q.0 ∷ [], first q.1, also (concatenation-same q.2) nothing)
@@ -131,19 +131,19 @@ mutual
       let r = after_bar s.rights in
       let c = alternatives_alike b s.lefts in
       let q = pieces_alike p r.2 in
-      let R : List Item → Type 0 = λ l. AreAlternatives g l (c.0 ++ concatenation q.0 ∷ []) h in
-      (c.0 ++ concatenation q.0 ∷ [], subst R (ap (λ (l : List Item). s.left ++ l) r.1 ∙ s.whole) (another c.1 q.1), append-same c.2 (also (concatenation-same q.2) nothing))
+      let R : List Token → Type 0 = λ l. AreAlternatives g l (c.0 ++ concatenation q.0 ∷ []) h in
+      (c.0 ++ concatenation q.0 ∷ [], subst R (ap (λ (l : List Token). s.left ++ l) r.1 ∙ s.whole) (another c.1 q.1), append-same c.2 (also (concatenation-same q.2) nothing))
 
-  pieces_alike : {g h : ℕ} {is js : List Item} {ts : List Tree} → ArePieces g is ts h → Alike is js → (us : List Tree) × ArePieces g js us h × SameAll ts us
+  pieces_alike : {g h : ℕ} {is js : List Token} {ts : List Tree} → ArePieces g is ts h → Alike is js → (us : List Tree) × ArePieces g js us h × SameAll ts us
   pieces_alike none empty = ([], none, nothing)
   pieces_alike {g = g} {h = h} (more {is = is} p q) a =
       let s = split is a in
       let c = pieces_alike p s.lefts in
       let d = piece_alike q s.rights in
-      let R : List Item → Type 0 = λ l. ArePieces g l (c.0 ++ d.0 ∷ []) h in
+      let R : List Token → Type 0 = λ l. ArePieces g l (c.0 ++ d.0 ∷ []) h in
       (c.0 ++ d.0 ∷ [], subst R s.whole (more c.1 d.1), append-same c.2 (also d.2 nothing))
 
-  piece_alike : {g h : ℕ} {is js : List Item} {a : Tree} → IsPiece g is a h → Alike is js → (b : Tree) × IsPiece g js b h × Same a b
+  piece_alike : {g h : ℕ} {is js : List Token} {a : Tree} → IsPiece g is a h → Alike is js → (b : Tree) × IsPiece g js b h × Same a b
   piece_alike (byte {members = m}) (next one empty) = (t.set m, byte, same)
   piece_alike byte (next (bytes {n = n}) empty) = (t.set n, byte, sets)
   piece_alike begin_anchor (next one empty) = (t.begin, begin_anchor, same)
@@ -152,15 +152,15 @@ mutual
       let o = after_open a in
       let s = split is o.2 in
       let c = alternatives_alike b s.lefts in
-      let R : List Item → Type 0 = λ l. IsPiece g l (t.group (suc g) (alternation c.0)) h in
-      (t.group (suc g) (alternation c.0), subst R (ap (λ (l : List Item). Open ∷ s.left ++ l) (only_close s.rights) ∙ ap (λ (l : List Item). Open ∷ l) s.whole ∙ o.1) (subexpression c.1), groups (alternation-same c.2))
+      let R : List Token → Type 0 = λ l. IsPiece g l (t.group (suc g) (alternation c.0)) h in
+      (t.group (suc g) (alternation c.0), subst R (ap (λ (l : List Token). Open ∷ s.left ++ l) (only_close s.rights) ∙ ap (λ (l : List Token). Open ∷ l) s.whole ∙ o.1) (subexpression c.1), groups (alternation-same c.2))
   piece_alike {g = g} {h = h} (repeated least most {is = is} q) a =
       let s = split is a in
       let c = piece_alike q s.lefts in
-      let R : List Item → Type 0 = λ l. IsPiece g l (repetition least most c.0) h in
-      (repetition least most c.0, subst R (ap (λ (l : List Item). s.left ++ l) (only_repeat s.rights) ∙ s.whole) (repeated least most c.1), repetition-same least most c.2)
+      let R : List Token → Type 0 = λ l. IsPiece g l (repetition least most c.0) h in
+      (repetition least most c.0, subst R (ap (λ (l : List Token). s.left ++ l) (only_repeat s.rights) ∙ s.whole) (repeated least most c.1), repetition-same least most c.2)
 
-same_open : (i : Item) (is js : List Item) → ((n : ℕ) → open_groups n is ≡ open_groups n js) → (n : ℕ) → open_groups n (i ∷ is) ≡ open_groups n (i ∷ js)
+same_open : (i : Token) (is js : List Token) → ((n : ℕ) → open_groups n is ≡ open_groups n js) → (n : ℕ) → open_groups n (i ∷ is) ≡ open_groups n (i ∷ js)
 same_open (Byte m) is js f n = f n
 same_open Open is js f n = f (suc n)
 same_open Close is js f zero = refl
@@ -170,83 +170,83 @@ same_open (Repeat least most) is js f n = f n
 same_open AtBegin is js f n = f n
 same_open AtEnd is js f n = f n
 
-open_alike : {is js : List Item} → Alike is js → (n : ℕ) → open_groups n is ≡ open_groups n js
+open_alike : {is js : List Token} → Alike is js → (n : ℕ) → open_groups n is ≡ open_groups n js
 open_alike empty n = refl
 open_alike (next bytes a) n = open_alike a n
 open_alike (next {is = is} {js = js} (one {i = i}) a) n = same_open i is js (open_alike a) n
 
 -- ---- what stands at a place
 
-data AlikeHere : NextItem → NextItem → Type 0 where
-  stands : {i j : Item} {n : ℕ} → AlikeItem i j → AlikeHere (Is i n) (Is j n)
-  this : {h : NextItem} → AlikeHere h h
+data AlikeHere : NextToken → NextToken → Type 0 where
+  stands : {i j : Token} {n : ℕ} → AlikeItem i j → AlikeHere (Is i n) (Is j n)
+  this : {h : NextToken} → AlikeHere h h
 
-data AlikeBefore : Option Item → Option Item → Type 0 where
+data AlikeBefore : Option Token → Option Token → Type 0 where
   nowhere : AlikeBefore None None
-  there : {i j : Item} → AlikeItem i j → AlikeBefore (Some i) (Some j)
+  there : {i j : Token} → AlikeItem i j → AlikeBefore (Some i) (Some j)
 
-list_alike : (f g negated : Bool) (at : ℕ) (l : ListedBytes) (end : Option ℕ) → AlikeHere (list_item (judged f negated at l end)) (list_item (judged g negated at l end))
+list_alike : (f g negated : Bool) (at : ℕ) (l : ListedBytes) (end : Option ℕ) → AlikeHere (list_token (judged_list f negated at l end)) (list_token (judged_list g negated at l end))
 list_alike f g negated at (Err x) end = this
 list_alike f g negated at (Ok set) None = this
 list_alike f g negated at (Ok set) (Some end) = stands bytes
 
-is_alike : {x y : NextItem} {i : Item} {n : ℕ} → AlikeHere x y → x ≡ Is i n → (j : Item) × (y ≡ Is j n) × AlikeItem i j
+is_alike : {x y : NextToken} {i : Token} {n : ℕ} → AlikeHere x y → x ≡ Is i n → (j : Token) × (y ≡ Is j n) × AlikeItem i j
 is_alike {i = i} this e = (i, e, one)
 is_alike {i = i} {n = n} (stands {i = k} {j = j} {n = m} a) e =
     let items : k ≡ i = cc in
     let places : m ≡ n = cc in
-    (j, ap (λ (p : ℕ). Is j p) places, subst (λ (x : Item). AlikeItem x j) items a)
+    (j, ap (λ (p : ℕ). Is j p) places, subst (λ (x : Token). AlikeItem x j) items a)
 
-ends_alike : {x y : NextItem} → AlikeHere x y → x ≡ Ends → y ≡ Ends
+ends_alike : {x y : NextToken} → AlikeHere x y → x ≡ Ends → y ≡ Ends
 ends_alike this e = e
 ends_alike (stands a) e = absurd cc
 
-bad_alike : {x y : NextItem} {r : ExprFault} → AlikeHere x y → x ≡ Bad r → y ≡ Bad r
+bad_alike : {x y : NextToken} {r : ExprFault} → AlikeHere x y → x ≡ Bad r → y ≡ Bad r
 bad_alike this e = e
 bad_alike (stands a) e = absurd cc
 
-close_alike : {j : Item} → AlikeItem Close j → j ≡ Close
+close_alike : {j : Token} → AlikeItem Close j → j ≡ Close
 close_alike one = refl
 
 module _ (kind : Kind) (f g : Bool) (delimiter : Option ℕ) (text : List ℕ) where
-  folded_for : (before : Option Item) (at : ℕ) (s : Option (Symbol × ℕ)) → AlikeHere (item_for kind f delimiter text before at s) (item_for kind g delimiter text before at s)
+  folded_for : (before : Option Token) (at : ℕ) (s : Option (Symbol × ℕ)) → AlikeHere (token_for kind f delimiter text before at s) (token_for kind g delimiter text before at s)
   unfolding list_at
   folded_for before at (Some (Literal b, n)) = stands bytes
   folded_for before at (Some (BracketOpening, n)) =
-      list_alike f g (begins (drop (at + 1) text) 94) at (listed (elements_from delimiter (at + 1) (drop (at + 1) text)).0) (elements_from delimiter (at + 1) (drop (at + 1) text)).1
+      list_alike f g (is_at_front (drop (at + 1) text) 94) at (all_listed (elements_from delimiter (at + 1) (drop (at + 1) text)).0) (elements_from delimiter (at + 1) (drop (at + 1) text)).1
   folded_for before at _ = this
 
-  after_byte : (m n : List Bool) (at : ℕ) (s : Option (Symbol × ℕ)) → item_for kind g delimiter text (Some (Byte m)) at s ≡ item_for kind g delimiter text (Some (Byte n)) at s
+  after_byte : (m n : List Bool) (at : ℕ) (s : Option (Symbol × ℕ)) → token_for kind g delimiter text (Some (Byte m)) at s ≡ token_for kind g delimiter text (Some (Byte n)) at s
   after_byte m n at None = refl
   after_byte m n at _ = refl
 
-  here_alike : {before after : Option Item} (at : ℕ) → AlikeBefore before after → AlikeHere (item_at kind f delimiter text before at) (item_at kind g delimiter text after at)
-  unfolding item_at
+  here_alike : {before after : Option Token} (at : ℕ) → AlikeBefore before after → AlikeHere (token_at kind f delimiter text before at) (token_at kind g delimiter text after at)
+  unfolding token_at
   here_alike at nowhere = folded_for None at (front_symbol kind delimiter (drop at text))
   here_alike at (there (one {i = i})) = folded_for (Some i) at (front_symbol kind delimiter (drop at text))
   here_alike at (there (bytes {m = m} {n = n})) =
       let s = front_symbol kind delimiter (drop at text) in
-      subst (λ (h : NextItem). AlikeHere (item_for kind f delimiter text (Some (Byte m)) at s) h) (after_byte m n at s) (folded_for (Some (Byte m)) at s)
+      subst (λ (h : NextToken). AlikeHere (token_for kind f delimiter text (Some (Byte m)) at s) h) (after_byte m n at s) (folded_for (Some (Byte m)) at s)
 
-  record CutAlike (before after : Option Item) (at : ℕ) (is : List Item) (to : ℕ) : Type 0 where
-    pub items : List Item
-    pub cut : CutExpression kind g delimiter text after at items to
-    pub alike : Alike is items
-    pub last : AlikeBefore (last_or before is) (last_or after items)
+  record CutAlike (before after : Option Token) (at : ℕ) (is : List Token) (to : ℕ) : Type 0 where
+    pub tokens : List Token
+    pub cut : CutExpression kind g delimiter text after at tokens to
+    pub alike : Alike is tokens
+    pub last : AlikeBefore (last_or before is) (last_or after tokens)
 
-  cut_alike : {before after : Option Item} {at to : ℕ} {is : List Item} → CutExpression kind f delimiter text before at is to → AlikeBefore before after → CutAlike before after at is to
-  cut_alike done b = record { items = []; cut = done; alike = empty; last = b }
+  cut_alike : {before after : Option Token} {at to : ℕ} {is : List Token} → CutExpression kind f delimiter text before at is to → AlikeBefore before after → CutAlike before after at is to
+  cut_alike done b = record { tokens = []; cut = done; alike = empty; last = b }
   cut_alike {at = at} (item e c) b =
       let h = is_alike (here_alike at b) e in
       let r = cut_alike c (there h.2) in
-      record { items = h.0 ∷ r.items; cut = item h.1 r.cut; alike = next h.2 r.alike; last = r.last }
+      record { tokens = h.0 ∷ r.tokens; cut = item h.1 r.cut; alike = next h.2 r.alike; last = r.last }
 
-  row_alike : {max_nodes opened to place : ℕ} {reason : Reason} {is js : List Item} → Alike is js → AlikeBefore (last_or None is) (last_or None js) →
-      Row kind f delimiter text max_nodes is opened to place reason → Row kind g delimiter text max_nodes js opened to place reason
+  row_alike : {max_nodes opened to place : ℕ} {reason : ExprReason} {is js : List Token} → Alike is js → AlikeBefore (last_or None is) (last_or None js) →
+      FaultRow kind f delimiter text max_nodes is opened to place reason → FaultRow kind g delimiter text max_nodes js opened to place reason
   row_alike {to = to} a b (bad e) = bad (bad_alike (here_alike to b) e)
   row_alike {to = to} a b (stray {next = n} e) =
       let h = is_alike (here_alike to b) e in
-      stray (h.1 ∙ ap (λ (j : Item). Is j n) (close_alike h.2))
+      stray (h.1 ∙ ap (λ (j : Token). Is j n) (close_alike h.2))
   row_alike {to = to} a b (unclosed e) = unclosed (ends_alike (here_alike to b) e)
   row_alike {to = to} a b (deep bs e r d) =
       let c = alternatives_alike r a in
@@ -259,10 +259,10 @@ module _ (kind : Kind) (f g : Bool) (delimiter : Option ℕ) (text : List ℕ) w
       large c.0 (ends_alike (here_alike to b) e) c.1 (omega (arith, d, s)) (omega (arith, n, k))
 
   -- a fault is one whether case is folded or not
-  pub faulty_alike : {max_nodes place : ℕ} {reason : Reason} → FaultyWith kind f delimiter text max_nodes place reason → FaultyWith kind g delimiter text max_nodes place reason
+  pub faulty_alike : {max_nodes place : ℕ} {reason : ExprReason} → FaultyWith kind f delimiter text max_nodes place reason → FaultyWith kind g delimiter text max_nodes place reason
   faulty_alike x =
       let c = cut_alike x.cut nowhere in
-      record { items = c.items; to = x.to; cut = c.cut; opened = x.opened; balanced = sym (open_alike c.alike 0) ∙ x.balanced; row = row_alike c.alike c.last x.row }
+      record { tokens = c.tokens; to = x.to; cut = c.cut; opened = x.opened; balanced = sym (open_alike c.alike 0) ∙ x.balanced; row = row_alike c.alike c.last x.row }
 
   pub fault_alike : {max_nodes : ℕ} (x : ExprFault) → FaultyWith kind f delimiter text max_nodes x.place x.reason ⊎ (x ≡ NO_MEMORY) → FaultyWith kind g delimiter text max_nodes x.place x.reason ⊎ (x ≡ NO_MEMORY)
   fault_alike x (inl h) = inl (faulty_alike h)

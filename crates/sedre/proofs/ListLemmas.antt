@@ -9,11 +9,11 @@ use Rattle.sedre.specs.declared.class.Class.{Class}
 use Rattle.sedre.specs.Sets.{class_named, has, union, no_byte}
 use Rattle.sedre.specs.declared.elements.Element.{Element}
 use Rattle.sedre.specs.declared.elements.Element.TheVariants.{Plain, Delimiter, OfClass, Equivalent, Collating, Wrong}
-use Rattle.sedre.specs.declared.types.Reason.TheVariants.{UnknownClass}
+use Rattle.sedre.specs.declared.types.ExprReason.TheVariants.{UnknownClass}
 use Rattle.std.specs.Option.{option_map_or}
 use Rattle.sedre.specs.declared.types.ExprFault.{ExprFault}
 use Rattle.sedre.specs.declared.byte_set.ByteSet.{ByteSet}
-use Rattle.sedre.specs.Brackets.{content, form, form_of, of_one, front_element, elements, elements_from, is_dash, goes_on_as_range, single, range, both, listed, judged, begins, is_delimiter, ListedBytes, list_at, list_end}
+use Rattle.sedre.specs.Brackets.{content, front_form, form_of, of_one, front_element, elements, elements_from, is_dash, goes_on_as_range, single, range, both, all_listed, judged_list, is_at_front, is_delimiter, ListedBytes, list_at, list_end}
 use Rattle.sedre.specs.ListReading.{is_range, located, members_at, elements_start, is_closing}
 
 -- the elements from a place on, and where the list ends
@@ -32,7 +32,7 @@ width_of_choice : (t : Bool) (x y : Element × ℕ) → 0 < x.1 → 0 < y.1 → 
 width_of_choice true x y hx hy = hx
 width_of_choice false x y hx hy = hy
 
-form_width : (c left : ℕ) (held : Option (List ℕ)) → 0 < left → 0 < (form c left held).1
+form_width : (c left : ℕ) (held : Option (List ℕ)) → 0 < left → 0 < (front_form c left held).1
 form_width c left None some = some
 form_width c left (Some held) some = omega arith
 
@@ -40,8 +40,8 @@ element_width : (d : Option ℕ) (b : ℕ) (bs : List ℕ) → 0 < (front_elemen
 element_width d b [] = omega arith
 element_width d b (c ∷ rest) =
     width_of_choice (b == 92 && is_delimiter d c) (Delimiter c, 2)
-    (if b == 91 && (c == 58 || c == 61 || c == 46) then form c (length rest + 2) (content c rest) else (Plain b, 1)) (omega arith)
-    (width_of_choice (b == 91 && (c == 58 || c == 61 || c == 46)) (form c (length rest + 2) (content c rest)) (Plain b, 1) (form_width c (length rest + 2) (content c rest) (omega arith)) (omega arith))
+    (if b == 91 && (c == 58 || c == 61 || c == 46) then front_form c (length rest + 2) (content c rest) else (Plain b, 1)) (omega arith)
+    (width_of_choice (b == 91 && (c == 58 || c == 61 || c == 46)) (front_form c (length rest + 2) (content c rest)) (Plain b, 1) (form_width c (length rest + 2) (content c rest) (omega arith)) (omega arith))
 
 skipped_element : (d : Option ℕ) (place width b : ℕ) (bs : List ℕ) → 0 < width → elements d false (width - 1) (place + 1) bs ≡ elements d false 0 (place + width) (drop width (b ∷ bs))
 skipped_element d place zero b bs some = absurd (omega arith)
@@ -90,7 +90,7 @@ form_of_dash c held =
     element_of_choice (c == 58) (option_map_or OfClass (class_named held) (Wrong UnknownClass)) (if c == 61 then of_one held Equivalent else of_one held Collating) (class_dash (class_named held))
     (element_of_choice (c == 61) (of_one held Equivalent) (of_one held Collating) (of_one_dash held Equivalent (λ b. refl)) (of_one_dash held Collating (λ b. refl)))
 
-form_dash : (c left : ℕ) (held : Option (List ℕ)) → is_dash (form c left held).0 ≡ false
+form_dash : (c left : ℕ) (held : Option (List ℕ)) → is_dash (front_form c left held).0 ≡ false
 form_dash c left None = refl
 form_dash c left (Some held) = form_of_dash c held
 
@@ -99,8 +99,8 @@ element_dash : (d : Option ℕ) (b : ℕ) (bs : List ℕ) → (b == 45) ≡ fals
 element_dash d b [] isnt = isnt
 element_dash d b (c ∷ rest) isnt =
     dash_of_choice (b == 92 && is_delimiter d c) (Delimiter c, 2)
-    (if b == 91 && (c == 58 || c == 61 || c == 46) then form c (length rest + 2) (content c rest) else (Plain b, 1)) refl
-    (dash_of_choice (b == 91 && (c == 58 || c == 61 || c == 46)) (form c (length rest + 2) (content c rest)) (Plain b, 1) (form_dash c (length rest + 2) (content c rest)) isnt)
+    (if b == 91 && (c == 58 || c == 61 || c == 46) then front_form c (length rest + 2) (content c rest) else (Plain b, 1)) refl
+    (dash_of_choice (b == 91 && (c == 58 || c == 61 || c == 46)) (front_form c (length rest + 2) (content c rest)) (Plain b, 1) (form_dash c (length rest + 2) (content c rest)) isnt)
 
 no_dash : (x : ℕ × Element) (rest : List (ℕ × Element)) → is_dash x.1 ≡ false → goes_on_as_range (x ∷ rest) ≡ false
 no_dash x [] isnt = refl
@@ -138,15 +138,15 @@ goes_on_as_range-elements d place (b ∷ c ∷ rest) = elim (eqb_tells b 45) [
 
 -- ---- one element, or one range, and the rest
 
-listed_single : (x : ℕ × Element) (rest : List (ℕ × Element)) → goes_on_as_range rest ≡ false → listed (x ∷ rest) ≡ both (single x) (listed rest)
+listed_single : (x : ℕ × Element) (rest : List (ℕ × Element)) → goes_on_as_range rest ≡ false → all_listed (x ∷ rest) ≡ both (single x) (all_listed rest)
 listed_single x [] isnt = refl
 listed_single x (y ∷ []) isnt = refl
 listed_single x (y ∷ z ∷ rest) isnt =
-    ap (λ (t : Bool). if t then both (range x z (goes_on_as_range rest)) (listed rest) else both (single x) (listed (y ∷ z ∷ rest))) isnt
+    ap (λ (t : Bool). if t then both (range x z (goes_on_as_range rest)) (all_listed rest) else both (single x) (all_listed (y ∷ z ∷ rest))) isnt
 
 -- the bytes read so far, with what is listed from a place on
 abbrev pub go_on : Bool → Bool → ℕ → List Bool → Elements → Result (ByteSet × ℕ) ExprFault
-go_on folded negated at set all = judged folded negated at (both (Ok set) (listed all.0)) all.1
+go_on folded negated at set all = judged_list folded negated at (both (Ok set) (all_listed all.0)) all.1
 
 or_assoc : (a b c : Bool) → (a || (b || c)) ≡ ((a || b) || c)
 or_assoc true b c = refl
@@ -166,18 +166,18 @@ abbrev pub after : Option ℕ → List ℕ → Bool → Bool → ℕ → List Bo
 after d text folded negated at set (Err f) = Err f
 after d text folded negated at set (Ok found) = go_on folded negated at (union set found.0) (elements d false 0 found.1 (drop found.1 text))
 
-joined_ok : (folded negated : Bool) (at : ℕ) (set h : List Bool) (rest : ListedBytes) (end : Option ℕ) → judged folded negated at (both (Ok set) (both (Ok h) rest)) end ≡ judged folded negated at (both (Ok (union set h)) rest) end
+joined_ok : (folded negated : Bool) (at : ℕ) (set h : List Bool) (rest : ListedBytes) (end : Option ℕ) → judged_list folded negated at (both (Ok set) (both (Ok h) rest)) end ≡ judged_list folded negated at (both (Ok (union set h)) rest) end
 joined_ok folded negated at set h (Err f) end = refl
-joined_ok folded negated at set h (Ok l) end = ap (λ s. judged folded negated at (Ok s) end) (union_assoc set h l)
+joined_ok folded negated at set h (Ok l) end = ap (λ s. judged_list folded negated at (Ok s) end) (union_assoc set h l)
 
 joined : (d : Option ℕ) (text : List ℕ) (folded negated : Bool) (at next : ℕ) (set : List Bool) (here : ListedBytes) (rest : ListedBytes) (end : Option ℕ) →
-    rest ≡ listed (elements d false 0 next (drop next text)).0 → end ≡ (elements d false 0 next (drop next text)).1 →
-    judged folded negated at (both (Ok set) (both here rest)) end ≡ after d text folded negated at set (located next here)
+    rest ≡ all_listed (elements d false 0 next (drop next text)).0 → end ≡ (elements d false 0 next (drop next text)).1 →
+    judged_list folded negated at (both (Ok set) (both here rest)) end ≡ after d text folded negated at set (located next here)
 joined d text folded negated at next set (Err f) rest end is_rest is_end = refl
 joined d text folded negated at next set (Ok h) rest end is_rest is_end =
     joined_ok folded negated at set h rest end
-    ∙ ap (λ l. judged folded negated at (both (Ok (union set h)) l) end) is_rest
-    ∙ ap (judged folded negated at (both (Ok (union set h)) (listed (elements d false 0 next (drop next text)).0))) is_end
+    ∙ ap (λ l. judged_list folded negated at (both (Ok (union set h)) l) end) is_rest
+    ∙ ap (judged_list folded negated at (both (Ok (union set h)) (all_listed (elements d false 0 next (drop next text)).0))) is_end
 
 opened_front : (d : Option ℕ) (first : Bool) (place : ℕ) (bs : List ℕ) → 0 < length bs → (get_or bs 0 0 == 93 && not first) ≡ false →
     elements d first 0 place bs ≡ OneMore place (front_element d bs).0 (elements d false 0 (place + (front_element d bs).1) (drop (front_element d bs).1 bs))
@@ -245,12 +245,12 @@ one_step d text first folded negated at place set inside isnt =
     ∙ ⊎_elim
     (λ (is : ranges ≡ true).
     ap (λ (all : Elements). go_on folded negated at set (OneMore place found.0 all)) (ranged_at d next text is)
-    ∙ ap (λ g. judged folded negated at (both (Ok set) (both (range (place, found.0) (next + 1, last.0) g) (listed rest.0))) rest.1) (goes_on_as_range-elements d end (drop end text))
-    ∙ joined d text folded negated at end set (range (place, found.0) (next + 1, last.0) on) (listed rest.0) rest.1 refl refl
+    ∙ ap (λ g. judged_list folded negated at (both (Ok set) (both (range (place, found.0) (next + 1, last.0) g) (all_listed rest.0))) rest.1) (goes_on_as_range-elements d end (drop end text))
+    ∙ joined d text folded negated at end set (range (place, found.0) (next + 1, last.0) on) (all_listed rest.0) rest.1 refl refl
     ∙ ap (λ (t : Bool). after d text folded negated at set (if t then located end (range (place, found.0) (next + 1, last.0) on) else located next (single (place, found.0)))) (sym is))
     (λ (is : ranges ≡ false).
-    ap (λ l. judged folded negated at (both (Ok set) l) more.1) (listed_single (place, found.0) more.0 (goes_on_as_range-elements d next (drop next text) ∙ is))
-    ∙ joined d text folded negated at next set (single (place, found.0)) (listed more.0) more.1 refl refl
+    ap (λ l. judged_list folded negated at (both (Ok set) l) more.1) (listed_single (place, found.0) more.0 (goes_on_as_range-elements d next (drop next text) ∙ is))
+    ∙ joined d text folded negated at next set (single (place, found.0)) (all_listed more.0) more.1 refl refl
     ∙ ap (λ (t : Bool). after d text folded negated at set (if t then located end (range (place, found.0) (next + 1, last.0) on) else located next (single (place, found.0)))) (sym is))
     (decided ranges)
 
@@ -261,7 +261,7 @@ begun_from d place bs true = refl
 begun_from d place bs false = refl
 
 begun_at : (d : Option ℕ) (place : ℕ) (bs : List ℕ) → elements_from d place bs ≡ elements d true 0 (elements_start place bs) (drop (elements_start 0 bs) bs)
-begun_at d place bs = begun_from d place bs (begins bs 94)
+begun_at d place bs = begun_from d place bs (is_at_front bs 94)
 
 start_add : (place : ℕ) (t : Bool) → place + (if t then 0 + 1 else 0) ≡ (if t then place + 1 else place)
 start_add place true = omega arith
@@ -271,7 +271,7 @@ pub begun : (d : Option ℕ) (place : ℕ) (text : List ℕ) → elements_from d
 begun d place text =
     let bytes : List ℕ = drop place text in
     begun_at d place bytes
-    ∙ ap (elements d true 0 (elements_start place bytes)) (drop-drop (elements_start 0 bytes) place text ∙ ap (λ n. drop n text) (start_add place (begins bytes 94)))
+    ∙ ap (elements d true 0 (elements_start place bytes)) (drop-drop (elements_start 0 bytes) place text ∙ ap (λ n. drop n text) (start_add place (is_at_front bytes 94)))
 
 pub union_none : (a b : List Bool) → union (union a b) no_byte ≡ union a b
 union_none a b =
@@ -295,21 +295,21 @@ none_choice : (t : Bool) (a b c d : ListedBytes) → both (Ok no_byte) (if t the
 none_choice true a b c d = none_both a b
 none_choice false a b c d = none_both c d
 
-none_listed : (els : List (ℕ × Element)) → both (Ok no_byte) (listed els) ≡ listed els
+none_listed : (els : List (ℕ × Element)) → both (Ok no_byte) (all_listed els) ≡ all_listed els
 none_listed [] = ap (λ (u : List Bool). Ok u) none_none
-none_listed (x ∷ []) = none_both (single x) (listed [])
-none_listed (x ∷ y ∷ []) = none_both (single x) (listed (y ∷ []))
-none_listed (x ∷ y ∷ z ∷ rest) = none_choice (is_dash y.1) (range x z (goes_on_as_range rest)) (listed rest) (single x) (listed (y ∷ z ∷ rest))
+none_listed (x ∷ []) = none_both (single x) (all_listed [])
+none_listed (x ∷ y ∷ []) = none_both (single x) (all_listed (y ∷ []))
+none_listed (x ∷ y ∷ z ∷ rest) = none_choice (is_dash y.1) (range x z (goes_on_as_range rest)) (all_listed rest) (single x) (all_listed (y ∷ z ∷ rest))
 
-pub list_begun : (d : Option ℕ) (text : List ℕ) (at start : ℕ) (folded negated : Bool) (set : List Bool) → negated ≡ begins (drop (at + 1) text) 94 →
+pub list_begun : (d : Option ℕ) (text : List ℕ) (at start : ℕ) (folded negated : Bool) (set : List Bool) → negated ≡ is_at_front (drop (at + 1) text) 94 →
     start ≡ elements_start (at + 1) (drop (at + 1) text) → set ≡ no_byte →
     list_at folded d text at ≡ go_on folded negated at set (elements d (start == start) 0 start (drop start text))
 unfolding list_at
 list_begun d text at start folded negated set is_neg is_start is_set =
     let bytes : List ℕ = drop (at + 1) text in
-    ap (λ (all : Elements). judged folded (begins bytes 94) at (listed all.0) all.1) (begun d (at + 1) text ∙ ap (λ n. elements d true 0 n (drop n text)) (sym is_start))
-    ∙ ap (λ t. judged folded t at (listed (elements d true 0 start (drop start text)).0) (elements d true 0 start (drop start text)).1) (sym is_neg)
-    ∙ ap (λ l. judged folded negated at l (elements d true 0 start (drop start text)).1) (sym (none_listed (elements d true 0 start (drop start text)).0))
+    ap (λ (all : Elements). judged_list folded (is_at_front bytes 94) at (all_listed all.0) all.1) (begun d (at + 1) text ∙ ap (λ n. elements d true 0 n (drop n text)) (sym is_start))
+    ∙ ap (λ t. judged_list folded t at (all_listed (elements d true 0 start (drop start text)).0) (elements d true 0 start (drop start text)).1) (sym is_neg)
+    ∙ ap (λ l. judged_list folded negated at l (elements d true 0 start (drop start text)).1) (sym (none_listed (elements d true 0 start (drop start text)).0))
     ∙ ap (λ s. go_on folded negated at s (elements d true 0 start (drop start text))) (sym is_set)
     ∙ ap (λ t. go_on folded negated at set (elements d t 0 start (drop start text))) (sym (eq-eqb start start refl))
 

@@ -1,10 +1,10 @@
--- Laws of the reader over items.
+-- Laws of the reader over tokens.
 use Rattle.std.proofs.Common.{◌≡◌, List, [], ◌∷◌, ◌++◌, refl, ap}
-use Rattle.sedre.specs.declared.syntax.Item.{Item}
+use Rattle.sedre.specs.declared.syntax.Token.{Token}
 use Rattle.sedre.specs.Tree.{Tree}
-use Rattle.sedre.specs.Stacks.{Nesting, step, run, with_last}
+use Rattle.sedre.specs.Stacks.{Nesting, step, nest_all, with_last}
 
-pub run-append : (xs ys : List Item) (s : Nesting) → run (xs ++ ys) s ≡ run ys (run xs s)
+pub run-append : (xs ys : List Token) (s : Nesting) → nest_all (xs ++ ys) s ≡ nest_all ys (nest_all xs s)
 run-append [] ys s = refl
 run-append (i ∷ xs) ys s = run-append xs ys (step i s)
 

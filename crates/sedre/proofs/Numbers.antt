@@ -1,8 +1,8 @@
 -- The groups of what is read are numbered by their openings.
 use Rattle.std.proofs.Common.{ℕ, zero, suc, ◌-◌, ◌≤◌, List, [], ◌∷◌, ◌++◌, Bool, false, Option, Some, None, arith, nat_eq}
-use Rattle.sedre.specs.declared.syntax.Item.{Item}
+use Rattle.sedre.specs.declared.syntax.Token.{Token}
 use Rattle.sedre.specs.Tree.{Tree, seq, alt, group, star, opt}
-use Rattle.sedre.specs.Grammar.{concatenation, alternation, copies, optional, further, repetition, AreAlternatives, ArePieces, IsPiece, first, another, none, more, subexpression, repeated}
+use Rattle.sedre.specs.Grammar.{concatenation, alternation, with_copies, optional, further, repetition, AreAlternatives, ArePieces, IsPiece, first, another, none, more, subexpression, repeated}
 use Rattle.sedre.specs.Finished.{GroupsNumbered}
 
 abbrev AllOf : ℕ → List Tree → Type 0
@@ -35,7 +35,7 @@ of_alternation m [] p = tt
 of_alternation m (t ∷ []) p = p.0
 of_alternation m (t ∷ u ∷ ts) p = (p.0, of_alternation m (u ∷ ts) p.1)
 
-of_copies : (m n : ℕ) (t : Tree) (ts : List Tree) → GroupsNumbered m t → AllOf m ts → AllOf m (copies n t ts)
+of_copies : (m n : ℕ) (t : Tree) (ts : List Tree) → GroupsNumbered m t → AllOf m ts → AllOf m (with_copies n t ts)
 of_copies m zero t ts p q = q
 of_copies m (suc n) t ts p q = (p, of_copies m n t ts p q)
 
@@ -48,25 +48,25 @@ of_further m zero t mark p = tt
 of_further m (suc n) t mark p = (of_optional m n t mark p, tt)
 
 of_repetition : (m least : ℕ) (most : Option ℕ) (t : Tree) → GroupsNumbered m t → GroupsNumbered m (repetition least most t)
-of_repetition m least None t p = of_concatenation m (copies least t (star t (nat_eq least 0) ∷ [])) (of_copies m least t (star t (nat_eq least 0) ∷ []) p (p, tt))
-of_repetition m least (Some most) t p = of_concatenation m (copies least t (further (most - least) t (nat_eq least 0))) (of_copies m least t (further (most - least) t (nat_eq least 0)) p (of_further m (most - least) t (nat_eq least 0) p))
+of_repetition m least None t p = of_concatenation m (with_copies least t (star t (nat_eq least 0) ∷ [])) (of_copies m least t (star t (nat_eq least 0) ∷ []) p (p, tt))
+of_repetition m least (Some most) t p = of_concatenation m (with_copies least t (further (most - least) t (nat_eq least 0))) (of_copies m least t (further (most - least) t (nat_eq least 0)) p (of_further m (most - least) t (nat_eq least 0) p))
 
 mutual
-  pub of_alternatives : {g h : ℕ} {is : List Item} {bs : List Tree} → AreAlternatives g is bs h → (g ≤ h) × AllOf h bs
+  pub of_alternatives : {g h : ℕ} {is : List Token} {bs : List Tree} → AreAlternatives g is bs h → (g ≤ h) × AllOf h bs
   of_alternatives (first {h = h} {ts = ts} p) = let r = of_pieces p in (r.0, (of_concatenation h ts r.1, tt))
   of_alternatives (another {h = h} {k = k} {bs = bs} {ts = ts} a p) =
       let q = of_alternatives a in
       let r = of_pieces p in
       (omega (arith, q.0, r.0), all_snoc k bs (concatenation ts) (all_more h k bs r.0 q.1) (of_concatenation k ts r.1))
 
-  of_pieces : {g h : ℕ} {is : List Item} {ts : List Tree} → ArePieces g is ts h → (g ≤ h) × AllOf h ts
+  of_pieces : {g h : ℕ} {is : List Token} {ts : List Tree} → ArePieces g is ts h → (g ≤ h) × AllOf h ts
   of_pieces none = (omega arith, tt)
   of_pieces (more {h = h} {k = k} {ts = ts} {t = t} p q) =
       let a = of_pieces p in
       let b = of_piece q in
       (omega (arith, a.0, b.0), all_snoc k ts t (all_more h k ts b.0 a.1) b.1)
 
-  of_piece : {g h : ℕ} {is : List Item} {t : Tree} → IsPiece g is t h → (g ≤ h) × GroupsNumbered h t
+  of_piece : {g h : ℕ} {is : List Token} {t : Tree} → IsPiece g is t h → (g ≤ h) × GroupsNumbered h t
   of_piece (subexpression {g = g} {h = h} {bs = bs} a) = let r = of_alternatives a in (omega (arith, r.0), (omega arith, omega (arith, r.0), of_alternation h bs r.1))
   of_piece (repeated {h = h} least most {t = t} q) = let r = of_piece q in (r.0, of_repetition h least most t r.1)
   of_piece _ = (omega arith, tt)

@@ -3,7 +3,7 @@ use Rattle.std.proofs.Common.{◌≡◌, ℕ, zero, suc, ◌+◌, ◌-◌, ◌<�
 use Rattle.std.specs.List.{last_or}
 use Rattle.sedre.specs.declared.types.Kind.{Kind}
 use Rattle.sedre.specs.declared.types.Kind.TheVariants.{Basic, Extended}
-use Rattle.sedre.specs.declared.types.Reason.{Reason}
+use Rattle.sedre.specs.declared.types.ExprReason.{ExprReason}
 use Rattle.sedre.specs.declared.types.ExprFault.{ExprFault}
 use Rattle.sedre.specs.declared.elements.Element.{Element}
 use Rattle.sedre.specs.declared.elements.Element.TheVariants.{Plain, Delimiter, OfClass, Equivalent, Collating, Wrong, Unclosed}
@@ -11,13 +11,13 @@ use Rattle.sedre.specs.declared.byte_set.ByteSet.{ByteSet}
 use Rattle.sedre.specs.declared.intervals.Interval.{Interval as Bounds}
 use Rattle.sedre.specs.declared.syntax.Symbol.{Symbol}
 use Rattle.sedre.specs.declared.syntax.Symbol.TheVariants.{Star, Plus, Question, Interval, BracketOpening, Caret, Dollar}
-use Rattle.sedre.specs.declared.syntax.Item.{Item}
-use Rattle.sedre.specs.declared.syntax.Item.TheVariants.{AtBegin, AtEnd}
-use Rattle.sedre.specs.declared.syntax.NextItem.{NextItem}
-use Rattle.sedre.specs.declared.syntax.NextItem.TheVariants.{Is, Ends, Bad}
-use Rattle.sedre.specs.Brackets.{elements, front_element, elements_from, begins, is_dash, goes_on_as_range, ListedBytes, single, between_ends, range_to, range, both, listed, judged, list_at}
-use Rattle.sedre.specs.Items.{front_interval, front_symbol, is_first, is_repeatable, is_repeat, ends_alternative, repeats, interval_item, list_item, star_item, question_item, anchor_item, item_for, item_at}
-use Rattle.sedre.specs.Grammar.{Row, bad, stray, FaultyWith}
+use Rattle.sedre.specs.declared.syntax.Token.{Token}
+use Rattle.sedre.specs.declared.syntax.Token.TheVariants.{AtBegin, AtEnd}
+use Rattle.sedre.specs.declared.syntax.NextToken.{NextToken}
+use Rattle.sedre.specs.declared.syntax.NextToken.TheVariants.{Is, Ends, Bad}
+use Rattle.sedre.specs.Brackets.{elements, front_element, elements_from, is_at_front, is_dash, goes_on_as_range, ListedBytes, single, between_ends, range_to, range, both, all_listed, judged_list, list_at}
+use Rattle.sedre.specs.Tokens.{front_interval, front_symbol, is_leading, is_repeatable, is_repeat, ends_alternative, repeats, interval_token, list_token, star_item, question_item, anchor_item, token_for, token_at}
+use Rattle.sedre.specs.Grammar.{FaultRow, bad, stray, FaultyWith}
 
 -- the elements of a list stand up to a place
 abbrev StandUpTo : ℕ → List (ℕ × Element) → Type 0
@@ -80,18 +80,18 @@ range_told n (place, Collating b) last on h g = range_to_told n place (Some b) l
 range_told n (place, Wrong reason) last on h g = h
 range_told n (place, Unclosed) last on h g = tt
 
-listed_told : (n : ℕ) (xs : List (ℕ × Element)) → StandUpTo n xs → ToldUpTo n (listed xs)
+listed_told : (n : ℕ) (xs : List (ℕ × Element)) → StandUpTo n xs → ToldUpTo n (all_listed xs)
 listed_told n [] h = tt
-listed_told n (x ∷ []) h = both_told n (single x) (listed []) (single_told n x h.0) tt
-listed_told n (x ∷ y ∷ []) h = both_told n (single x) (listed (y ∷ [])) (single_told n x h.0) (listed_told n (y ∷ []) h.1)
+listed_told n (x ∷ []) h = both_told n (single x) (all_listed []) (single_told n x h.0) tt
+listed_told n (x ∷ y ∷ []) h = both_told n (single x) (all_listed (y ∷ [])) (single_told n x h.0) (listed_told n (y ∷ []) h.1)
 listed_told n (x ∷ y ∷ z ∷ rest) h =
     let later : StandUpTo n (y ∷ z ∷ rest) = h.1 in
     let last : StandUpTo n (z ∷ rest) = later.1 in
     told_if n (is_dash y.1) _ _
-    (both_told n (range x z (goes_on_as_range rest)) (listed rest) (range_told n x z (goes_on_as_range rest) h.0 last.0) (listed_told n rest last.1))
-    (both_told n (single x) (listed (y ∷ z ∷ rest)) (single_told n x h.0) (listed_told n (y ∷ z ∷ rest) later))
+    (both_told n (range x z (goes_on_as_range rest)) (all_listed rest) (range_told n x z (goes_on_as_range rest) h.0 last.0) (listed_told n rest last.1))
+    (both_told n (single x) (all_listed (y ∷ z ∷ rest)) (single_told n x h.0) (listed_told n (y ∷ z ∷ rest) later))
 
-judged_told : (n : ℕ) (folded negated : Bool) (at : ℕ) (r : ListedBytes) (end : Option ℕ) → at ≤ n → ToldUpTo n r → ToldUpTo n (judged folded negated at r end)
+judged_told : (n : ℕ) (folded negated : Bool) (at : ℕ) (r : ListedBytes) (end : Option ℕ) → at ≤ n → ToldUpTo n r → ToldUpTo n (judged_list folded negated at r end)
 judged_told n folded negated at (Err f) end le h = h
 judged_told n folded negated at (Ok x) None le h = le
 judged_told n folded negated at (Ok x) (Some next) le h = tt
@@ -101,24 +101,24 @@ unfolding list_at
 list_told folded delimiter text at inside =
     let bytes = drop (at + 1) text in
     let found = elements_from delimiter (at + 1) bytes in
-    judged_told (length text) folded (begins bytes 94) at (listed found.0) found.1 (omega (arith, inside))
+    judged_told (length text) folded (is_at_front bytes 94) at (all_listed found.0) found.1 (omega (arith, inside))
     (listed_told (length text) found.0 (from_up_to delimiter (length text) (at + 1) bytes (omega (arith, inside, length-drop (at + 1) text))))
 
 -- what stands at a place up to this one, or is told there
-abbrev HereUpTo : (n at : ℕ) → NextItem → Type 0
+abbrev HereUpTo : (n at : ℕ) → NextToken → Type 0
 HereUpTo n at (Is i next) = at ≤ n
 HereUpTo n at (Bad f) = f.place ≤ n
 HereUpTo n at Ends = Unit {0}
 
-repeats_here : (n at : ℕ) (may : Bool) (repeat : NextItem) → at ≤ n → HereUpTo n at repeat → HereUpTo n at (repeats may at repeat)
+repeats_here : (n at : ℕ) (may : Bool) (repeat : NextToken) → at ≤ n → HereUpTo n at repeat → HereUpTo n at (repeats may at repeat)
 repeats_here n at true repeat le h = h
 repeats_here n at false repeat le h = le
 
-interval_here : (n at next : ℕ) (o : Option Bounds) → at ≤ n → HereUpTo n at (interval_item o at next)
+interval_here : (n at next : ℕ) (o : Option Bounds) → at ≤ n → HereUpTo n at (interval_token o at next)
 interval_here n at next None le = le
 interval_here n at next (Some i) le = le
 
-list_here : (n at : ℕ) (r : Result (ByteSet × ℕ) ExprFault) → at ≤ n → ToldUpTo n r → HereUpTo n at (list_item r)
+list_here : (n at : ℕ) (r : Result (ByteSet × ℕ) ExprFault) → at ≤ n → ToldUpTo n r → HereUpTo n at (list_token r)
 list_here n at (Ok (members, next)) le h = le
 list_here n at (Err f) le h = h
 
@@ -131,13 +131,13 @@ question_here : (n at next : ℕ) (kind : Kind) (may repeated : Bool) → at ≤
 question_here n at next Basic may repeated le = repeats_here n at may _ le le
 question_here n at next Extended may repeated le = repeats_here n at (may && not repeated) _ le le
 
-anchor_here : (n at next : ℕ) (kind : Kind) (stands : Bool) (b : ℕ) (anchor : Item) → at ≤ n → HereUpTo n at (anchor_item kind stands b anchor next)
+anchor_here : (n at next : ℕ) (kind : Kind) (stands : Bool) (b : ℕ) (anchor : Token) → at ≤ n → HereUpTo n at (anchor_item kind stands b anchor next)
 anchor_here n at next Basic true b anchor le = le
 anchor_here n at next Basic false b anchor le = le
 anchor_here n at next Extended stands b anchor le = le
 
 module _ (kind : Kind) (folded : Bool) (delimiter : Option ℕ) (text : List ℕ) where
-  symbol_here : (before : Option Item) (at : ℕ) (s : Option (Symbol × ℕ)) → at < length text → HereUpTo (length text) at (item_for kind folded delimiter text before at s)
+  symbol_here : (before : Option Token) (at : ℕ) (s : Option (Symbol × ℕ)) → at < length text → HereUpTo (length text) at (token_for kind folded delimiter text before at s)
   symbol_here before at None inside = tt
   symbol_here before at (Some (Star, n)) inside = star_here (length text) at (at + n) kind (is_repeatable before) (omega (arith, inside))
   symbol_here before at (Some (Plus, n)) inside = repeats_here (length text) at (is_repeatable before) _ (omega (arith, inside)) (omega (arith, inside))
@@ -146,24 +146,24 @@ module _ (kind : Kind) (folded : Bool) (delimiter : Option ℕ) (text : List ℕ
       repeats_here (length text) at (is_repeatable before) _ (omega (arith, inside))
       (interval_here (length text) at (at + n) (front_interval kind delimiter (drop (at + n) text)) (omega (arith, inside)))
   symbol_here before at (Some (BracketOpening, n)) inside = list_here (length text) at (list_at folded delimiter text at) (omega (arith, inside)) (list_told folded delimiter text at inside)
-  symbol_here before at (Some (Caret, n)) inside = anchor_here (length text) at (at + n) kind (is_first before) 94 AtBegin (omega (arith, inside))
+  symbol_here before at (Some (Caret, n)) inside = anchor_here (length text) at (at + n) kind (is_leading before) 94 AtBegin (omega (arith, inside))
   symbol_here before at (Some (Dollar, n)) inside =
       anchor_here (length text) at (at + n) kind (ends_alternative (front_symbol kind delimiter (drop (at + n) text))) 36 AtEnd (omega (arith, inside))
   symbol_here before at _ inside = omega (arith, inside)
 
-  rest_here : (before : Option Item) (at : ℕ) (bs : List ℕ) → drop at text ≡ bs → HereUpTo (length text) at (item_for kind folded delimiter text before at (front_symbol kind delimiter bs))
+  rest_here : (before : Option Token) (at : ℕ) (bs : List ℕ) → drop at text ≡ bs → HereUpTo (length text) at (token_for kind folded delimiter text before at (front_symbol kind delimiter bs))
   rest_here before at [] e = tt
   rest_here before at (b ∷ bs) e = symbol_here before at (front_symbol kind delimiter (b ∷ bs)) (omega (arith, length-drop at text, ap length e))
 
-  item_here : (before : Option Item) (at : ℕ) → HereUpTo (length text) at (item_at kind folded delimiter text before at)
-  unfolding item_at
+  item_here : (before : Option Token) (at : ℕ) → HereUpTo (length text) at (token_at kind folded delimiter text before at)
+  unfolding token_at
   item_here before at = rest_here before at (drop at text) refl
 
-  row_within : (max_nodes : ℕ) {is : List Item} {opened to place : ℕ} {reason : Reason} → Row kind folded delimiter text max_nodes is opened to place reason → place ≤ length text
+  row_within : (max_nodes : ℕ) {is : List Token} {opened to place : ℕ} {reason : ExprReason} → FaultRow kind folded delimiter text max_nodes is opened to place reason → place ≤ length text
   row_within max_nodes (bad {is = is} {to = to} e) = subst (HereUpTo (length text) to) e (item_here (last_or None is) to)
   row_within max_nodes (stray {is = is} {to = to} e) = subst (HereUpTo (length text) to) e (item_here (last_or None is) to)
   row_within max_nodes _ = omega arith
 
   -- the first fault of a text is told in it or at its end
-  pub fault_within : (max_nodes : ℕ) {place : ℕ} {reason : Reason} → FaultyWith kind folded delimiter text max_nodes place reason → place ≤ length text
+  pub fault_within : (max_nodes : ℕ) {place : ℕ} {reason : ExprReason} → FaultyWith kind folded delimiter text max_nodes place reason → place ≤ length text
   fault_within max_nodes f = row_within max_nodes f.row

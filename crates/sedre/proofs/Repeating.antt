@@ -8,22 +8,22 @@ use Rattle.sedre.specs.declared.types.Kind.TheVariants.{Basic, Extended}
 use Rattle.sedre.specs.declared.types.ExprFault.{ExprFault}
 use Rattle.sedre.specs.declared.byte_set.ByteSet.{ByteSet}
 use Rattle.sedre.specs.declared.intervals.Interval.{Interval as Bounds}
-use Rattle.sedre.specs.declared.syntax.NextItem.{NextItem}
-use Rattle.sedre.specs.declared.syntax.NextItem.TheVariants.{Is, Ends, Bad}
+use Rattle.sedre.specs.declared.syntax.NextToken.{NextToken}
+use Rattle.sedre.specs.declared.syntax.NextToken.TheVariants.{Is, Ends, Bad}
 use Rattle.sedre.specs.declared.syntax.Symbol.{Symbol}
 use Rattle.sedre.specs.declared.syntax.Symbol.TheVariants.{Star, Plus, Question, Interval, BracketOpening, Caret, Dollar}
-use Rattle.sedre.specs.declared.syntax.Item.{Item}
-use Rattle.sedre.specs.declared.syntax.Item.TheVariants.{Repeat, AtBegin, AtEnd}
+use Rattle.sedre.specs.declared.syntax.Token.{Token}
+use Rattle.sedre.specs.declared.syntax.Token.TheVariants.{Repeat, AtBegin, AtEnd}
 use Rattle.sedre.specs.Stacks.{IsInterval}
-use Rattle.sedre.specs.Brackets.{begins, list_at}
-use Rattle.sedre.specs.Items.{front_symbol, numeral, closes, limit, after_least, front_interval, item_at, item_for, is_repeatable, is_repeat, is_first, ends_alternative, repeats, interval_item, list_item, star_item, question_item, anchor_item}
+use Rattle.sedre.specs.Brackets.{is_at_front, list_at}
+use Rattle.sedre.specs.Tokens.{front_symbol, numeral, closes, limit, after_least, front_interval, token_at, token_for, is_repeatable, is_repeat, is_leading, ends_alternative, repeats, interval_token, list_token, star_item, question_item, anchor_item}
 
 -- a repetition stands where one may, with bounds in order
-abbrev pub FineItem : Bool → Item → Type 0
+abbrev pub FineItem : Bool → Token → Type 0
 FineItem may (Repeat least most) = (may ≡ true) × IsInterval least most
 FineItem may _ = Unit {0}
 
-abbrev pub Fine : Bool → NextItem → Type 0
+abbrev pub Fine : Bool → NextToken → Type 0
 Fine may (Is i next) = FineItem may i
 Fine may Ends = Unit {0}
 Fine may (Bad f) = Unit {0}
@@ -52,18 +52,18 @@ fine_least : (kind : Kind) (delimiter : Option ℕ) (front : List ℕ) (o : Opti
 fine_least kind delimiter front None = tt
 fine_least kind delimiter front (Some (least, digits)) =
     by_test (closes kind delimiter (drop digits front)) _ _ (λ h. omega arith)
-    (by_test (begins (drop digits front) 44) _ _ (λ h. fine_limit kind delimiter least digits (drop 1 (drop digits front)) (numeral (drop 1 (drop digits front)))) tt)
+    (by_test (is_at_front (drop digits front) 44) _ _ (λ h. fine_limit kind delimiter least digits (drop 1 (drop digits front)) (numeral (drop 1 (drop digits front)))) tt)
 
 fine_interval : (kind : Kind) (delimiter : Option ℕ) (front : List ℕ) → FineBounds (front_interval kind delimiter front)
 unfolding front_interval
 fine_interval kind delimiter front = fine_least kind delimiter front (numeral front)
 
-fine_interval_item : (may : Bool) (o : Option Bounds) (at next : ℕ) → FineBounds o → Fine may (repeats may at (interval_item o at next))
+fine_interval_item : (may : Bool) (o : Option Bounds) (at next : ℕ) → FineBounds o → Fine may (repeats may at (interval_token o at next))
 fine_interval_item true None at next h = tt
 fine_interval_item true (Some i) at next h = (refl, h)
 fine_interval_item false o at next h = tt
 
-fine_list : (may : Bool) (r : Result (ByteSet × ℕ) ExprFault) → Fine may (list_item r)
+fine_list : (may : Bool) (r : Result (ByteSet × ℕ) ExprFault) → Fine may (list_token r)
 fine_list may (Ok (members, next)) = tt
 fine_list may (Err f) = tt
 
@@ -84,25 +84,25 @@ fine_plus : (may : Bool) (at next : ℕ) → Fine may (repeats may at (Is (Repea
 fine_plus true at next = (refl, tt)
 fine_plus false at next = tt
 
-fine_anchor : (kind : Kind) (may stands : Bool) (b : ℕ) (anchor : Item) (next : ℕ) → FineItem may anchor → Fine may (anchor_item kind stands b anchor next)
+fine_anchor : (kind : Kind) (may stands : Bool) (b : ℕ) (anchor : Token) (next : ℕ) → FineItem may anchor → Fine may (anchor_item kind stands b anchor next)
 fine_anchor Basic may true b anchor next h = h
 fine_anchor Basic may false b anchor next h = tt
 fine_anchor Extended may stands b anchor next h = h
 
-fine_for : (kind : Kind) (folded : Bool) (delimiter : Option ℕ) (text : List ℕ) (before : Option Item) (at : ℕ) (o : Option (Symbol × ℕ)) → Fine (is_repeatable before) (item_for kind folded delimiter text before at o)
+fine_for : (kind : Kind) (folded : Bool) (delimiter : Option ℕ) (text : List ℕ) (before : Option Token) (at : ℕ) (o : Option (Symbol × ℕ)) → Fine (is_repeatable before) (token_for kind folded delimiter text before at o)
 fine_for kind folded delimiter text before at (Some (Star, n)) = fine_star kind (is_repeatable before) at (at + n)
 fine_for kind folded delimiter text before at (Some (Plus, n)) = fine_plus (is_repeatable before) at (at + n)
 fine_for kind folded delimiter text before at (Some (Question, n)) = fine_question kind (is_repeatable before) (is_repeat before) at (at + n)
 fine_for kind folded delimiter text before at (Some (Interval, n)) = fine_interval_item (is_repeatable before) (front_interval kind delimiter (drop (at + n) text)) at (at + n) (fine_interval kind delimiter (drop (at + n) text))
 fine_for kind folded delimiter text before at (Some (BracketOpening, n)) = fine_list (is_repeatable before) (list_at folded delimiter text at)
-fine_for kind folded delimiter text before at (Some (Caret, n)) = fine_anchor kind (is_repeatable before) (is_first before) 94 AtBegin (at + n) tt
+fine_for kind folded delimiter text before at (Some (Caret, n)) = fine_anchor kind (is_repeatable before) (is_leading before) 94 AtBegin (at + n) tt
 fine_for kind folded delimiter text before at (Some (Dollar, n)) = fine_anchor kind (is_repeatable before) (ends_alternative (front_symbol kind delimiter (drop (at + n) text))) 36 AtEnd (at + n) tt
 fine_for kind folded delimiter text before at _ = tt
 
-fine_at : (kind : Kind) (folded : Bool) (delimiter : Option ℕ) (text : List ℕ) (before : Option Item) (at : ℕ) → Fine (is_repeatable before) (item_at kind folded delimiter text before at)
-unfolding item_at
+fine_at : (kind : Kind) (folded : Bool) (delimiter : Option ℕ) (text : List ℕ) (before : Option Token) (at : ℕ) → Fine (is_repeatable before) (token_at kind folded delimiter text before at)
+unfolding token_at
 fine_at kind folded delimiter text before at = fine_for kind folded delimiter text before at (front_symbol kind delimiter (drop at text))
 
-pub repeat_follows : (kind : Kind) (folded : Bool) (delimiter : Option ℕ) (text : List ℕ) (before : Option Item) (at : ℕ) {least next : ℕ} {most : Option ℕ} →
-    item_at kind folded delimiter text before at ≡ Is (Repeat least most) next → (is_repeatable before ≡ true) × IsInterval least most
-repeat_follows kind folded delimiter text before at h = subst (λ (x : NextItem). Fine (is_repeatable before) x) h (fine_at kind folded delimiter text before at)
+pub repeat_follows : (kind : Kind) (folded : Bool) (delimiter : Option ℕ) (text : List ℕ) (before : Option Token) (at : ℕ) {least next : ℕ} {most : Option ℕ} →
+    token_at kind folded delimiter text before at ≡ Is (Repeat least most) next → (is_repeatable before ≡ true) × IsInterval least most
+repeat_follows kind folded delimiter text before at h = subst (λ (x : NextToken). Fine (is_repeatable before) x) h (fine_at kind folded delimiter text before at)

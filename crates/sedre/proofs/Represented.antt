@@ -1,12 +1,12 @@
--- One item more on the reader's stack.
+-- One token more on the reader's stack.
 use Rattle.std.proofs.Common.{◌≡◌, ◌≢◌, ℕ, suc, ◌+◌, ◌<◌, ◌≤◌, length, List, [], ◌∷◌, ◌++◌, refl, ap, subst, ◌∙◌, sym, append_assoc, append-nil, arith, length-append, Option, add-one}
 use Rattle.sedre.specs.declared.parts.Mark.{Mark}
 use Rattle.sedre.specs.declared.stack.Stack.{Stack}
 use Rattle.sedre.specs.declared.builder.Builder.{Builder}
-use Rattle.sedre.specs.declared.syntax.Item.TheVariants.{Open, Close, Bar, Repeat}
+use Rattle.sedre.specs.declared.syntax.Token.TheVariants.{Open, Close, Bar, Repeat}
 use Rattle.sedre.specs.Tree.{Tree, group}
 use Rattle.sedre.specs.Grammar.{concatenation, alternation, repetition}
-use Rattle.sedre.specs.Stacks.{Level, Nesting, step, close, with_piece, with_last, whole_level, Stored, trees_in, mark_of, marks_of, Represents}
+use Rattle.sedre.specs.Stacks.{Level, Nesting, step, close, with_piece, with_last, whole_level, Stored, trees_in, mark_of, marks_of_levels, Represents}
 use Rattle.sedre.proofs.Written.{snoc_last, split_last}
 use Rattle.sedre.proofs.Stacked.{count_of}
 use Rattle.sedre.proofs.Machine.{with_last-append}
@@ -52,7 +52,7 @@ module _ (limit : ℕ) where
         stored = subst S (sym (append-nil ts)) (subst T (sym es) r.stored);
         opened = eo ∙ ap (λ (x : ℕ). x + 1) r.opened ∙ add-one s.opened;
         top = marks;
-        below = eb ∙ ap (λ (x : List Mark). x ++ b.top ∷ []) r.below ∙ ap (λ (x : Mark). marks_of s.below ++ x ∷ []) r.top;
+        below = eb ∙ ap (λ (x : List Mark). x ++ b.top ∷ []) r.below ∙ ap (λ (x : Mark). marks_of_levels s.below ++ x ∷ []) r.top;
       }
 
   -- what a concatenation of the pieces does
@@ -77,7 +77,7 @@ module _ (limit : ℕ) where
       }
 
   represents_close_levels : (b c : Builder) (opened : ℕ) (top : Level) (below : List Level) (s₁ s₂ : Stack) → Stored limit b.stack (trees_in (top ∷ below)) →
-      b.opened ≡ opened → b.top ≡ mark_of top below → b.below.items ≡ marks_of below →
+      b.opened ≡ opened → b.top ≡ mark_of top below → b.below.items ≡ marks_of_levels below →
       ((m : ℕ) (ts ps : List Tree) → length ts ≡ b.top.pieces → Stored m b.stack (ts ++ ps) → Stored m s₁ (ts ++ concatenation ps ∷ [])) →
       ((m : ℕ) (ts ps : List Tree) → length ts ≡ b.top.alternatives → Stored m s₁ (ts ++ ps) → Stored m s₂ (ts ++ alternation ps ∷ [])) →
       ((m : ℕ) (ts : List Tree) (a : Tree) → Stored m s₂ (ts ++ a ∷ []) → Stored m c.stack (ts ++ group b.top.number a ∷ [])) →
@@ -97,7 +97,7 @@ module _ (limit : ℕ) where
       let st₂ : Stored limit s₂ (A ++ inner ∷ []) = g limit A (B ++ one) (sym (ap (λ (m : Mark). m.alternatives) t)) (subst T (append_assoc A B one) st₁) in
       let number : b.top.number ≡ top.number = ap (λ (m : Mark). m.number) t in
       let st₃ : U (group top.number inner) = subst (λ (x : ℕ). U (group x inner)) number (h limit A inner st₂) in
-      let marks = snoc_last c.below.items (marks_of ks) c.top (mark_of k ks) (sym eb ∙ l) in
+      let marks = snoc_last c.below.items (marks_of_levels ks) c.top (mark_of k ks) (sym eb ∙ l) in
       record {
         stored = subst V (sym (trees_snoc (trees_in ks) k.alternatives k.pieces (group top.number inner))) st₃;
         opened = eo ∙ o;
@@ -145,9 +145,9 @@ module _ (limit : ℕ) where
   represents_some b s ne r =
       omega (arith, not_nil s.top.pieces ne, count_of r.stored, length-append (trees_in s.below) (s.top.alternatives ++ s.top.pieces), length-append s.top.alternatives s.top.pieces)
 
-  length-marks : (ls : List Level) → length (marks_of ls) ≡ length ls
+  length-marks : (ls : List Level) → length (marks_of_levels ls) ≡ length ls
   length-marks [] = refl
-  length-marks (l ∷ ls) = omega (arith, length-append (marks_of ls) (mark_of l ls ∷ []), length-marks ls)
+  length-marks (l ∷ ls) = omega (arith, length-append (marks_of_levels ls) (mark_of l ls ∷ []), length-marks ls)
 
   pub represents_count : (b : Builder) (s : Nesting) → Represents limit b s → length b.below.items ≡ length s.below
   represents_count b s r = ap length r.below ∙ length-marks s.below

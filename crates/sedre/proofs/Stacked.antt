@@ -13,7 +13,7 @@ use Rattle.sedre.specs.Covers.{cover_node}
 use Rattle.sedre.specs.Packed.{id, PartsBelow, shifted}
 use Rattle.sedre.specs.Tree.{Tree, empty, seq, alt, size}
 use Rattle.sedre.specs.Grammar.{depth, without_alternation, concatenation}
-use Rattle.sedre.specs.Stacks.{postorder, written, total, fitting, part_of, parts_of, last_end, IsLeaf, Puts, Stored, pair, chain, covered}
+use Rattle.sedre.specs.Stacks.{postorder, written_trees, total, fitting, extent_kept, extents_kept, last_end, IsLeaf, PutsTree, Stored, pair, chain, covered}
 use Rattle.sedre.proofs.Written.{size_positive, length-postorder, length-written, written-append_0, total-append, snoc_last, split_last}
 use Rattle.sedre.proofs.Copied.{postorder-shifted}
 use Rattle.std.proofs.Math.Seq.{drop-append_seam as drop-append}
@@ -24,9 +24,9 @@ on_ok_map (Ok u) P Q f p = f p
 on_ok_map (Err x) P Q f p = tt
 
 -- a node was put over the last trees
-put_over : (limit : ℕ) (ts us : List Tree) (t : Tree) (ns : List Node) (ps : List TreeExtent) (new : Stack) (n : Node) (ends d i : ℕ) → Puts limit ns ps new n ends d i →
-    ns ≡ written 0 (fitting limit 0 (ts ++ us)) → ps ≡ parts_of limit 0 ts → ends ≡ min (total ts + total us) limit → size t ≡ 1 + total us →
-    (total ts + size t < limit → PartsBelow (total ts + total us) n × (postorder (total ts) t ≡ written (total ts) us ++ n ∷ [])) →
+put_over : (limit : ℕ) (ts us : List Tree) (t : Tree) (ns : List Node) (ps : List TreeExtent) (new : Stack) (n : Node) (ends d i : ℕ) → PutsTree limit ns ps new n ends d i →
+    ns ≡ written_trees 0 (fitting limit 0 (ts ++ us)) → ps ≡ extents_kept limit 0 ts → ends ≡ min (total ts + total us) limit → size t ≡ 1 + total us →
+    (total ts + size t < limit → PartsBelow (total ts + total us) n × (postorder (total ts) t ≡ written_trees (total ts) us ++ n ∷ [])) →
     d ≡ min 601 (depth t) → i ≡ min 601 (without_alternation t (depth t)) → Stored limit new (ts ++ t ∷ [])
 put_over limit ts us t ns ps new n ends d i p is parts here sized spelled ed ei = record {
   limit_is = p.limit_is;
@@ -36,17 +36,17 @@ put_over limit ts us t ns ps new n ends d i p is parts here sized spelled ed ei 
 
 -- the last part is that of the last tree
 pub last_part : (limit : ℕ) (s : Stack) (ts : List Tree) (a : Tree) (ps : List TreeExtent) (p : TreeExtent) → Stored limit s (ts ++ a ∷ []) → s.parts.items ≡ ps ++ p ∷ [] →
-    (ps ≡ parts_of limit 0 ts) × (p ≡ part_of limit (total ts + size a) a)
-last_part limit s ts a ps p st e = snoc_last ps (parts_of limit 0 ts) p (part_of limit (total ts + size a) a) (sym e ∙ st.parts_are ∙ parts-append_0 limit ts (a ∷ []))
+    (ps ≡ extents_kept limit 0 ts) × (p ≡ extent_kept limit (total ts + size a) a)
+last_part limit s ts a ps p st e = snoc_last ps (extents_kept limit 0 ts) p (extent_kept limit (total ts + size a) a) (sym e ∙ st.parts_are ∙ parts-append_0 limit ts (a ∷ []))
 
 same_id : (i : NodeId) (n : ℕ) → i.index ≡ n → i ≡ id n
 same_id i n e = ap id e
 
 pub stored_leaf : (limit : ℕ) (old new : Stack) (ts : List Tree) (t : Tree) (n : Node) (ends : ℕ) → IsLeaf n t → Stored limit old ts → ends ≡ last_end old.parts.items →
-    Puts old.limit old.nodes old.parts.items new n ends 0 0 → Stored limit new (ts ++ t ∷ [])
+    PutsTree old.limit old.nodes old.parts.items new n ends 0 0 → Stored limit new (ts ++ t ∷ [])
 stored_leaf limit old new ts t n ends leaf s here p =
-    let P : ℕ → Type 0 = λ m. Puts m old.nodes old.parts.items new n ends 0 0 in
-    let W : List Tree → Type 0 = λ x. old.nodes ≡ written 0 (fitting limit 0 x) in
+    let P : ℕ → Type 0 = λ m. PutsTree m old.nodes old.parts.items new n ends 0 0 in
+    let W : List Tree → Type 0 = λ x. old.nodes ≡ written_trees 0 (fitting limit 0 x) in
     put_over limit ts [] t old.nodes old.parts.items new n ends 0 0 (subst P s.limit_is p) (subst W (sym (append-nil ts)) s.nodes_are) s.parts_are
     (let e : ends ≡ min (total ts) limit = here ∙ ap last_end s.parts_are ∙ last_end-parts limit ts in omega (arith, e)) (omega (arith, leaf.1))
     (λ h. (leaf.4 (total ts + 0), leaf.0 (total ts))) (omega (arith, leaf.2)) (omega (arith, leaf.3))
@@ -72,10 +72,10 @@ cover_below (cover.Group n) i k h = h
 cover_below _ i k h = h
 
 pub stored_cover : (c : Cover) (limit : ℕ) (old new : Stack) (ts : List Tree) (a : Tree) (ps : List TreeExtent) (p : TreeExtent) (root : NodeId) (made : Node) (d : ℕ) → Stored limit old (ts ++ a ∷ []) → old.parts.items ≡ ps ++ p ∷ [] →
-    root.index ≡ p.end - 1 → made ≡ cover_node c root → d ≡ min 600 p.depth + 1 → Puts old.limit old.nodes ps new made p.end d d → Stored limit new (ts ++ covered c a ∷ [])
+    root.index ≡ p.end - 1 → made ≡ cover_node c root → d ≡ min 600 p.depth + 1 → PutsTree old.limit old.nodes ps new made p.end d d → Stored limit new (ts ++ covered c a ∷ [])
 stored_cover c limit old new ts a ps p root made d s e er em ed put =
     let last = last_part limit old ts a ps p s e in
-    let P : ℕ → Type 0 = λ m. Puts m old.nodes ps new made p.end d d in
+    let P : ℕ → Type 0 = λ m. PutsTree m old.nodes ps new made p.end d d in
     let ends : p.end ≡ min (total ts + size a) limit = ap (λ (x : TreeExtent). x.end) last.1 in
     let deep : p.depth ≡ min 601 (depth a) = ap (λ (x : TreeExtent). x.depth) last.1 in
     let pos : 0 < size a = size_positive a in
@@ -89,12 +89,12 @@ stored_cover c limit old new ts a ps p root made d s e er em ed put =
 
 -- the last two parts are those of the last two trees
 last_two : (limit : ℕ) (s : Stack) (ts : List Tree) (a b : Tree) (p1 p0 : List TreeExtent) (p q : TreeExtent) → Stored limit s (ts ++ a ∷ b ∷ []) → s.parts.items ≡ p1 ++ q ∷ [] → p1 ≡ p0 ++ p ∷ [] →
-    (p0 ≡ parts_of limit 0 ts) × (p ≡ part_of limit (total ts + size a) a) × (q ≡ part_of limit (total ts + size a + size b) b)
+    (p0 ≡ extents_kept limit 0 ts) × (p ≡ extent_kept limit (total ts + size a) a) × (q ≡ extent_kept limit (total ts + size a + size b) b)
 last_two limit s ts a b p1 p0 p q st e1 e0 =
-    let all : s.parts.items ≡ (parts_of limit 0 ts ++ part_of limit (total ts + size a) a ∷ []) ++ part_of limit (total ts + size a + size b) b ∷ [] =
-    st.parts_are ∙ parts-append_0 limit ts (a ∷ b ∷ []) ∙ sym (append_assoc (parts_of limit 0 ts) (part_of limit (total ts + size a) a ∷ []) (part_of limit (total ts + size a + size b) b ∷ [])) in
-    let second = snoc_last p1 (parts_of limit 0 ts ++ part_of limit (total ts + size a) a ∷ []) q (part_of limit (total ts + size a + size b) b) (sym e1 ∙ all) in
-    let first = snoc_last p0 (parts_of limit 0 ts) p (part_of limit (total ts + size a) a) (sym e0 ∙ second.0) in
+    let all : s.parts.items ≡ (extents_kept limit 0 ts ++ extent_kept limit (total ts + size a) a ∷ []) ++ extent_kept limit (total ts + size a + size b) b ∷ [] =
+    st.parts_are ∙ parts-append_0 limit ts (a ∷ b ∷ []) ∙ sym (append_assoc (extents_kept limit 0 ts) (extent_kept limit (total ts + size a) a ∷ []) (extent_kept limit (total ts + size a + size b) b ∷ [])) in
+    let second = snoc_last p1 (extents_kept limit 0 ts ++ extent_kept limit (total ts + size a) a ∷ []) q (extent_kept limit (total ts + size a + size b) b) (sym e1 ∙ all) in
+    let first = snoc_last p0 (extents_kept limit 0 ts) p (extent_kept limit (total ts + size a) a) (sym e0 ∙ second.0) in
     (first.0, first.1, second.1)
 
 -- two trees under a node
@@ -102,11 +102,11 @@ two_over : (over : Tree → Tree → Tree) (make : NodeId → NodeId → Node) �
     ((base : ℕ) (a b : Tree) → postorder base (over a b) ≡ (postorder base a ++ postorder (base + size a) b) ++ make (id (base + size a - 1)) (id (base + size a + size b - 1)) ∷ []) →
     ((a b : Tree) → size (over a b) ≡ 1 + size a + size b) → ((i j : NodeId) (k : ℕ) → i.index < k → j.index < k → PartsBelow k (make i j)) →
     (limit : ℕ) (old new : Stack) (ts : List Tree) (a b : Tree) (p1 p0 : List TreeExtent) (p q : TreeExtent) (left right : NodeId) (d i : ℕ) → Stored limit old (ts ++ a ∷ b ∷ []) → old.parts.items ≡ p1 ++ q ∷ [] → p1 ≡ p0 ++ p ∷ [] →
-    left.index ≡ p.end - 1 → right.index ≡ q.end - 1 → d ≡ min 601 (depth (over a b)) → i ≡ min 601 (without_alternation (over a b) (depth (over a b))) → Puts old.limit old.nodes p0 new (make left right) q.end d i →
+    left.index ≡ p.end - 1 → right.index ≡ q.end - 1 → d ≡ min 601 (depth (over a b)) → i ≡ min 601 (without_alternation (over a b) (depth (over a b))) → PutsTree old.limit old.nodes p0 new (make left right) q.end d i →
     Stored limit new (ts ++ over a b ∷ [])
 two_over over make spelled sized below limit old new ts a b p1 p0 p q left right d i s e1 e0 el er ed ei put =
     let last = last_two limit old ts a b p1 p0 p q s e1 e0 in
-    let P : ℕ → Type 0 = λ m. Puts m old.nodes p0 new (make left right) q.end d i in
+    let P : ℕ → Type 0 = λ m. PutsTree m old.nodes p0 new (make left right) q.end d i in
     let p_ends : p.end ≡ min (total ts + size a) limit = ap (λ (x : TreeExtent). x.end) last.1 in
     let q_ends : q.end ≡ min (total ts + size a + size b) limit = ap (λ (x : TreeExtent). x.end) last.2 in
     let pa : 0 < size a = size_positive a in
@@ -123,7 +123,7 @@ two_over over make spelled sized below limit old new ts a b p1 p0 p q left right
     ed ei
 
 pub stored_alt : (limit : ℕ) (old new : Stack) (ts : List Tree) (a b : Tree) (p1 p0 : List TreeExtent) (p q : TreeExtent) (left right : NodeId) (d i : ℕ) → Stored limit old (ts ++ a ∷ b ∷ []) → old.parts.items ≡ p1 ++ q ∷ [] → p1 ≡ p0 ++ p ∷ [] →
-    left.index ≡ p.end - 1 → right.index ≡ q.end - 1 → i ≡ max p.depth q.inner → d ≡ min 600 i + 1 → Puts old.limit old.nodes p0 new (node.Alt left right) q.end d i → Stored limit new (ts ++ alt a b ∷ [])
+    left.index ≡ p.end - 1 → right.index ≡ q.end - 1 → i ≡ max p.depth q.inner → d ≡ min 600 i + 1 → PutsTree old.limit old.nodes p0 new (node.Alt left right) q.end d i → Stored limit new (ts ++ alt a b ∷ [])
 stored_alt limit old new ts a b p1 p0 p q left right d i s e1 e0 el er ei ed put =
     let last = last_two limit old ts a b p1 p0 p q s e1 e0 in
     let deep : p.depth ≡ min 601 (depth a) = ap (λ (x : TreeExtent). x.depth) last.1 in
@@ -131,7 +131,7 @@ stored_alt limit old new ts a b p1 p0 p q left right d i s e1 e0 el er ei ed put
     two_over alt node.Alt (λ _ _ _. refl) (λ _ _. refl) (λ _ _ _ h g. (h, g)) limit old new ts a b p1 p0 p q left right d i s e1 e0 el er (omega (arith, ed, ei, deep, inner)) (omega (arith, ei, deep, inner)) put
 
 pub stored_seq : (limit : ℕ) (old new : Stack) (ts : List Tree) (a b : Tree) (p1 p0 : List TreeExtent) (p q : TreeExtent) (left right : NodeId) (d : ℕ) → Stored limit old (ts ++ a ∷ b ∷ []) → old.parts.items ≡ p1 ++ q ∷ [] → p1 ≡ p0 ++ p ∷ [] →
-    left.index ≡ p.end - 1 → right.index ≡ q.end - 1 → d ≡ max p.depth q.depth → Puts old.limit old.nodes p0 new (node.Seq left right) q.end d d → Stored limit new (ts ++ seq a b ∷ [])
+    left.index ≡ p.end - 1 → right.index ≡ q.end - 1 → d ≡ max p.depth q.depth → PutsTree old.limit old.nodes p0 new (node.Seq left right) q.end d d → Stored limit new (ts ++ seq a b ∷ [])
 stored_seq limit old new ts a b p1 p0 p q left right d s e1 e0 el er ed put =
     let last = last_two limit old ts a b p1 p0 p q s e1 e0 in
     let deep : p.depth ≡ min 601 (depth a) = ap (λ (x : TreeExtent). x.depth) last.1 in
@@ -164,25 +164,25 @@ stored_copy limit old new ts a ps p one count s e ec ee ed ei el ep kept over =
     record {
       limit_is = el ∙ lim;
       nodes_are = elim (leb_tells limit (total ts + size a + size a)) [
-        | inl w ↦ over (omega (arith, w.1, ee, ec, before, ends, lim)) ∙ s.nodes_are ∙ ap (written 0) (sym (fitting_over limit (ts ++ a ∷ []) a (omega (arith, w.1, both))))
+        | inl w ↦ over (omega (arith, w.1, ee, ec, before, ends, lim)) ∙ s.nodes_are ∙ ap (written_trees 0) (sym (fitting_over limit (ts ++ a ∷ []) a (omega (arith, w.1, both))))
         | inr w ↦ (
             let size_is : count ≡ size a = omega (arith, w.1, ec, before, ends) in
-            let old_nodes : old.nodes ≡ written 0 ts ++ postorder (total ts) a =
-            s.nodes_are ∙ ap (written 0) (fitting_all limit 0 (ts ++ a ∷ []) (omega (arith, w.1, both))) ∙ written-append_0 ts (a ∷ []) ∙ ap (λ (x : List Node). written 0 ts ++ x) (append-nil (postorder (total ts) a)) in
-            let len : length old.nodes ≡ total ts + size a = ap length old_nodes ∙ length-append (written 0 ts) (postorder (total ts) a) ∙ omega (arith, length-written 0 ts, length-postorder (total ts) a) in
+            let old_nodes : old.nodes ≡ written_trees 0 ts ++ postorder (total ts) a =
+            s.nodes_are ∙ ap (written_trees 0) (fitting_all limit 0 (ts ++ a ∷ []) (omega (arith, w.1, both))) ∙ written-append_0 ts (a ∷ []) ∙ ap (λ (x : List Node). written_trees 0 ts ++ x) (append-nil (postorder (total ts) a)) in
+            let len : length old.nodes ≡ total ts + size a = ap length old_nodes ∙ length-append (written_trees 0 ts) (postorder (total ts) a) ∙ omega (arith, length-written 0 ts, length-postorder (total ts) a) in
             let own : drop (length old.nodes - count) old.nodes ≡ postorder (total ts) a =
-            ap (λ (k : ℕ). drop k old.nodes) (let r : length old.nodes - count ≡ length (written 0 ts) = omega (arith, len, size_is, length-written 0 ts) in r) ∙ ap (drop (length (written 0 ts))) old_nodes ∙ drop-append (written 0 ts) (postorder (total ts) a) in
+            ap (λ (k : ℕ). drop k old.nodes) (let r : length old.nodes - count ≡ length (written_trees 0 ts) = omega (arith, len, size_is, length-written 0 ts) in r) ∙ ap (drop (length (written_trees 0 ts))) old_nodes ∙ drop-append (written_trees 0 ts) (postorder (total ts) a) in
             kept (omega (arith, w.1, ee, ec, before, ends, lim)) (omega (arith, len, size_is))
             ∙ ap (λ (x : List Node). old.nodes ++ map (shifted count) x) own ∙ ap (λ (k : ℕ). old.nodes ++ map (shifted k) (postorder (total ts) a)) size_is
             ∙ ap (λ (x : List Node). old.nodes ++ x) (sym (postorder-shifted (size a) (total ts) a))
-            ∙ ap (λ (x : List Node). x ++ postorder (total ts + size a) a) (s.nodes_are ∙ ap (written 0) (fitting_all limit 0 (ts ++ a ∷ []) (omega (arith, w.1, both))))
-            ∙ ap (λ (k : ℕ). written 0 (ts ++ a ∷ []) ++ postorder k a) (sym both)
-            ∙ ap (λ (x : List Node). written 0 (ts ++ a ∷ []) ++ x) (sym (append-nil (postorder (total (ts ++ a ∷ [])) a)))
+            ∙ ap (λ (x : List Node). x ++ postorder (total ts + size a) a) (s.nodes_are ∙ ap (written_trees 0) (fitting_all limit 0 (ts ++ a ∷ []) (omega (arith, w.1, both))))
+            ∙ ap (λ (k : ℕ). written_trees 0 (ts ++ a ∷ []) ++ postorder k a) (sym both)
+            ∙ ap (λ (x : List Node). written_trees 0 (ts ++ a ∷ []) ++ x) (sym (append-nil (postorder (total (ts ++ a ∷ [])) a)))
             ∙ sym (written-append_0 (ts ++ a ∷ []) (a ∷ []))
-            ∙ ap (written 0) (sym (fitting_all limit 0 ((ts ++ a ∷ []) ++ a ∷ []) (omega (arith, w.1, all)))))
+            ∙ ap (written_trees 0) (sym (fitting_all limit 0 ((ts ++ a ∷ []) ++ a ∷ []) (omega (arith, w.1, all)))))
       ];
       parts_are = ep ∙ ap (λ (x : List TreeExtent). x ++ one ∷ []) (sym e ∙ s.parts_are)
-          ∙ ap (λ (x : TreeExtent). parts_of limit 0 (ts ++ a ∷ []) ++ x ∷ []) (same_part one (min (total (ts ++ a ∷ []) + size a) limit) (min 601 (depth a)) (min 601 (without_alternation a (depth a)))
+          ∙ ap (λ (x : TreeExtent). extents_kept limit 0 (ts ++ a ∷ []) ++ x ∷ []) (same_part one (min (total (ts ++ a ∷ []) + size a) limit) (min 601 (depth a)) (min 601 (without_alternation a (depth a)))
           (omega (arith, ee, ec, before, ends, lim, both)) (ed ∙ ap (λ (x : TreeExtent). x.depth) last.1) (ei ∙ ap (λ (x : TreeExtent). x.inner) last.1))
           ∙ sym (parts-append_0 limit (ts ++ a ∷ []) (a ∷ []));
     }

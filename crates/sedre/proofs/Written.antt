@@ -3,7 +3,7 @@ use Rattle.std.proofs.Common.{◌≡◌, ℕ, ◌+◌, ◌<◌, length, List, []
 use Rattle.std.specs.Option.{option_to_list}
 use Rattle.sedre.specs.declared.types.Node.{Node}
 use Rattle.sedre.specs.Tree.{Tree, empty, seq, alt, group, star, opt, size}
-use Rattle.sedre.specs.Stacks.{postorder, written, total}
+use Rattle.sedre.specs.Stacks.{postorder, written_trees, total}
 
 pub size_positive : (t : Tree) → 0 < size t
 size_positive empty = omega arith
@@ -17,11 +17,11 @@ length-postorder base (star a first) = simp (length-append, length-postorder bas
 length-postorder base (opt a first) = simp (length-append, length-postorder base a) (omega arith)
 length-postorder base _ = refl
 
-pub written-append : (base : ℕ) (ts us : List Tree) → written base (ts ++ us) ≡ written base ts ++ written (base + total ts) us
-written-append base [] us = ap (λ (n : ℕ). written n us) (omega arith)
-written-append base (t ∷ ts) us = ap (λ (x : List Node). postorder base t ++ x) (written-append (base + size t) ts us ∙ ap (λ (n : ℕ). written (base + size t) ts ++ written n us) (omega arith)) ∙ sym (append_assoc (postorder base t) (written (base + size t) ts) _)
+pub written-append : (base : ℕ) (ts us : List Tree) → written_trees base (ts ++ us) ≡ written_trees base ts ++ written_trees (base + total ts) us
+written-append base [] us = ap (λ (n : ℕ). written_trees n us) (omega arith)
+written-append base (t ∷ ts) us = ap (λ (x : List Node). postorder base t ++ x) (written-append (base + size t) ts us ∙ ap (λ (n : ℕ). written_trees (base + size t) ts ++ written_trees n us) (omega arith)) ∙ sym (append_assoc (postorder base t) (written_trees (base + size t) ts) _)
 
-pub length-written : (base : ℕ) (ts : List Tree) → length (written base ts) ≡ total ts
+pub length-written : (base : ℕ) (ts : List Tree) → length (written_trees base ts) ≡ total ts
 length-written base [] = refl
 length-written base (t ∷ ts) = simp (length-append, length-postorder base t, length-written (base + size t) ts) refl
 
@@ -38,8 +38,8 @@ snoc_last {A = A} (v ∷ xs) (w ∷ ys) x y h =
     let r = snoc_last xs ys x y tails in
     (ap (λ (q : A). q ∷ xs) heads ∙ ap (λ (q : List A). w ∷ q) r.0, r.1)
 
-pub written-append_0 : (ts us : List Tree) → written 0 (ts ++ us) ≡ written 0 ts ++ written (total ts) us
-written-append_0 ts us = written-append 0 ts us ∙ ap (λ (n : ℕ). written 0 ts ++ written n us) (omega arith)
+pub written-append_0 : (ts us : List Tree) → written_trees 0 (ts ++ us) ≡ written_trees 0 ts ++ written_trees (total ts) us
+written-append_0 ts us = written-append 0 ts us ∙ ap (λ (n : ℕ). written_trees 0 ts ++ written_trees n us) (omega arith)
 
 -- what a pop leaves, and what it gives
 pub popped : {A : Type 0} (xs ys : List A) (o : Option A) (x : A) → xs ≡ ys ++ option_to_list o → o ≡ Some x → xs ≡ ys ++ x ∷ []

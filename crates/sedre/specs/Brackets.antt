@@ -2,8 +2,8 @@
 -- expression between delimiters ends. Which fault a list has, and where, is this project's own.
 use Rattle.std.specs.Prelude.{ℕ, zero, suc, ◌+◌, ◌-◌, List, [], ◌∷◌, length, take, drop, Bool, true, false, not, ◌&&◌, ◌||◌, Option, Some, None, Result, Ok, Err, if◌then◌else◌, nat_le, ◌==◌, option_map, option_and_then}
 use Rattle.std.specs.Option.{option_map_or}
-use Rattle.sedre.specs.Sets.{set_of, no_byte, only, between, union, complement, matching, in_class, class_named}
-use Rattle.sedre.specs.Types.{Reason, OpenBracket, UnknownClass, LongCollating, BadRange, ExprFault, Element, Plain, Delimiter, OfClass, Equivalent, Collating, Wrong, Unclosed, ByteSet}
+use Rattle.sedre.specs.Sets.{set_of, no_byte, only, is_between, union, complement, matching, in_class, class_named}
+use Rattle.sedre.specs.Types.{ExprReason, OpenBracket, UnknownClass, LongCollating, BadRange, ExprFault, Element, Plain, Delimiter, OfClass, Equivalent, Collating, Wrong, Unclosed, ByteSet}
 
 -- whether a byte is the delimiter
 abbrev pub is_delimiter : Option ℕ → ℕ → Bool
@@ -11,9 +11,9 @@ is_delimiter None b = false
 is_delimiter (Some d) b = d == b
 
 -- whether a byte is at the front
-abbrev pub begins : List ℕ → ℕ → Bool
-begins [] b = false
-begins (c ∷ rest) b = c == b
+abbrev pub is_at_front : List ℕ → ℕ → Bool
+is_at_front [] b = false
+is_at_front (c ∷ rest) b = c == b
 
 -- how many bytes come before the first c with a ] after it
 abbrev pub before_closing : ℕ → List ℕ → Option ℕ
@@ -39,9 +39,9 @@ form_of c held =
     else of_one held Collating
 
 -- a form and how many bytes it has; one that isn't closed takes all that is left
-abbrev pub form : ℕ → (left : ℕ) → Option (List ℕ) → Element × ℕ
-form c left None = (Unclosed, left)
-form c left (Some held) = (form_of c held, length held + 4)
+abbrev pub front_form : ℕ → (left : ℕ) → Option (List ℕ) → Element × ℕ
+front_form c left None = (Unclosed, left)
+front_form c left (Some held) = (form_of c held, length held + 4)
 
 -- the element at the front of what is left of a list, and its bytes. A backslash and the delimiter are the delimiter as a
 -- literal (this project's own); any other byte loses its special meaning (XBD 9.3.5, 1)
@@ -50,7 +50,7 @@ front_element delimiter [] = (Unclosed, 0)
 front_element delimiter (b ∷ []) = (Plain b, 1)
 front_element delimiter (b ∷ c ∷ rest) =
     if b == 92 && is_delimiter delimiter c then (Delimiter c, 2)
-    else if b == 91 && (c == 58 || c == 61 || c == 46) then form c (length rest + 2) (content c rest)
+    else if b == 91 && (c == 58 || c == 61 || c == 46) then front_form c (length rest + 2) (content c rest)
     else (Plain b, 1)
 
 -- the elements with their places, and the place after the closing ], if there is one; `skip` bytes belong to the element
@@ -79,8 +79,8 @@ goes_on_as_range left = false
 abbrev pub ListedBytes : Type 0
 ListedBytes = Result (List Bool) ExprFault
 
-abbrev pub fault : ℕ → Reason → ListedBytes
-fault place reason = Err (record { place = place; reason = reason })
+abbrev pub fault_in_list : ℕ → ExprReason → ListedBytes
+fault_in_list place reason = Err (record { place = place; reason = reason })
 
 -- an element by itself. One that isn't closed lists nothing: that the list is open shows it
 abbrev pub single : ℕ × Element → ListedBytes
@@ -89,33 +89,33 @@ single (place, Delimiter b) = Ok (only b)
 single (place, OfClass class) = Ok (set_of (in_class class))
 single (place, Equivalent b) = Ok (only b)
 single (place, Collating b) = Ok (only b)
-single (place, Wrong reason) = fault place reason
+single (place, Wrong reason) = fault_in_list place reason
 single (place, Unclosed) = Ok no_byte
 
 -- the byte with which an element is an end of a range; a class and an equivalence class are none: this project's own
-abbrev pub end_of : Element → Option ℕ
-end_of (Plain b) = Some b
-end_of (Delimiter b) = Some b
-end_of (Collating b) = Some b
-end_of other = None
+abbrev pub end_of_range : Element → Option ℕ
+end_of_range (Plain b) = Some b
+end_of_range (Delimiter b) = Some b
+end_of_range (Collating b) = Some b
+end_of_range other = None
 
 -- a range between two ends, by byte value (XBD 9.3.5, 7); `on`: it goes on as another one, which is refused (this project's own)
 abbrev pub between_ends : (place : ℕ) → Option ℕ → Option ℕ → (on : Bool) → ListedBytes
 between_ends place (Some a) (Some b) on =
-    if nat_le a b && not on then Ok (set_of (between a b)) else fault place BadRange
-between_ends place first last on = fault place BadRange
+    if nat_le a b && not on then Ok (set_of (is_between a b)) else fault_in_list place BadRange
+between_ends place first last on = fault_in_list place BadRange
 
 -- a range from an end at a place to its last element, whose own fault comes before that of the range
 abbrev pub range_to : (place : ℕ) → Option ℕ → ℕ × Element → (on : Bool) → ListedBytes
-range_to place first (at, Wrong reason) on = fault at reason
+range_to place first (at, Wrong reason) on = fault_in_list at reason
 range_to place first (at, Unclosed) on = Ok no_byte
-range_to place first (at, other) on = between_ends place first (end_of other) on
+range_to place first (at, other) on = between_ends place first (end_of_range other) on
 
 -- a range from its first element to its last, where the first one's own fault comes first
 abbrev pub range : (first last : ℕ × Element) → (on : Bool) → ListedBytes
-range (place, Wrong reason) last on = fault place reason
+range (place, Wrong reason) last on = fault_in_list place reason
 range (place, Unclosed) last on = Ok no_byte
-range (place, other) last on = range_to place (end_of other) last on
+range (place, other) last on = range_to place (end_of_range other) last on
 
 -- what comes first, then the rest
 abbrev pub both : ListedBytes → ListedBytes → ListedBytes
@@ -124,35 +124,35 @@ both (Ok these) (Err f) = Err f
 both (Ok these) (Ok those) = Ok (union these those)
 
 -- all elements from the left: an element, a - and a further element are a range (XBD 9.3.5, 7)
-abbrev pub listed : List (ℕ × Element) → ListedBytes
-listed [] = Ok no_byte
-listed (x ∷ []) = both (single x) (listed [])
-listed (x ∷ y ∷ []) = both (single x) (listed (y ∷ []))
-listed (x ∷ y ∷ z ∷ rest) =
-    if is_dash y.1 then both (range x z (goes_on_as_range rest)) (listed rest)
-    else both (single x) (listed (y ∷ z ∷ rest))
+abbrev pub all_listed : List (ℕ × Element) → ListedBytes
+all_listed [] = Ok no_byte
+all_listed (x ∷ []) = both (single x) (all_listed [])
+all_listed (x ∷ y ∷ []) = both (single x) (all_listed (y ∷ []))
+all_listed (x ∷ y ∷ z ∷ rest) =
+    if is_dash y.1 then both (range x z (goes_on_as_range rest)) (all_listed rest)
+    else both (single x) (all_listed (y ∷ z ∷ rest))
 
 -- the elements from the place after the opening [ on, where a ^ makes a non-matching list (XBD 9.3.5, 3)
 abbrev pub elements_from : Option ℕ → (place : ℕ) → List ℕ → List (ℕ × Element) × Option ℕ
 elements_from delimiter place bytes =
-    if begins bytes 94 then elements delimiter true 0 (place + 1) (drop 1 bytes) else elements delimiter true 0 place bytes
+    if is_at_front bytes 94 then elements delimiter true 0 (place + 1) (drop 1 bytes) else elements delimiter true 0 place bytes
 
 -- the bytes that match for the listed ones, and for a non-matching list the others, byte 0 among them (this project's own)
-abbrev pub matched : (folded negated : Bool) → List Bool → List Bool
-matched folded negated set = if negated then complement (matching folded set) else matching folded set
+abbrev pub matched_set : (folded negated : Bool) → List Bool → List Bool
+matched_set folded negated set = if negated then complement (matching folded set) else matching folded set
 
 -- the set and the place after the list, or the first fault; that the list isn't closed comes last, at its [
-abbrev pub judged : (folded negated : Bool) → (at : ℕ) → ListedBytes → Option ℕ → Result (ByteSet × ℕ) ExprFault
-judged folded negated at (Err f) end = Err f
-judged folded negated at (Ok set) None = Err (record { place = at; reason = OpenBracket })
-judged folded negated at (Ok set) (Some next) = Ok (matched folded negated set, next)
+abbrev pub judged_list : (folded negated : Bool) → (at : ℕ) → ListedBytes → Option ℕ → Result (ByteSet × ℕ) ExprFault
+judged_list folded negated at (Err f) end = Err f
+judged_list folded negated at (Ok set) None = Err (record { place = at; reason = OpenBracket })
+judged_list folded negated at (Ok set) (Some next) = Ok (matched_set folded negated set, next)
 
 -- the list of a text whose [ is at a place: the bytes that it matches and the place after it, or its first fault
 unfoldable pub list_at : (folded : Bool) → Option ℕ → (text : List ℕ) → (at : ℕ) → Result (ByteSet × ℕ) ExprFault
 list_at folded delimiter text at =
     let bytes = drop (at + 1) text in
     let found = elements_from delimiter (at + 1) bytes in
-    judged folded (begins bytes 94) at (listed found.0) found.1
+    judged_list folded (is_at_front bytes 94) at (all_listed found.0) found.1
 
 -- the place after a list, whatever it lists, from the place after its [ on
 unfoldable pub list_end : Option ℕ → (place : ℕ) → List ℕ → Option ℕ

@@ -1,7 +1,7 @@
 -- Private to the proofs: no contract of a public item cites what is here.
--- What the reader answers after an item, and at the end of a text.
+-- What the reader answers after a token, and at the end of a text.
 use Rattle.std.specs.Prelude.{◌≡◌, ◌≤◌, ◌<◌, ◌⊎◌, ℕ, length}
-use Rattle.sedre.specs.Types.{TooDeep, TooManyNodes, ExprFault, NextItem, Is, Ends, Bad}
+use Rattle.sedre.specs.Types.{TooDeep, TooManyNodes, ExprFault, NextToken, Is, Ends, Bad}
 use Rattle.sedre.specs.Tree.{Tree, seq, alt, group, star, opt, WrittenExpression, expression_tree, size}
 use Rattle.sedre.specs.Grammar.{depth}
 use Rattle.sedre.specs.Stacks.{Nesting, whole_level}
@@ -29,8 +29,8 @@ IsOverLimit s limit len f =
     ((f ≡ record { place = len; reason = TooDeep }) × (600 < depth (whole_level s.top)))
     ⊎ ((f ≡ record { place = len; reason = TooManyNodes }) × (depth (whole_level s.top) ≤ 600) × (limit ≤ size (whole_level s.top)))
 
--- an item ends after its place, and a fault is reported within the text
-abbrev pub IsAfter : (at len : ℕ) → NextItem → Type 0
-IsAfter at len (Is i next) = (at < next) × (next ≤ len)
-IsAfter at len Ends = Unit {0}
-IsAfter at len (Bad f) = f.place ≤ len
+-- a token ends after its place, and a fault is reported within the text
+abbrev pub IsTokenAfter : (at len : ℕ) → NextToken → Type 0
+IsTokenAfter at len (Is i next) = (at < next) × (next ≤ len)
+IsTokenAfter at len Ends = Unit {0}
+IsTokenAfter at len (Bad f) = f.place ≤ len

@@ -9,7 +9,7 @@ pub mod ListReading
 pub mod Packed
 pub mod Covers
 pub mod Stacks
-pub mod Items
+pub mod Tokens
 pub mod Grammar
 pub mod Mirror
 pub mod Finished

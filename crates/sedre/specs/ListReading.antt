@@ -2,7 +2,7 @@
 -- What the reader of bracket expressions sees of what is left of a text.
 use Rattle.std.specs.Prelude.{ℕ, ◌+◌, List, ◌∷◌, drop, Bool, false, not, slice_index_or, ◌&&◌, ◌==◌, Option, Result}
 use Rattle.std.specs.Prelude.{Ok, Err, if◌then◌else◌}
-use Rattle.sedre.specs.Brackets.{front_element, single, range, ListedBytes, begins}
+use Rattle.sedre.specs.Brackets.{front_element, single, range, ListedBytes, is_at_front}
 use Rattle.sedre.specs.Types.{ExprFault, ByteSet}
 
 -- whether - and the beginning of a further element are at the front
@@ -28,7 +28,7 @@ members_at delimiter text at =
 
 -- where the elements of a list begin, from the place after its [
 abbrev pub elements_start : (place : ℕ) → List ℕ → ℕ
-elements_start place bytes = if begins bytes 94 then place + 1 else place
+elements_start place bytes = if is_at_front bytes 94 then place + 1 else place
 
 -- whether a ] at a place closes a list whose elements begin at `start`
 abbrev pub is_closing : List ℕ → (start place : ℕ) → Bool

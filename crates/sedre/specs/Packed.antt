@@ -9,7 +9,7 @@ use Rattle.sedre.specs.Words.{words_of}
 use Rattle.sedre.specs.declared.types.NodeId.{NodeId}
 use Rattle.sedre.specs.declared.types.Node.{Node}
 use Rattle.sedre.specs.declared.types.Node.TheVariants as node
-use Rattle.sedre.specs.declared.packed.Entry.{Entry}
+use Rattle.sedre.specs.declared.packed.PackedNode.{PackedNode}
 use Rattle.sedre.specs.declared.packed.Shape.{Shape}
 use Rattle.sedre.specs.declared.packed.Shape.TheVariants as shape
 
@@ -28,11 +28,11 @@ node_of sets x shape.Group left right = node.Group left (id (x - right))
 node_of sets x (shape.Star first) left right = node.Star (id (x - right)) first
 node_of sets x (shape.Opt first) left right = node.Opt (id (x - right)) first
 
-abbrev pub node_at : List (List Bool) → ℕ → Entry → Node
+abbrev pub node_at : List (List Bool) → ℕ → PackedNode → Node
 node_at sets x e = node_of sets x e.shape e.left e.right
 
 -- the nodes of entries, the first of which has the index x
-abbrev pub nodes_from : List (List Bool) → ℕ → List Entry → List Node
+abbrev pub nodes_from : List (List Bool) → ℕ → List PackedNode → List Node
 nodes_from sets x [] = []
 nodes_from sets x (e ∷ es) = node_at sets x e ∷ nodes_from sets (x + 1) es
 
@@ -46,18 +46,18 @@ FitsShape sets x shape.Seq left right = (left ≤ x) × (right ≤ x)
 FitsShape sets x shape.Alt left right = (left ≤ x) × (right ≤ x)
 FitsShape sets x other left right = right ≤ x
 
-abbrev pub Fits : List (List Bool) → ℕ → Entry → Type 0
+abbrev pub Fits : List (List Bool) → ℕ → PackedNode → Type 0
 Fits sets x e = FitsShape sets x e.shape e.left e.right
 
-abbrev pub FitFrom : List (List Bool) → ℕ → List Entry → Type 0
+abbrev pub FitFrom : List (List Bool) → ℕ → List PackedNode → Type 0
 FitFrom sets x [] = Unit {0}
 FitFrom sets x (e ∷ es) = Fits sets x e × FitFrom sets (x + 1) es
 
 -- what is kept of a node at the index x, whose set has this number
-abbrev pub entry_with : Shape → ℕ → ℕ → Entry
+abbrev pub entry_with : Shape → ℕ → ℕ → PackedNode
 entry_with s left right = record { shape = s; left = left; right = right }
 
-abbrev pub entry_of : ℕ → ℕ → Node → Entry
+abbrev pub entry_of : ℕ → ℕ → Node → PackedNode
 entry_of x number node.Empty = entry_with shape.Empty 0 0
 entry_of x number (node.Set set) = entry_with shape.Set number 0
 entry_of x number node.Begin = entry_with shape.Begin 0 0
@@ -69,8 +69,8 @@ entry_of x number (node.Star a first) = entry_with (shape.Star first) 0 (x - a.i
 entry_of x number (node.Opt a first) = entry_with (shape.Opt first) 0 (x - a.index)
 
 -- the number that the map has by the words of a set
-abbrev pub numbered : BTreeMap (List ℕ) ℕ → List Bool → Option ℕ
-numbered numbers set = get_by (slice_cmp nat_cmp (words_of set)) numbers
+abbrev pub number_of_set : BTreeMap (List ℕ) ℕ → List Bool → Option ℕ
+number_of_set numbers set = get_by (slice_cmp nat_cmp (words_of set)) numbers
 
 -- the number is that of the node's set
 abbrev pub HasNumber : List (List Bool) → ℕ → Node → Type 0

@@ -1,9 +1,9 @@
 -- The numbers and the names of the faults (this project's own).
 use Rattle.std.specs.Prelude.{ℕ, List, codes}
-use Rattle.sedre.specs.Types.{Reason, OpenBracket, UnknownClass, LongCollating, BadRange, OpenGroup, StrayClose, BadInterval, NothingToRepeat, LastBackslash, UnknownEscape, BackReference, TooManyNodes, TooDeep}
-use Rattle.sedre.specs.declared.types.Reason.TheVariants.{NoMemory}
+use Rattle.sedre.specs.Types.{ExprReason, OpenBracket, UnknownClass, LongCollating, BadRange, OpenGroup, StrayClose, BadInterval, NothingToRepeat, LastBackslash, UnknownEscape, BackReference, TooManyNodes, TooDeep}
+use Rattle.sedre.specs.declared.types.ExprReason.TheVariants.{NoMemory}
 
-abbrev pub number : Reason → ℕ
+abbrev pub number : ExprReason → ℕ
 number OpenBracket = 1
 number UnknownClass = 2
 number LongCollating = 3
@@ -19,7 +19,7 @@ number TooManyNodes = 12
 number TooDeep = 13
 number NoMemory = 14
 
-abbrev pub name : Reason → List ℕ
+abbrev pub name : ExprReason → List ℕ
 name OpenBracket = codes "OpenBracket"
 name UnknownClass = codes "UnknownClass"
 name LongCollating = codes "LongCollating"

@@ -14,8 +14,8 @@ abbrev pub has : List Bool → ℕ → Bool
 has set c = slice_index_or set c false
 
 -- from one byte to another, both included
-abbrev pub between : (least most : ℕ) → ℕ → Bool
-between least most c = nat_le least c && nat_le c most
+abbrev pub is_between : (least most : ℕ) → ℕ → Bool
+is_between least most c = nat_le least c && nat_le c most
 
 abbrev pub no_byte : List Bool
 no_byte = set_of (λ c. false)
@@ -33,10 +33,10 @@ abbrev pub union : List Bool → List Bool → List Bool
 union these those = set_of (λ c. has these c || has those c)
 
 abbrev pub is_upper : ℕ → Bool
-is_upper c = between 65 90 c
+is_upper c = is_between 65 90 c
 
 abbrev pub is_lower : ℕ → Bool
-is_lower c = between 97 122 c
+is_lower c = is_between 97 122 c
 
 -- the letter that differs from a byte in its ASCII case alone, or else the byte, for the flag `I` (this project's own)
 abbrev pub other_case : ℕ → ℕ
@@ -56,7 +56,7 @@ abbrev pub complement : List Bool → List Bool
 complement set = set_of (λ c. not (has set c))
 
 abbrev pub is_digit : ℕ → Bool
-is_digit c = between 48 57 c
+is_digit c = is_between 48 57 c
 
 abbrev pub is_alnum : ℕ → Bool
 is_alnum c = is_upper c || is_lower c || is_digit c
@@ -66,15 +66,15 @@ abbrev pub in_class : Class → ℕ → Bool
 in_class Alnum c = is_alnum c
 in_class Alpha c = is_upper c || is_lower c
 in_class Blank c = c == 9 || c == 32
-in_class Cntrl c = between 0 31 c || c == 127
+in_class Cntrl c = is_between 0 31 c || c == 127
 in_class Digit c = is_digit c
-in_class Graph c = between 33 126 c
+in_class Graph c = is_between 33 126 c
 in_class Lower c = is_lower c
-in_class Print c = between 32 126 c
-in_class Punct c = between 33 126 c && not (is_alnum c)
-in_class Space c = between 9 13 c || c == 32
+in_class Print c = is_between 32 126 c
+in_class Punct c = is_between 33 126 c && not (is_alnum c)
+in_class Space c = is_between 9 13 c || c == 32
 in_class Upper c = is_upper c
-in_class Xdigit c = is_digit c || between 65 70 c || between 97 102 c
+in_class Xdigit c = is_digit c || is_between 65 70 c || is_between 97 102 c
 
 -- the class of a name (XBD 9.3.5)
 abbrev pub class_named : List ℕ → Option Class

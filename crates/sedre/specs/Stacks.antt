@@ -4,7 +4,7 @@ use Rattle.std.specs.Prelude.{◌≡◌, ◌≢◌, ℕ, suc, ◌+◌, ◌-◌, 
 use Rattle.std.specs.Prelude.{false, nat_lt, if◌then◌else◌, Option, Some, None}
 use Rattle.sedre.specs.declared.types.Node.{Node}
 use Rattle.sedre.specs.declared.types.Node.TheVariants as node
-use Rattle.sedre.specs.Types.{Item, Byte, Open, Close, Bar, Repeat, AtBegin, AtEnd}
+use Rattle.sedre.specs.Types.{Token, Byte, Open, Close, Bar, Repeat, AtBegin, AtEnd}
 use Rattle.sedre.specs.declared.parts.TreeExtent.{TreeExtent}
 use Rattle.sedre.specs.declared.parts.Mark.{Mark}
 use Rattle.sedre.specs.declared.parts.Cover.{Cover}
@@ -27,8 +27,8 @@ pub record Nesting : Type 0 where
   pub top : Level
   pub below : List Level
 
-abbrev pub start : Nesting
-start = record { opened = 0; top = record { number = 0; alternatives = []; pieces = [] }; below = [] }
+abbrev pub no_nesting : Nesting
+no_nesting = record { opened = 0; top = record { number = 0; alternatives = []; pieces = [] }; below = [] }
 
 abbrev pub with_piece : Tree → Level → Level
 with_piece t l = record { number = l.number; alternatives = l.alternatives; pieces = l.pieces ++ t ∷ [] }
@@ -50,7 +50,7 @@ abbrev pub close : Level → List Level → ℕ → Nesting
 close top [] opened = record { opened = opened; top = top; below = [] }
 close top (l ∷ ls) opened = record { opened = opened; top = with_piece (group top.number (whole_level top)) l; below = ls }
 
-abbrev pub step : Item → Nesting → Nesting
+abbrev pub step : Token → Nesting → Nesting
 step (Byte members) s = record { opened = s.opened; top = with_piece (set members) s.top; below = s.below }
 step AtBegin s = record { opened = s.opened; top = with_piece begin s.top; below = s.below }
 step AtEnd s = record { opened = s.opened; top = with_piece end s.top; below = s.below }
@@ -75,9 +75,9 @@ step (Repeat least most) s = record {
   below = s.below;
 }
 
-abbrev pub run : List Item → Nesting → Nesting
-run [] s = s
-run (i ∷ is) s = run is (step i s)
+abbrev pub nest_all : List Token → Nesting → Nesting
+nest_all [] s = s
+nest_all (i ∷ is) s = nest_all is (step i s)
 
 -- the nodes of a tree from an index on: those of its parts, and then its root
 abbrev pub postorder : ℕ → Tree → List Node
@@ -96,9 +96,9 @@ postorder base (star a first) = postorder base a ++ node.Star (id (base + size a
 postorder base (opt a first) = postorder base a ++ node.Opt (id (base + size a - 1)) first ∷ []
 
 -- trees written out one after another
-abbrev pub written : ℕ → List Tree → List Node
-written base [] = []
-written base (t ∷ ts) = postorder base t ++ written (base + size t) ts
+abbrev pub written_trees : ℕ → List Tree → List Node
+written_trees base [] = []
+written_trees base (t ∷ ts) = postorder base t ++ written_trees (base + size t) ts
 
 abbrev pub total : List Tree → ℕ
 total [] = 0
@@ -110,13 +110,13 @@ fitting limit base [] = []
 fitting limit base (t ∷ ts) = if nat_lt (base + size t) limit then t ∷ fitting limit (base + size t) ts else []
 
 -- what is kept of a tree whose nodes end there
-abbrev pub part_of : ℕ → ℕ → Tree → TreeExtent
-part_of limit ends t =
+abbrev pub extent_kept : ℕ → ℕ → Tree → TreeExtent
+extent_kept limit ends t =
     record { end = min ends limit; depth = min 601 (depth t); inner = min 601 (without_alternation t (depth t)) }
 
-abbrev pub parts_of : ℕ → ℕ → List Tree → List TreeExtent
-parts_of limit base [] = []
-parts_of limit base (t ∷ ts) = part_of limit (base + size t) t ∷ parts_of limit (base + size t) ts
+abbrev pub extents_kept : ℕ → ℕ → List Tree → List TreeExtent
+extents_kept limit base [] = []
+extents_kept limit base (t ∷ ts) = extent_kept limit (base + size t) t ∷ extents_kept limit (base + size t) ts
 
 -- the node stands for the tree, which has no parts
 abbrev pub IsLeaf : Node → Tree → Type 0
@@ -132,8 +132,8 @@ last_end (p ∷ q ∷ ps) = last_end (q ∷ ps)
 -- the stack contains these trees: the nodes of those that fit, and of each its measures
 pub record Stored (limit : ℕ) (s : Stack) (ts : List Tree) : Type 0 where
   pub limit_is : s.limit ≡ limit
-  pub nodes_are : s.nodes ≡ written 0 (fitting limit 0 ts)
-  pub parts_are : s.parts.items ≡ parts_of limit 0 ts
+  pub nodes_are : s.nodes ≡ written_trees 0 (fitting limit 0 ts)
+  pub parts_are : s.parts.items ≡ extents_kept limit 0 ts
 
 -- the last tree became another
 abbrev pub LastBecomes : (Tree → Tree) → Stack → Stack → Type 0
@@ -147,7 +147,7 @@ JoinsTrees from f old new =
     Stored limit new (ts ++ f ps ∷ [])
 
 -- a tree came on the stack, whose root is this node and whose parts' nodes end there
-pub record Puts (limit : ℕ) (ns : List Node) (ps : List TreeExtent) (new : Stack) (n : Node) (ends d i : ℕ) : Type 0 where
+pub record PutsTree (limit : ℕ) (ns : List Node) (ps : List TreeExtent) (new : Stack) (n : Node) (ends d i : ℕ) : Type 0 where
   pub limit_is : new.limit ≡ limit
   pub parts : new.parts.items ≡ ps ++ record { end = min (ends + 1) limit; depth = d; inner = i } ∷ []
   pub kept : ends + 1 < limit → PartsBelow (length ns) n → new.nodes ≡ ns ++ n ∷ []
@@ -166,9 +166,9 @@ mark_of l ls = record {
   pieces = length (trees_in ls) + length l.alternatives;
 }
 
-abbrev pub marks_of : List Level → List Mark
-marks_of [] = []
-marks_of (l ∷ ls) = marks_of ls ++ mark_of l ls ∷ []
+abbrev pub marks_of_levels : List Level → List Mark
+marks_of_levels [] = []
+marks_of_levels (l ∷ ls) = marks_of_levels ls ++ mark_of l ls ∷ []
 
 -- two trees as an alternation or a concatenation
 abbrev pub pair : Bool → Tree → Tree → Tree
@@ -191,20 +191,20 @@ pub record Represents (limit : ℕ) (b : Builder) (s : Nesting) : Type 0 where
   pub stored : Stored limit b.stack (trees_in (s.top ∷ s.below))
   pub opened : b.opened ≡ s.opened
   pub top : b.top ≡ mark_of s.top s.below
-  pub below : b.below.items ≡ marks_of s.below
+  pub below : b.below.items ≡ marks_of_levels s.below
 
 -- at least so many copies are no more than at most so many
 abbrev pub IsInterval : ℕ → Option ℕ → Type 0
 IsInterval least None = Unit {0}
 IsInterval least (Some most) = least ≤ most
 
--- the item may come here
-abbrev pub CanTake : Item → Nesting → Type 0
+-- the token may come here
+abbrev pub CanTake : Token → Nesting → Type 0
 CanTake Close s = s.below ≢ []
 CanTake (Repeat least most) s = (s.top.pieces ≢ []) × IsInterval least most
 CanTake other s = Unit {0}
 
--- one item more was read
-abbrev pub TakesItem : Item → Builder → Builder → Type 0
-TakesItem item old new =
+-- one token more was read
+abbrev pub TakesToken : Token → Builder → Builder → Type 0
+TakesToken item old new =
     (limit : ℕ) (s : Nesting) → Represents limit old s → CanTake item s → Represents limit new (step item s)

@@ -7,14 +7,14 @@ pub use Rattle.sedre.specs.declared.types.Node.TheVariants.{Alt, Begin, Empty, E
 pub use Rattle.sedre.specs.declared.types.Kind.{Kind}
 pub use Rattle.sedre.specs.declared.types.Kind.TheVariants.{Basic, Extended}
 pub use Rattle.sedre.specs.declared.types.ExprFault.{ExprFault}
-pub use Rattle.sedre.specs.declared.types.Reason.{Reason}
-pub use Rattle.sedre.specs.declared.types.Reason.TheVariants.{BackReference, BadInterval, BadRange, LastBackslash, LongCollating, NothingToRepeat, OpenBracket, OpenGroup, StrayClose, TooDeep, TooManyNodes, UnknownClass, UnknownEscape}
+pub use Rattle.sedre.specs.declared.types.ExprReason.{ExprReason}
+pub use Rattle.sedre.specs.declared.types.ExprReason.TheVariants.{BackReference, BadInterval, BadRange, LastBackslash, LongCollating, NothingToRepeat, OpenBracket, OpenGroup, StrayClose, TooDeep, TooManyNodes, UnknownClass, UnknownEscape}
 pub use Rattle.sedre.specs.declared.elements.Element.{Element}
 pub use Rattle.sedre.specs.declared.elements.Element.TheVariants.{Collating, Delimiter, Equivalent, OfClass, Plain, Unclosed, Wrong}
 pub use Rattle.sedre.specs.declared.intervals.Interval.{Interval as Bounds}
 pub use Rattle.sedre.specs.declared.syntax.Symbol.{Symbol}
 pub use Rattle.sedre.specs.declared.syntax.Symbol.TheVariants.{AnyByte, BracketOpening, Caret, Closing, Dollar, Interval, IntervalEnd, Literal, Opening, Parting, Plus, Question, Star, Unknown}
-pub use Rattle.sedre.specs.declared.syntax.Item.{Item}
-pub use Rattle.sedre.specs.declared.syntax.Item.TheVariants.{AtBegin, AtEnd, Bar, Byte, Close, Open, Repeat}
-pub use Rattle.sedre.specs.declared.syntax.NextItem.{NextItem}
-pub use Rattle.sedre.specs.declared.syntax.NextItem.TheVariants.{Bad, Ends, Is}
+pub use Rattle.sedre.specs.declared.syntax.Token.{Token}
+pub use Rattle.sedre.specs.declared.syntax.Token.TheVariants.{AtBegin, AtEnd, Bar, Byte, Close, Open, Repeat}
+pub use Rattle.sedre.specs.declared.syntax.NextToken.{NextToken}
+pub use Rattle.sedre.specs.declared.syntax.NextToken.TheVariants.{Bad, Ends, Is}

@@ -1,11 +1,11 @@
 //! Bracket expressions (XBD 9.3.5): the bytes that a list matches, or the first fault, in one pass.
 ghost use Rattle.std.specs.Prelude.{◌≡◌, ◌<◌, ◌≤◌, ◌+◌, length, drop, IfSome, IfOk, IfErr, IsTrue};
 ghost use Rattle.sedre.specs.ListReading.{is_range, members_at, elements_start, is_closing};
-ghost use Rattle.sedre.specs.Brackets.{end_of, single, between_ends, range, begins, matched, list_at, list_end};
+ghost use Rattle.sedre.specs.Brackets.{end_of_range, single, between_ends, range, is_at_front, matched_set, list_at, list_end};
 
 use crate::byte_set::ByteSet;
 use crate::elements::{Element, element_at};
-use crate::types::{ExprFault, Reason};
+use crate::types::{ExprFault, ExprReason};
 
 /// The bytes of an element that is no end of a range, or its fault.
 fn single(place: usize, element: Element) -> Result<ByteSet, ExprFault>
@@ -25,7 +25,7 @@ fn single(place: usize, element: Element) -> Result<ByteSet, ExprFault>
 
 /// The byte of an element that can be an end of a range.
 fn end_of(element: Element) -> Option<u8>
-    ensures { result ≡ end_of element }
+    ensures { result ≡ end_of_range element }
 {
     match element {
         Element::Plain(b) | Element::Delimiter(b) | Element::Collating(b) => Some(b),
@@ -48,7 +48,7 @@ fn between_ends(
         (Some(a), Some(b)) if a <= b && !goes_on => Ok(ByteSet::range(a, b)),
         _ => Err(ExprFault {
             place,
-            reason: Reason::BadRange,
+            reason: ExprReason::BadRange,
         }),
     }
 }
@@ -106,7 +106,7 @@ fn members_at(delimiter: Option<u8>, text: &[u8], at: usize) -> Result<(ByteSet,
 /// Whether the list whose `[` is before a place is a non-matching one.
 fn is_negated(text: &[u8], at: usize) -> bool
     requires { at ≤ length text.now }
-    ensures { result ≡ begins (drop at text.now) 94 }
+    ensures { result ≡ is_at_front (drop at text.now) 94 }
 {
     matches!(&text[at..], [b'^', ..])
 }
@@ -134,7 +134,7 @@ fn is_closing(text: &[u8], start: usize, at: usize) -> bool
 /// The bytes that a list matches, whose elements list this set. Letters of the set match without regard to case where it
 /// is `folded`, and a `negated` list matches all other bytes.
 fn matched(folded: bool, negated: bool, set: ByteSet) -> ByteSet
-    ensures { result ≡ matched folded negated set }
+    ensures { result ≡ matched_set folded negated set }
 {
     let matching = set.matching(folded);
     if negated {
@@ -178,7 +178,7 @@ pub fn list_at(
     }
     Err(ExprFault {
         place: at,
-        reason: Reason::OpenBracket,
+        reason: ExprReason::OpenBracket,
     })
 }
 

@@ -3,7 +3,7 @@ ghost use Rattle.std.specs.Prelude.{◌≡◌, ◌≤◌, ◌<◌, ◌+◌, [], 
 
 use crate::parts::{Cover, Mark};
 use crate::stack::Stack;
-use crate::syntax::Item;
+use crate::syntax::Token;
 use crate::types::Node;
 use std::alloc::{AllocError, Global};
 
@@ -18,12 +18,12 @@ pub struct Builder {
 
 impl Builder {
     ghost use Rattle.sedre.specs.Tree.{Tree};
-    ghost use Rattle.sedre.specs.Stacks.{Represents, Nesting, TakesItem, start, CanTake, Stored, IsLeaf, with_piece, whole_level};
+    ghost use Rattle.sedre.specs.Stacks.{Represents, Nesting, TakesToken, no_nesting, CanTake, Stored, IsLeaf, with_piece, whole_level};
     ghost use Rattle.sedre.specs.Stacks.{IsInterval};
 
     /// A builder to which nothing was added. The limit is one more than the nodes allowed.
     pub fn new(alloc: Global, limit: usize) -> Self
-        ensures { Represents limit result start }
+        ensures { Represents limit result no_nesting }
     {
         Builder {
             stack: Stack::new(alloc, limit),
@@ -38,7 +38,7 @@ impl Builder {
     }
 
     /// Adds a piece without parts. What the stack promises of its trees is here made a promise on the groups that are open,
-    /// once for the three items that are such pieces.
+    /// once for the three tokens that are such pieces.
     fn leaf(&mut self, node: Node) -> Result<(), AllocError>
         ensures state { OnOk result ((limit : ℕ) (s : Nesting) (t : Tree) → IsLeaf node t → Represents limit self.old s →
             Represents limit self.new (record { opened = s.opened; top = with_piece t s.top; below = s.below })) }
@@ -50,7 +50,7 @@ impl Builder {
     /// Opens a group.
     fn open(&mut self) -> Result<(), AllocError>
         requires { self.old.opened < usize.MAX }
-        ensures state { OnOk result (TakesItem Item.Open self.old self.new) }
+        ensures state { OnOk result (TakesToken Token.Open self.old self.new) }
         ensures opened { OnOk result (self.new.opened ≤ self.old.opened + 1) }
     {
         self.below.push(self.top)?;
@@ -66,7 +66,7 @@ impl Builder {
     /// Ends an alternative and begins the next.
     fn bar(&mut self) -> Result<(), AllocError>
         requires { self.old.top.pieces ≤ vec_len self.old.stack.parts }
-        ensures state { OnOk result (TakesItem Item.Bar self.old self.new) }
+        ensures state { OnOk result (TakesToken Token.Bar self.old self.new) }
         ensures opened { OnOk result (self.new.opened ≤ self.old.opened + 1) }
     {
         self.stack.concatenate(self.top.pieces)?;
@@ -79,7 +79,7 @@ impl Builder {
         requires pieces { self.old.top.pieces ≤ vec_len self.old.stack.parts }
         requires alternatives { self.old.top.alternatives ≤ self.old.top.pieces }
         requires opened { 0 < vec_len self.old.below }
-        ensures state { OnOk result (TakesItem Item.Close self.old self.new) }
+        ensures state { OnOk result (TakesToken Token.Close self.old self.new) }
         ensures opened { OnOk result (self.new.opened ≤ self.old.opened + 1) }
     {
         self.stack.concatenate(self.top.pieces)?;
@@ -89,31 +89,31 @@ impl Builder {
         Ok(())
     }
 
-    /// Repeats the last piece. Apart from `take`, which is a table of calls that all promise the same of their item.
+    /// Repeats the last piece. Apart from `take`, which is a table of calls that all promise the same of their token.
     fn repeat(&mut self, least: u8, most: Option<u8>) -> Result<(), AllocError>
         requires some { 1 ≤ vec_len self.old.stack.parts }
         requires order { IsInterval least most }
-        ensures state { OnOk result (TakesItem (Item.Repeat least most) self.old self.new) }
+        ensures state { OnOk result (TakesToken (Token.Repeat least most) self.old self.new) }
         ensures opened { OnOk result (self.new.opened ≤ self.old.opened + 1) }
     {
         self.stack.repeat(least, most)
     }
 
-    /// Adds one more item.
-    pub fn take(&mut self, item: Item) -> Result<(), AllocError>
-        requires some { (limit : ℕ) × (s : Nesting) × Represents limit self.old s × CanTake item s }
+    /// Adds one more token.
+    pub fn take(&mut self, token: Token) -> Result<(), AllocError>
+        requires some { (limit : ℕ) × (s : Nesting) × Represents limit self.old s × CanTake token s }
         requires room { self.old.opened < usize.MAX }
-        ensures state { OnOk result (TakesItem item self.old self.new) }
+        ensures state { OnOk result (TakesToken token self.old self.new) }
         ensures opened { OnOk result (self.new.opened ≤ self.old.opened + 1) }
     {
-        match item {
-            Item::Byte(set) => self.leaf(Node::Set(set)),
-            Item::Open => self.open(),
-            Item::Close => self.close(),
-            Item::Bar => self.bar(),
-            Item::Repeat(least, most) => self.repeat(least, most),
-            Item::AtBegin => self.leaf(Node::Begin),
-            Item::AtEnd => self.leaf(Node::End),
+        match token {
+            Token::Byte(set) => self.leaf(Node::Set(set)),
+            Token::Open => self.open(),
+            Token::Close => self.close(),
+            Token::Bar => self.bar(),
+            Token::Repeat(least, most) => self.repeat(least, most),
+            Token::AtBegin => self.leaf(Node::Begin),
+            Token::AtEnd => self.leaf(Node::End),
         }
     }
 

@@ -2,7 +2,7 @@
 ghost use Rattle.std.specs.Prelude.{◌≡◌, ◌≢◌, ◌||◌, ℕ, ◌<◌, ◌-◌, ◌+◌, ◌*◌, ◌/◌, ◌%◌, ◌↔◌, eqb, max, false, slice_get};
 ghost use Rattle.std.specs.Prelude.{slice_index_or, IfSome, MatchOption, IsTrue};
 ghost use Rattle.std.specs.Int.{bit_at};
-ghost use Rattle.sedre.specs.Sets.{set_of, has, only, any_but_zero, no_byte, between, union, complement, other_case, folded_set, matching, in_class};
+ghost use Rattle.sedre.specs.Sets.{set_of, has, only, any_but_zero, no_byte, is_between, union, complement, other_case, folded_set, matching, in_class};
 ghost use Rattle.sedre.specs.Words.{words_of};
 
 use crate::class::Class;
@@ -59,7 +59,7 @@ impl ByteSet {
 
     /// The bytes from `first` to `last`, both included; none where `last` is below `first`.
     pub(crate) fn range(first: u8, last: u8) -> Self
-        ensures { result ≡ set_of (between first last) }
+        ensures { result ≡ set_of (is_between first last) }
     {
         let mut set = ByteSet::none();
         for b in first..=last {

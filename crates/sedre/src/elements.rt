@@ -1,9 +1,9 @@
 //! The elements of a bracket expression (XBD 9.3.5).
 ghost use Rattle.std.specs.Prelude.{◌≡◌, ◌<◌, ◌≤◌, ◌+◌, ◌^◌, length, drop, IfSome};
-ghost use Rattle.sedre.specs.Brackets.{before_closing, content, form, form_of, front_element};
+ghost use Rattle.sedre.specs.Brackets.{before_closing, content, front_form, form_of, front_element};
 
 use crate::class::Class;
-use crate::types::Reason;
+use crate::types::ExprReason;
 
 /// An element of a bracket expression.
 #[derive(Clone, Copy)]
@@ -19,7 +19,7 @@ pub enum Element {
     /// A collating symbol, `[.x.]`.
     Collating(u8),
     /// A form that names no class, or that contains more than one byte.
-    Wrong(Reason),
+    Wrong(ExprReason),
     /// A form that isn't closed. Nothing follows it.
     Unclosed,
 }
@@ -46,18 +46,18 @@ fn form_of(kind: u8, held: &[u8]) -> Element
     match (kind, held) {
         (b':', _) => match Class::named(held) {
             Some(class) => Element::OfClass(class),
-            None => Element::Wrong(Reason::UnknownClass),
+            None => Element::Wrong(ExprReason::UnknownClass),
         },
         (b'=', [b]) => Element::Equivalent(*b),
         (_, [b]) => Element::Collating(*b),
-        _ => Element::Wrong(Reason::LongCollating),
+        _ => Element::Wrong(ExprReason::LongCollating),
     }
 }
 
 /// The element of the form of this kind whose opening these bytes follow, and how many bytes the form has.
 fn form(kind: u8, bytes: &[u8]) -> (Element, usize)
     requires { length bytes.now + 2 < 2 ^ 64 }
-    ensures is { result ≡ form kind (length bytes.now + 2) (content kind bytes.now) }
+    ensures is { result ≡ front_form kind (length bytes.now + 2) (content kind bytes.now) }
     ensures width { (0 < result.1) × (result.1 ≤ length bytes.now + 2) }
 {
     let [_, rest @ ..] = bytes else {

@@ -3,8 +3,8 @@ ghost use Rattle.std.specs.Prelude.{◌≡◌, ◌≤◌, ◌+◌, min, length, 
 ghost use Rattle.std.specs.List.{prefix_len};
 ghost use Rattle.std.specs.Bool.{OnTrue};
 ghost use Rattle.sedre.specs.Sets.{is_digit};
-ghost use Rattle.sedre.specs.Items.{decimal, numeral, closes, closing_width, limit, front_interval};
-ghost use Rattle.sedre.specs.Brackets.{begins};
+ghost use Rattle.sedre.specs.Tokens.{decimal, numeral, closes, closing_width, limit, front_interval};
+ghost use Rattle.sedre.specs.Brackets.{is_at_front};
 
 use crate::types::Kind;
 
@@ -51,7 +51,7 @@ fn numeral(front: &[u8]) -> Option<(u8, usize)>
 
 /// Whether this byte is at the front.
 fn begins(front: &[u8], b: u8) -> bool
-    ensures { result ≡ begins front.now b }
+    ensures { result ≡ is_at_front front.now b }
 {
     matches!(front, [c, ..] if *c == b)
 }
@@ -113,7 +113,7 @@ fn limit(
 }
 
 /// The interval whose opening comes before `front`, if it is one.
-#[tactic(auto, unfolding(crate::specs::Items::front_interval))]
+#[tactic(auto, unfolding(crate::specs::Tokens::front_interval))]
 pub fn interval_at(kind: Kind, delimiter: Option<u8>, front: &[u8]) -> Option<Interval>
     ensures is { result ≡ front_interval kind delimiter front.now }
     ensures within { IfSome result (λ found. found.width ≤ length front.now) }

@@ -2,7 +2,7 @@
 ghost use Rattle.std.specs.Prelude.{◌≡◌, ◌≤◌, ◌<◌, ◌+◌, ◌-◌, ◌++◌, ◌∷◌, [], List, Bool, Some, IfOk, IfSome, OnOk};
 ghost use Rattle.std.specs.Prelude.{ℕ, length, map, take, drop, slice_get, vec_len};
 ghost use Rattle.sedre.specs.Packed.{node_at, nodes_from, Fits, FitFrom, entry_of, HasNumber};
-ghost use Rattle.sedre.specs.Packed.{AddsSets, PartsBelow, numbered, shifted};
+ghost use Rattle.sedre.specs.Packed.{AddsSets, PartsBelow, number_of_set, shifted};
 ghost use Rattle.std.specs.Prelude.{option_map, true};
 ghost use Rattle.sedre.specs.declared.types.Node.TheVariants.{Set};
 
@@ -29,14 +29,14 @@ pub enum Shape {
 /// What is kept of a node: for a set its number, for a group its number, and for a part how many places it is
 /// before the node. So a copy of some nodes is a copy of their entries.
 #[derive(Clone, Copy)]
-pub struct Entry {
+pub struct PackedNode {
     pub shape: Shape,
     pub left: usize,
     pub right: usize,
 }
 
 /// What is kept of a node at the index `at`. `number` is that of its set, if it is one.
-fn entry_of(at: usize, number: usize, node: Node) -> Entry
+fn entry_of(at: usize, number: usize, node: Node) -> PackedNode
     ensures { result ≡ entry_of at number node }
 {
     let (shape, left, right) = match node {
@@ -58,11 +58,11 @@ fn entry_of(at: usize, number: usize, node: Node) -> Entry
         Node::Star(a, first) => (Shape::Star(first), 0, at.saturating_sub(a.index)),
         Node::Opt(a, first) => (Shape::Opt(first), 0, at.saturating_sub(a.index)),
     };
-    Entry { shape, left, right }
+    PackedNode { shape, left, right }
 }
 
 /// The node that an entry at the index `at` stands for.
-fn node_at(sets: &[ByteSet], at: usize, entry: Entry) -> Node
+fn node_at(sets: &[ByteSet], at: usize, entry: PackedNode) -> Node
     requires { Fits sets.now at entry }
     ensures { result ≡ node_at sets.now at entry }
 {
@@ -93,8 +93,8 @@ fn number_among(
     set: &ByteSet,
 ) -> Option<usize>
     ensures number { IfSome result (λ k. slice_get sets.now k ≡ Some set.now) }
-    ensures known { IfSome result (λ k. numbered numbers.now set.now ≡ Some k) }
-    ensures found { (k : ℕ) → numbered numbers.now set.now ≡ Some k → slice_get sets.now k ≡ Some set.now →
+    ensures known { IfSome result (λ k. number_of_set numbers.now set.now ≡ Some k) }
+    ensures found { (k : ℕ) → number_of_set numbers.now set.now ≡ Some k → slice_get sets.now k ≡ Some set.now →
         result ≡ Some k }
 {
     let number = *numbers.get(&set.words())?;
@@ -111,10 +111,10 @@ fn number_of(
     ensures grows { AddsSets sets.old.items sets.new.items }
     ensures number { IfOk result (λ k. slice_get sets.new.items k ≡ Some set) }
     // A set whose number is known isn't added again.
-    ensures kept { (k : ℕ) → numbered numbers.old set ≡ Some k → slice_get sets.old.items k ≡ Some set →
+    ensures kept { (k : ℕ) → number_of_set numbers.old set ≡ Some k → slice_get sets.old.items k ≡ Some set →
         sets.new ≡ sets.old }
     // And then its number is known.
-    ensures known { IfOk result (λ k. numbered numbers.new set ≡ Some k) }
+    ensures known { IfOk result (λ k. number_of_set numbers.new set ≡ Some k) }
 {
     if let Some(number) = number_among(sets, numbers, &set) {
         return Ok(number);
@@ -142,7 +142,7 @@ fn set_number(
 
 /// Adds one node.
 fn add(
-    entries: &mut Vec<Entry>,
+    entries: &mut Vec<PackedNode>,
     sets: &mut Vec<ByteSet>,
     numbers: &mut BTreeMap<[u64; 4], usize>,
     node: Node,
@@ -158,7 +158,7 @@ fn add(
 }
 
 /// Adds a copy of the entries from index `from` on.
-fn add_again(entries: &mut Vec<Entry>, from: usize) -> Result<(), AllocError>
+fn add_again(entries: &mut Vec<PackedNode>, from: usize) -> Result<(), AllocError>
     ensures fits { (sets : List (List Bool)) → FitFrom sets 0 entries.old.items → FitFrom sets 0 entries.new.items }
     ensures entries { OnOk result (entries.new.items ≡ entries.old.items ++ drop from entries.old.items) }
 {
@@ -172,7 +172,7 @@ fn add_again(entries: &mut Vec<Entry>, from: usize) -> Result<(), AllocError>
 /// Nodes, each after its parts.
 #[derive(Drop)]
 pub struct Packed {
-    entries: Vec<Entry>,
+    entries: Vec<PackedNode>,
     sets: Vec<ByteSet>,
     /// The number of each set, by its words.
     numbers: BTreeMap<[u64; 4], usize>,

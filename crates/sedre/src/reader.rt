@@ -2,18 +2,18 @@
 ghost use Rattle.std.specs.Prelude.{◌≡◌, ◌≢◌, true, false, ◌≤◌, ◌<◌, ◌⊎◌, [], ℕ, Some, length};
 ghost use Rattle.std.specs.Prelude.{OnOk, IfOk, IfErr, vec_len};
 ghost use Rattle.std.specs.Bool.{OnTrue, OnFalse};
-ghost use Rattle.sedre.specs.declared.types.Reason.{Reason};
+ghost use Rattle.sedre.specs.declared.types.ExprReason.{ExprReason};
 ghost use Rattle.sedre.specs.Grammar.{ReadsAs, FaultyWith, ExprFaulty};
 ghost use Rattle.sedre.specs.Tree.{size, expression_tree};
 ghost use Rattle.sedre.specs.Stacks.{Nesting, Represents, whole_level};
 ghost use Rattle.sedre.specs.Finished.{GroupsNumbered, IsFinished, IsOverLimit};
 
 use crate::builder::Builder;
-use crate::items::item_at;
 use crate::stack::Stack;
-use crate::syntax::{Item, NextItem};
+use crate::syntax::{NextToken, Token};
 use crate::table::Expr;
-use crate::types::{ExprFault, Kind, NO_MEMORY, Reason};
+use crate::tokens::token_at;
+use crate::types::{ExprFault, ExprReason, Kind, NO_MEMORY};
 use std::alloc::Global;
 
 /// The expression of all that was read, if it is within the limits; otherwise a fault at the end of the text, `len`.
@@ -43,24 +43,24 @@ fn finish(mut builder: Builder, len: usize) -> Result<Expr, ExprFault>
     if part.depth > 600 {
         return Err(ExprFault {
             place: len,
-            reason: Reason::TooDeep,
+            reason: ExprReason::TooDeep,
         });
     }
     if part.end >= limit {
         return Err(ExprFault {
             place: len,
-            reason: Reason::TooManyNodes,
+            reason: ExprReason::TooManyNodes,
         });
     }
     Ok(Expr::of(nodes, opened))
 }
 
-/// Whether the item closes a group and none is open.
-fn is_stray(builder: &Builder, item: &Item) -> bool
-    ensures stray { OnTrue result ((item.now ≡ Item.Close) × (vec_len builder.now.below ≡ 0)) }
-    ensures fine { OnFalse result (item.now ≡ Item.Close → 0 < vec_len builder.now.below) }
+/// Whether the token closes a group and none is open.
+fn is_stray(builder: &Builder, token: &Token) -> bool
+    ensures stray { OnTrue result ((token.now ≡ Token.Close) × (vec_len builder.now.below ≡ 0)) }
+    ensures fine { OnFalse result (token.now ≡ Token.Close → 0 < vec_len builder.now.below) }
 {
-    matches!(item, Item::Close) && builder.below.is_empty()
+    matches!(token, Token::Close) && builder.below.is_empty()
 }
 
 /// Reads a text as an expression, or answers its first fault. Where it is `folded`, letters match without regard to
@@ -79,38 +79,38 @@ fn read_with(
     requires not_newline { delimiter ≢ Some 10 }
     ensures reads { IfOk result (λ e. ReadsAs kind folded delimiter text.now (expression_tree e) e.groups) }
     ensures size { IfOk result (λ e. (length e.nodes ≡ size (expression_tree e)) × (length e.nodes ≤ max_nodes)) }
-    ensures no_fault { OnOk result ((place : ℕ) (reason : Reason) →
+    ensures no_fault { OnOk result ((place : ℕ) (reason : ExprReason) →
         FaultyWith kind folded delimiter text.now max_nodes place reason → ⊥) }
     ensures fault { IfErr result (λ f.
         FaultyWith kind folded delimiter text.now max_nodes f.place f.reason ⊎ (f ≡ NO_MEMORY)) }
     ensures within { IfErr result (λ f. f.place ≤ length text.now) }
 {
     let mut builder = Builder::new(alloc, max_nodes + 1);
-    let mut before: Option<Item> = None;
+    let mut before: Option<Token> = None;
     let mut at = 0;
-    'items: loop {
-        match item_at(kind, folded, delimiter, text, before, at) {
-            NextItem::Bad(fault) => return Err(fault),
-            NextItem::Ends => {
+    'tokens: loop {
+        match token_at(kind, folded, delimiter, text, before, at) {
+            NextToken::Bad(fault) => return Err(fault),
+            NextToken::Ends => {
                 if builder.below.len() > 0 {
                     return Err(ExprFault {
                         place: text.len(),
-                        reason: Reason::OpenGroup,
+                        reason: ExprReason::OpenGroup,
                     });
                 }
                 return finish(builder, text.len());
             }
-            NextItem::Is(item, next) => {
-                if is_stray(&builder, &item) {
+            NextToken::Is(token, next) => {
+                if is_stray(&builder, &token) {
                     return Err(ExprFault {
                         place: at,
-                        reason: Reason::StrayClose,
+                        reason: ExprReason::StrayClose,
                     });
                 }
-                if builder.take(item).is_err() {
+                if builder.take(token).is_err() {
                     return Err(NO_MEMORY);
                 }
-                before = Some(item);
+                before = Some(token);
                 at = next;
             }
         }
@@ -138,7 +138,7 @@ pub fn read(
     // It has as many nodes as it has when it is written out, and no more than allowed.
     ensures size { IfOk result (λ e. (length e.nodes ≡ size (expression_tree e)) × (length e.nodes ≤ max_nodes)) }
     // No fault is passed over.
-    ensures no_fault { OnOk result ((place : ℕ) (reason : Reason) →
+    ensures no_fault { OnOk result ((place : ℕ) (reason : ExprReason) →
         ExprFaulty kind delimiter text.now max_nodes place reason → ⊥) }
     // A fault is the first one of the text, or there was no memory.
     ensures fault { IfErr result (λ f.
@@ -168,7 +168,7 @@ pub fn read_folded(
     // It has as many nodes as it has when it is written out, and no more than allowed.
     ensures size { IfOk result (λ e. (length e.nodes ≡ size (expression_tree e)) × (length e.nodes ≤ max_nodes)) }
     // No fault is passed over.
-    ensures no_fault { OnOk result ((place : ℕ) (reason : Reason) →
+    ensures no_fault { OnOk result ((place : ℕ) (reason : ExprReason) →
         ExprFaulty kind delimiter text.now max_nodes place reason → ⊥) }
     // A fault is the first one of the text, or there was no memory.
     ensures fault { IfErr result (λ f.

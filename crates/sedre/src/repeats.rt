@@ -17,14 +17,14 @@ fn is_first(first: bool, held: usize, count: usize) -> bool
 
 impl Stack {
     ghost use Rattle.sedre.specs.Tree.{Tree};
-    ghost use Rattle.sedre.specs.Grammar.{copies, optional, repetition};
+    ghost use Rattle.sedre.specs.Grammar.{with_copies, optional, repetition};
     ghost use Rattle.sedre.specs.Stacks.{Stored, LastBecomes, IsInterval};
 
     /// Puts `count` copies of the last tree after it.
     fn copies(&mut self, count: usize) -> Result<(), AllocError>
         requires { 1 ≤ vec_len self.old.parts }
         ensures trees { OnOk result ((limit : ℕ) (ts : List Tree) (a : Tree) → Stored limit self.old (ts ++ a ∷ []) →
-            Stored limit self.new ((ts ++ copies count a []) ++ a ∷ [])) }
+            Stored limit self.new ((ts ++ with_copies count a []) ++ a ∷ [])) }
         ensures count { OnOk result (vec_len self.new.parts ≡ vec_len self.old.parts + count) }
     {
         for _ in 0..count {
@@ -37,7 +37,7 @@ impl Stack {
     fn nest(&mut self, count: usize, first: bool) -> Result<(), AllocError>
         requires { count + 1 ≤ vec_len self.old.parts }
         ensures trees { OnOk result ((limit : ℕ) (ts : List Tree) (a : Tree) →
-            Stored limit self.old ((ts ++ copies count a []) ++ a ∷ []) →
+            Stored limit self.old ((ts ++ with_copies count a []) ++ a ∷ []) →
             Stored limit self.new (ts ++ optional count a first ∷ [])) }
         ensures count { OnOk result (vec_len self.new.parts + count ≡ vec_len self.old.parts) }
     {

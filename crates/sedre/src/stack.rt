@@ -62,7 +62,7 @@ impl Stack {
     ghost use Rattle.sedre.specs.Tree.{Tree, size};
     ghost use Rattle.sedre.specs.Grammar.{depth, concatenation};
     ghost use Rattle.sedre.specs.Packed.{shifted};
-    ghost use Rattle.sedre.specs.Stacks.{Stored, LastBecomes, JoinsTrees, IsLeaf, Puts, last_end, pair, chain, covered};
+    ghost use Rattle.sedre.specs.Stacks.{Stored, LastBecomes, JoinsTrees, IsLeaf, PutsTree, last_end, pair, chain, covered};
 
     /// No trees.
     pub fn new(alloc: Global, limit: usize) -> Self
@@ -95,7 +95,7 @@ impl Stack {
     /// Puts a tree on the stack whose root is this node. The nodes of its parts are the last ones, and end at `end`.
     fn put(&mut self, node: Node, end: usize, depth: usize, inner: usize) -> Result<(), AllocError>
         ensures put { OnOk result
-            (Puts self.old.limit self.old.nodes self.old.parts.items self.new node end depth inner) }
+            (PutsTree self.old.limit self.old.nodes self.old.parts.items self.new node end depth inner) }
         ensures count { OnOk result (vec_len self.new.parts ≡ vec_len self.old.parts + 1) }
     {
         let end = sum_within(end, 1, self.limit);

@@ -1,9 +1,9 @@
 //! Which symbols are in a text.
 ghost use Rattle.std.specs.Prelude.{◌≡◌, ◌<◌, ◌≤◌, ◌+◌, ℕ, List, [], ◌∷◌, None, Some, length, drop, IfSome};
-ghost use Rattle.sedre.specs.Items.{operator, alone, alone_in_both, escaped, escaped_literal, front_symbol};
+ghost use Rattle.sedre.specs.Tokens.{operator, alone, alone_in_both, escaped, escaped_literal, front_symbol};
 
 use crate::syntax::Symbol;
-use crate::types::{Kind, Reason};
+use crate::types::{ExprReason, Kind};
 
 /// An operator that has no backslash in an extended expression and after one in a basic one, else `other`.
 fn operator(b: u8, other: Symbol) -> Symbol
@@ -51,9 +51,9 @@ fn escaped_literal(b: u8) -> Symbol
     match b {
         b'n' => Symbol::Literal(b'\n'),
         b't' => Symbol::Literal(b'\t'),
-        b'1'..=b'9' => Symbol::Unknown(Reason::BackReference),
+        b'1'..=b'9' => Symbol::Unknown(ExprReason::BackReference),
         b'A'..=b'Z' | b'a'..=b'z' | b'0' | b'<' | b'>' | b'\'' | b'`' => {
-            Symbol::Unknown(Reason::UnknownEscape)
+            Symbol::Unknown(ExprReason::UnknownEscape)
         }
         _ => Symbol::Literal(b),
     }
@@ -75,7 +75,7 @@ fn last(kind: Kind, b: u8) -> Symbol
     ensures { front_symbol kind None (b ∷ []) ≡ Some (result, 1) }
 {
     if b == b'\\' {
-        Symbol::Unknown(Reason::LastBackslash)
+        Symbol::Unknown(ExprReason::LastBackslash)
     } else {
         alone(kind, b)
     }

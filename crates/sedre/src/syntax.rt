@@ -1,6 +1,6 @@
-//! Symbols and items: what the bytes of a text are cut into.
+//! Symbols and tokens: what the bytes of a text are cut into.
 use crate::byte_set::ByteSet;
-use crate::types::{ExprFault, Reason};
+use crate::types::{ExprFault, ExprReason};
 
 /// What one or two bytes mean, wherever they occur.
 #[derive(Clone, Copy)]
@@ -18,12 +18,12 @@ pub enum Symbol {
     BracketOpening,
     Caret,
     Dollar,
-    Unknown(Reason),
+    Unknown(ExprReason),
 }
 
-/// An item of a text.
+/// A token of a text.
 #[derive(Clone, Copy)]
-pub enum Item {
+pub enum Token {
     /// one byte of a set
     Byte(ByteSet),
     /// opens a group
@@ -42,9 +42,9 @@ pub enum Item {
 
 /// What is at a place of a text.
 #[derive(Clone, Copy)]
-pub enum NextItem {
-    /// an item, and the place after it
-    Is(Item, usize),
+pub enum NextToken {
+    /// a token, and the place after it
+    Is(Token, usize),
     /// nothing: the text ends
     Ends,
     /// a fault

@@ -15,7 +15,7 @@ pub enum Kind {
 
 /// Why a text is no expression, E1 to E14.
 #[derive(Clone, Copy, Debug, PartialEq, Eq)]
-pub enum Reason {
+pub enum ExprReason {
     /// E1: a bracket expression, or a form in it, isn't closed
     OpenBracket,
     /// E2: the name of a character class is unknown
@@ -47,27 +47,27 @@ pub enum Reason {
     NoMemory,
 }
 
-impl Reason {
+impl ExprReason {
     /// Its number, 1 to 14.
     pub fn number(self) -> u8
         ensures is { result ≡ number self }
         ensures within { (1 ≤ result) × (result ≤ 14) }
     {
         match self {
-            Reason::OpenBracket => 1,
-            Reason::UnknownClass => 2,
-            Reason::LongCollating => 3,
-            Reason::BadRange => 4,
-            Reason::OpenGroup => 5,
-            Reason::StrayClose => 6,
-            Reason::BadInterval => 7,
-            Reason::NothingToRepeat => 8,
-            Reason::LastBackslash => 9,
-            Reason::UnknownEscape => 10,
-            Reason::BackReference => 11,
-            Reason::TooManyNodes => 12,
-            Reason::TooDeep => 13,
-            Reason::NoMemory => 14,
+            ExprReason::OpenBracket => 1,
+            ExprReason::UnknownClass => 2,
+            ExprReason::LongCollating => 3,
+            ExprReason::BadRange => 4,
+            ExprReason::OpenGroup => 5,
+            ExprReason::StrayClose => 6,
+            ExprReason::BadInterval => 7,
+            ExprReason::NothingToRepeat => 8,
+            ExprReason::LastBackslash => 9,
+            ExprReason::UnknownEscape => 10,
+            ExprReason::BackReference => 11,
+            ExprReason::TooManyNodes => 12,
+            ExprReason::TooDeep => 13,
+            ExprReason::NoMemory => 14,
         }
     }
 
@@ -76,20 +76,20 @@ impl Reason {
         ensures { result.now ≡ name self }
     {
         match self {
-            Reason::OpenBracket => "OpenBracket",
-            Reason::UnknownClass => "UnknownClass",
-            Reason::LongCollating => "LongCollating",
-            Reason::BadRange => "BadRange",
-            Reason::OpenGroup => "OpenGroup",
-            Reason::StrayClose => "StrayClose",
-            Reason::BadInterval => "BadInterval",
-            Reason::NothingToRepeat => "NothingToRepeat",
-            Reason::LastBackslash => "LastBackslash",
-            Reason::UnknownEscape => "UnknownEscape",
-            Reason::BackReference => "BackReference",
-            Reason::TooManyNodes => "TooManyNodes",
-            Reason::TooDeep => "TooDeep",
-            Reason::NoMemory => "NoMemory",
+            ExprReason::OpenBracket => "OpenBracket",
+            ExprReason::UnknownClass => "UnknownClass",
+            ExprReason::LongCollating => "LongCollating",
+            ExprReason::BadRange => "BadRange",
+            ExprReason::OpenGroup => "OpenGroup",
+            ExprReason::StrayClose => "StrayClose",
+            ExprReason::BadInterval => "BadInterval",
+            ExprReason::NothingToRepeat => "NothingToRepeat",
+            ExprReason::LastBackslash => "LastBackslash",
+            ExprReason::UnknownEscape => "UnknownEscape",
+            ExprReason::BackReference => "BackReference",
+            ExprReason::TooManyNodes => "TooManyNodes",
+            ExprReason::TooDeep => "TooDeep",
+            ExprReason::NoMemory => "NoMemory",
         }
     }
 }
@@ -98,13 +98,13 @@ impl Reason {
 #[derive(Clone, Copy, Debug, PartialEq, Eq)]
 pub struct ExprFault {
     pub place: usize,
-    pub reason: Reason,
+    pub reason: ExprReason,
 }
 
 /// The fault where a request for memory was refused: E14 at 0.
 pub const NO_MEMORY: ExprFault = ExprFault {
     place: 0,
-    reason: Reason::NoMemory,
+    reason: ExprReason::NoMemory,
 };
 
 /// The id of a node: its index in its expression.

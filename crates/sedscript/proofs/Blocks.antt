@@ -7,7 +7,7 @@ use Rattle.std.proofs.lemmas.Bool.Decides.{eqb_tells}
 use Rattle.sedscript.specs.declared.items.Item.{Item}
 use Rattle.sedscript.specs.Types.{Verb}
 use Rattle.sedscript.specs.declared.letters.Verb.TheVariants.{Open, Close}
-use Rattle.sedscript.specs.Script.{counted, commands_in, close_in, depth_after, block_end}
+use Rattle.sedscript.specs.Script.{count_with, commands_in, close_in, depth_after, block_end}
 use Rattle.sedscript.specs.Letters.{is_open, is_close, becomes_command}
 use Rattle.sedscript.specs.Tables.{unopened, unopened_by, opened, blocks_in, with_end, ends_in, EndIs}
 
@@ -28,10 +28,10 @@ close_step f d n us c h = h d
 -- a closing brace after so many inner ones is found in the list of those that close no block
 pub close_is : (d n : ℕ) (is : List Item) → close_in d n is ≡ slice_get (unopened n is) d
 close_is d n [] = refl
-close_is d n (i ∷ is) = close_step i.verb d n (unopened (counted n i) is) (λ (e : ℕ). close_in e (counted n i) is) (λ e. close_is e (counted n i) is)
+close_is d n (i ∷ is) = close_step i.verb d n (unopened (count_with n i) is) (λ (e : ℕ). close_in e (count_with n i) is) (λ e. close_is e (count_with n i) is)
 
 -- the stack one item further back
-pub unopened_step : (items : List Item) (k n next : ℕ) (i : Item) → slice_get items k ≡ Some i → n ≡ counted next i →
+pub unopened_step : (items : List Item) (k n next : ℕ) (i : Item) → slice_get items k ≡ Some i → n ≡ count_with next i →
     unopened_by next i.verb (unopened n (drop (k + 1) items)) ≡ unopened next (drop k items)
 unopened_step items k n next i at e =
     ap (λ (m : ℕ). unopened_by next i.verb (unopened m (drop (k + 1) items))) e ∙ sym (ap (unopened next) (drop_item items k i at))
@@ -58,7 +58,7 @@ end_pushed us es old new f end opens top are grown =
     rw opens (grown ∙ (ap (λ (z : List (Option ℕ)). z ++ end ∷ []) are ∙ (ap (λ (o : Option ℕ). reverse es ++ o ∷ []) top ∙ sym (reverse_onto es (slice_get us 0) []))))
 
 -- the table one item further back
-pub ends_step : (items : List Item) (k n next : ℕ) (i : Item) → slice_get items k ≡ Some i → n ≡ counted next i →
+pub ends_step : (items : List Item) (k n next : ℕ) (i : Item) → slice_get items k ≡ Some i → n ≡ count_with next i →
     with_end i.verb (slice_get (unopened n (drop (k + 1) items)) 0) (ends_in n (drop (k + 1) items)) ≡ ends_in next (drop k items)
 ends_step items k n next i at e =
     ap (λ (o : Option ℕ). with_end i.verb o (ends_in n (drop (k + 1) items))) (sym (close_is 0 n (drop (k + 1) items)))
@@ -82,8 +82,8 @@ end_after (j ∷ items) zero n i at opens =
     let more : n ≡ n + 0 = omega arith in
     open_first j.verb n items (ap (λ (x : Item). x.verb) same ∙ opens) ∙ ap (λ (m : ℕ). Some (close_in 0 (suc m) items)) more
 end_after (j ∷ items) (suc k) n i at opens =
-    skip_end (is_open j.verb) (close_in 0 (counted n j) items) (ends_in (counted n j) items) (blocks_in (take k items))
-    ∙ (end_after items k (counted n j) i at opens ∙ ap (λ (m : ℕ). Some (close_in 0 (suc m) (drop (suc k) items))) (counted_in n j (take k items)))
+    skip_end (is_open j.verb) (close_in 0 (count_with n j) items) (ends_in (count_with n j) items) (blocks_in (take k items))
+    ∙ (end_after items k (count_with n j) i at opens ∙ ap (λ (m : ℕ). Some (close_in 0 (suc m) (drop (suc k) items))) (counted_in n j (take k items)))
 
 end_found : (items : List Item) (ends : List (Option ℕ)) (k : ℕ) (i : Item) → ends ≡ ends_in 0 items → slice_get items k ≡ Some i → i.verb ≡ Open →
     slice_get ends (blocks_in (take k items)) ≡ Some (block_end (take k items) (drop (k + 1) items))

@@ -21,11 +21,11 @@ use Rattle.sedscript.specs.declared.items.ItemOrEnd.TheVariants.{Is}
 use Rattle.sedscript.specs.Bytes.{◌>>=◌ as ◌then◌}
 use Rattle.sedscript.specs.Strings.{counterpart, table_of}
 use Rattle.sedscript.specs.Items.{item_at, Reading}
-use Rattle.sedscript.specs.Script.{Gives, value, after_expression, CutScript, done, item, text_in, texts_of, substitution_in, substitutions_of, table_in, tables_of, action_of, command_of, commands_of, Means, ActionWithin, counted, commands_in, label_in, is_label, close_in, depth_after, block_end, written_in, branch_in, is_standard_output, is_file, sink_name, name_in, file_in, files_in, number_in}
+use Rattle.sedscript.specs.Script.{Gives, value, after_expression, CutScript, done, item, text_in, texts_of, substitution_in, substitutions_of, table_in, tables_of, action_of, command_of, commands_of, Means, ActionWithin, count_with, commands_in, label_in, is_label, close_in, depth_after, block_end, written_in, branch_in, is_standard_output, is_file, sink_name, name_in, file_in, files_in, number_in}
 use Rattle.sedscript.specs.Letters.{becomes_command, is_close}
 use Rattle.sedscript.specs.Program.{Program}
 use Rattle.sedscript.specs.declared.substitution.Substitution.{Substitution}
-use Rattle.sedscript.specs.Ranges.{SinkWithin, CommandWithin, SubstitutionWithin, InRange}
+use Rattle.sedscript.specs.Ranges.{SinkWithin, CommandWithin, SubstitutionWithin, IsWithinRanges}
 use Rattle.sedscript.proofs.Labels.{commands_snoc, counted_in}
 use Rattle.sedscript.proofs.FileTables.{any_distinct}
 use Rattle.sedscript.proofs.Places.{if_both, Each, AddressesWithin, ArgumentWithin, Follows, ItemsWithin, cut_up_to}
@@ -43,14 +43,14 @@ at_most_or n (Some k) h = h
 close_bound : (depth n : ℕ) (is : List Item) → AtMost (n + commands_in is) (close_in depth n is)
 close_bound depth n [] = tt
 close_bound depth n (i ∷ is) =
-    if_both (AtMost (n + commands_in (i ∷ is))) (is_close i.verb && depth == 0) (Some n) (close_in (depth_after depth i.verb) (counted n i) is) (omega arith)
-    (subst (λ (m : ℕ). AtMost m (close_in (depth_after depth i.verb) (counted n i) is)) (counted_in n i is) (close_bound (depth_after depth i.verb) (counted n i) is))
+    if_both (AtMost (n + commands_in (i ∷ is))) (is_close i.verb && depth == 0) (Some n) (close_in (depth_after depth i.verb) (count_with n i) is) (omega arith)
+    (subst (λ (m : ℕ). AtMost m (close_in (depth_after depth i.verb) (count_with n i) is)) (counted_in n i is) (close_bound (depth_after depth i.verb) (count_with n i) is))
 
 label_bound : (text name : List ℕ) (n : ℕ) (is : List Item) → AtMost (n + commands_in is) (label_in text name n is)
 label_bound text name n [] = tt
 label_bound text name n (i ∷ is) =
-    if_both (AtMost (n + commands_in (i ∷ is))) (is_label text name i.verb i.argument) (Some n) (label_in text name (counted n i) is) (omega arith)
-    (subst (λ (m : ℕ). AtMost m (label_in text name (counted n i) is)) (counted_in n i is) (label_bound text name (counted n i) is))
+    if_both (AtMost (n + commands_in (i ∷ is))) (is_label text name i.verb i.argument) (Some n) (label_in text name (count_with n i) is) (omega arith)
+    (subst (λ (m : ℕ). AtMost m (label_in text name (count_with n i) is)) (counted_in n i is) (label_bound text name (count_with n i) is))
 
 -- actions
 
@@ -257,7 +257,7 @@ files_within text all n (i ∷ is) r w among = (
     by_name u (Some name) h = file_number u text all n name r w (λ e. h name (file_there u name (names_in u text is) e))
 
 -- what a text means is in range
-pub means_in_range : (text : List ℕ) (kind : Kind) (m : ℕ) (s : Program) → Means text kind m s → InRange s
+pub means_in_range : (text : List ℕ) (kind : Kind) (m : ℕ) (s : Program) → Means text kind m s → IsWithinRanges s
 means_in_range text kind m s h =
     let is = h.items in
     let long : length s.commands ≡ commands_in is = ap (λ (xs : List Command). length xs) h.commands ∙ commands_length text is [] is in
@@ -286,7 +286,7 @@ quiet_action p (action.File Read k) h = h
 quiet_action p (action.File Write k) h = h
 quiet_action p a h = h
 
-pub quiet_in_range : (p : Program) → InRange p → InRange (record p { quiet = true })
+pub quiet_in_range : (p : Program) → IsWithinRanges p → IsWithinRanges (record p { quiet = true })
 quiet_in_range p range = record {
   each = λ i c at. let h = range.each i c at in record { first = h.first; second = h.second; action = quiet_action p c.action h.action };
   nodes = range.nodes;

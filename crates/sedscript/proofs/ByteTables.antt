@@ -5,7 +5,7 @@ use Rattle.std.proofs.lemmas.Bool.Decides.{eqb_tells, leb_tells, Decides-eqb}
 use Rattle.std.proofs.lemmas.List.{get_or-replicate}
 use Rattle.std.proofs.lemmas.List.FromFn.{fill_by_all, length-map-range_with_len, get_or-map-range_with_len, length-range_with_len, get_or-range_with_len}
 use Rattle.sedscript.specs.Strings.{table_of, counterpart, is_among}
-use Rattle.sedscript.specs.Answers.{marks_of}
+use Rattle.sedscript.specs.Answers.{marks_of_bytes}
 
 -- a list of all bytes' values with one written is that of a function that differs there
 set_filled : {X : Type 0} (f g : ℕ → X) (n s : ℕ) (x : X) → s < n → g s ≡ x → ((k : ℕ) → k ≢ s → f k ≡ g k) → set (map f (range_with_len 0 n)) s x ≡ map g (range_with_len 0 n)
@@ -25,14 +25,14 @@ table_more s t string1 string2 lt =
     (λ (k : ℕ) (other : k ≢ s). elim (eqb_tells s k) [ inl h ↦ absurd (other (sym h.1)) | inr h ↦ rw h.0 refl ])
 
 -- a byte more
-pub marks_more : (b : ℕ) (bs : List ℕ) → b < 256 → set (marks_of bs) b true ≡ marks_of (b ∷ bs)
-unfolding marks_of
+pub marks_more : (b : ℕ) (bs : List ℕ) → b < 256 → set (marks_of_bytes bs) b true ≡ marks_of_bytes (b ∷ bs)
+unfolding marks_of_bytes
 marks_more b bs lt =
     set_filled (is_among bs) (is_among (b ∷ bs)) 256 b true lt (rw ((Decides-eqb b b).1 refl) refl)
     (λ (k : ℕ) (other : k ≢ b). elim (eqb_tells b k) [ inl h ↦ absurd (other (sym h.1)) | inr h ↦ rw h.0 refl ])
 
-pub marks_at : (b : ℕ) (bs : List ℕ) (d : Bool) → b < 256 → get_or (marks_of bs) b d ≡ is_among bs b
-unfolding marks_of
+pub marks_at : (b : ℕ) (bs : List ℕ) (d : Bool) → b < 256 → get_or (marks_of_bytes bs) b d ≡ is_among bs b
+unfolding marks_of_bytes
 marks_at b bs d lt = get_or-map-range_with_len (is_among bs) 0 256 b b d lt (omega arith)
 
 pub table_length : (string1 string2 : List ℕ) → length (table_of string1 string2) ≡ 256
@@ -73,13 +73,13 @@ table_start string1 string2 k e = table_none (drop k string1) (drop k string2) (
     [ inl h ↦ inl (drop_of_length-le string1 h.1) | inr h ↦ inr (drop_of_length-le string2 (let above = h.1 in omega (arith, e, above))) ])
 
 -- nothing is noted at first
-pub no_marks : (seen : List Bool) → seen ≡ replicate 256 false → seen ≡ marks_of []
-unfolding marks_of
+pub no_marks : (seen : List Bool) → seen ≡ replicate 256 false → seen ≡ marks_of_bytes []
+unfolding marks_of_bytes
 no_marks seen e = e ∙ fill_by_all (is_among []) (replicate 256 false) 256 false refl (λ (k : ℕ) (lt : k < 256). get_or-replicate 256 k false false lt)
 
 -- a byte is noted
 pub noted : (old : List Bool) (b at : ℕ) → b < 256 → at ≡ b →
-    (before : List ℕ) → old ≡ marks_of before → (get_or old at false ≡ is_among before b) × (set old at true ≡ marks_of (b ∷ before))
+    (before : List ℕ) → old ≡ marks_of_bytes before → (get_or old at false ≡ is_among before b) × (set old at true ≡ marks_of_bytes (b ∷ before))
 noted old b at lt same before e = (
   ap (λ (n : ℕ). get_or old n false) same ∙ (ap (λ (l : List Bool). get_or l b false) e ∙ marks_at b before false lt),
   ap (λ (n : ℕ). set old n true) same ∙ (ap (λ (l : List Bool). set l b true) e ∙ marks_more b before lt),

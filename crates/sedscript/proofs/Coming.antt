@@ -6,8 +6,8 @@ use Rattle.std.proofs.lemmas.List.{append-nil}
 use Rattle.sedre.specs.declared.types.Kind.{Kind}
 use Rattle.sedre.specs.Tree.{WrittenExpression}
 use Rattle.sedre.specs.declared.types.ExprFault.{ExprFault}
-use Rattle.sedre.specs.declared.types.Reason.{Reason as ExprReason}
-use Rattle.sedre.specs.declared.types.Reason.TheVariants.{NoMemory}
+use Rattle.sedre.specs.declared.types.ExprReason.{ExprReason}
+use Rattle.sedre.specs.declared.types.ExprReason.TheVariants.{NoMemory}
 use Rattle.sedre.specs.declared.types.TheConstants.{NO_MEMORY as no_expr_memory}
 use Rattle.sedre.specs.Brackets.{delimiter_at}
 use Rattle.sedre.specs.Grammar.{ExprFaulty}
@@ -20,7 +20,7 @@ use Rattle.sedscript.specs.declared.types.Address.TheVariants.{Last, Match}
 use Rattle.sedscript.specs.declared.items.ItemOrEnd.{ItemOrEnd}
 use Rattle.sedscript.specs.declared.items.ItemOrEnd.TheVariants.{Is, Ends}
 use Rattle.sedscript.specs.Bytes.{bytes_between, past, is_byte, is_digit, with_digits}
-use Rattle.sedscript.specs.Items.{Pattern, Reading, plainly, expression, ◌>>=◌, Addressed, found, addresses_of, with_addresses, with_second, folds_at, past_flag, match_at, own_match, addresses_at, after_first, second_at, address_at, address_of, line_of, item_at, item_from, substitute_with, substitute_at, argument_with, function_at, match_to, function_after, item_with, item_of, empty_match}
+use Rattle.sedscript.specs.Items.{Pattern, Reading, plainly, expression, ◌>>=◌, Addressed, address_found, addresses_of, with_addresses, with_second, folds_at, past_flag, match_at, own_match, addresses_at, after_first, second_at, address_at, address_of, line_address, item_at, item_from, substitute_with, substitute_at, argument_with, function_at, match_to, function_after, item_with, item_of, empty_match}
 use Rattle.sedscript.specs.declared.items.Strings.{Strings}
 use Rattle.sedscript.specs.Arguments.{own_delimiter, substitute_strings, flags_after, folds}
 use Rattle.sedscript.specs.Letters.{argument_of, reads_expression, substituted, verb_of, allowed}
@@ -28,7 +28,7 @@ use Rattle.sedscript.specs.Types.{Verb, Argument}
 use Rattle.sedscript.specs.declared.items.Addresses.{Addresses}
 use Rattle.sedscript.specs.Script.{IsRead, Gives, value, after_expression}
 use Rattle.sedscript.specs.FirstFault.{Fails, own, no_expression, later, in_script}
-use Rattle.sedscript.specs.Answers.{as_here, as_argument, as_groups, as_addressed, as_headed, Comes, Agrees, IsAfter, IsHere, is_no_memory, fault_of}
+use Rattle.sedscript.specs.Answers.{as_here, as_argument, as_groups, as_addressed, as_headed, Comes, Agrees, IsItemAfter, IsHere, is_no_memory, fault_of}
 
 not_equal : (a b : ℕ) → a ≢ b → (a == b) ≡ false
 not_equal a b n = elim (eqb_tells a b) [ inl h ↦ absurd (n h.1) | inr h ↦ h.0 ]
@@ -124,13 +124,13 @@ expression_comes text kind m p old new e groups same read grown =
 
 -- an address with an expression is what stands after the expression alone
 pub match_is : (text : List ℕ) (count d place to : ℕ) (folded : Bool) → delimiter_at text (place + 1) d ≡ Some to → to ≢ place + 1 → folded ≡ folds_at text (to + 1) →
-    match_at text count d place ≡ (expression (record { from = place + 1; to = to; delimiter = d; folded = folded }) (λ (groups : ℕ). plainly (Ok groups)) >>= λ (groups : ℕ). plainly (found (Some (Match (Some count))) (past_flag text (to + 1)) (count + 1)))
+    match_at text count d place ≡ (expression (record { from = place + 1; to = to; delimiter = d; folded = folded }) (λ (groups : ℕ). plainly (Ok groups)) >>= λ (groups : ℕ). plainly (address_found (Some (Match (Some count))) (past_flag text (to + 1)) (count + 1)))
 unfolding match_at
 match_is text count d place to folded e n f =
-    subst (λ (b : Bool). match_at text count d place ≡ (expression (record { from = place + 1; to = to; delimiter = d; folded = b }) (λ (groups : ℕ). plainly (Ok groups)) >>= λ (groups : ℕ). plainly (found (Some (Match (Some count))) (past_flag text (to + 1)) (count + 1)))) (sym f)
+    subst (λ (b : Bool). match_at text count d place ≡ (expression (record { from = place + 1; to = to; delimiter = d; folded = b }) (λ (groups : ℕ). plainly (Ok groups)) >>= λ (groups : ℕ). plainly (address_found (Some (Match (Some count))) (past_flag text (to + 1)) (count + 1)))) (sym f)
     (ap (match_to text count d place) e ∙ if_false _ _ (to == place + 1) (not_equal to (place + 1) n))
 
-match_agrees : (old new number at next : ℕ) → number ≡ old → new ≡ old + 1 → next ≡ at → Agrees as_addressed new (Ok (Some (Match (Some number)), next)) (found (Some (Match (Some old))) at (old + 1))
+match_agrees : (old new number at next : ℕ) → number ≡ old → new ≡ old + 1 → next ≡ at → Agrees as_addressed new (Ok (Some (Match (Some number)), next)) (address_found (Some (Match (Some old))) at (old + 1))
 match_agrees old new number at next e f g = cc
 
 pub match_comes : (text : List ℕ) (kind : Kind) (m d place to number groups next : ℕ) (folded : Bool) (old new : List WrittenExpression) → delimiter_at text (place + 1) d ≡ Some to → to ≢ place + 1 → folded ≡ folds_at text (to + 1) →
@@ -140,8 +140,8 @@ pub match_comes : (text : List ℕ) (kind : Kind) (m d place to number groups ne
 match_comes text kind m d place to number groups next folded old new e n f same one past h =
     subst (λ (r : Reading Addressed). Comes text kind m old new as_addressed (Ok (Some (Match (Some number)), next)) r) (sym (match_is text (length old) d place to folded e n f))
     (comes_then text kind m old new new (expression (record { from = place + 1; to = to; delimiter = d; folded = folded }) (λ (groups : ℕ). plainly (Ok groups)))
-    (λ (groups : ℕ). plainly (found (Some (Match (Some (length old)))) (past_flag text (to + 1)) (length old + 1))) groups as_addressed (Ok (Some (Match (Some number)), next)) h
-    (comes_plain text kind m new new as_addressed (Ok (Some (Match (Some number)), next)) (found (Some (Match (Some (length old)))) (past_flag text (to + 1)) (length old + 1)) refl
+    (λ (groups : ℕ). plainly (address_found (Some (Match (Some (length old)))) (past_flag text (to + 1)) (length old + 1))) groups as_addressed (Ok (Some (Match (Some number)), next)) h
+    (comes_plain text kind m new new as_addressed (Ok (Some (Match (Some number)), next)) (address_found (Some (Match (Some (length old)))) (past_flag text (to + 1)) (length old + 1)) refl
     (match_agrees (length old) (length new) number (past_flag text (to + 1)) next same one past)))
 
 match_empty : (text : List ℕ) (count d place to : ℕ) → delimiter_at text (place + 1) d ≡ Some to → to ≡ place + 1 →
@@ -173,15 +173,15 @@ item_some text kind m old new place start b result s e h =
     (subst (λ (o : Option ℕ). Comes text kind m old new as_here result (item_from text (length old) start o)) (sym e) h)
 
 -- the addresses that read no expression, and none
-pub no_byte : (text : List ℕ) (count at : ℕ) → slice_get text at ≡ None → address_at text count at ≡ plainly (found None at count)
+pub no_byte : (text : List ℕ) (count at : ℕ) → slice_get text at ≡ None → address_at text count at ≡ plainly (address_found None at count)
 unfolding address_at
 no_byte text count at e = ap (address_of text count at) e
 
-pub last_address : (text : List ℕ) (count at b : ℕ) → slice_get text at ≡ Some b → b ≡ 36 → address_at text count at ≡ plainly (found (Some Last) (at + 1) count)
+pub last_address : (text : List ℕ) (count at b : ℕ) → slice_get text at ≡ Some b → b ≡ 36 → address_at text count at ≡ plainly (address_found (Some Last) (at + 1) count)
 unfolding address_at
 last_address text count at b e is = ap (address_of text count at) (e ∙ ap Some is)
 
-pub no_address : (text : List ℕ) (count at b : ℕ) → slice_get text at ≡ Some b → is_digit b ≡ false → b ≢ 36 → b ≢ 47 → b ≢ 92 → address_at text count at ≡ plainly (found None at count)
+pub no_address : (text : List ℕ) (count at b : ℕ) → slice_get text at ≡ Some b → is_digit b ≡ false → b ≢ 36 → b ≢ 47 → b ≢ 92 → address_at text count at ≡ plainly (address_found None at count)
 unfolding address_at
 no_address text count at b e d last slash other =
     ap (address_of text count at) e ∙ if_false _ _ (is_digit b) d ∙ if_false _ _ (b == 36) (not_equal b 36 last) ∙ if_false _ _ (b == 47) (not_equal b 47 slash) ∙ if_false _ _ (b == 92) (not_equal b 92 other)
@@ -212,14 +212,14 @@ second_comes text kind m first at next second o old mid both read is made =
     (comes_plain text kind m mid mid as_headed (Ok (both, next)) _ refl (second_agrees first at (as_addressed (o, next) (length mid)) second o both is made))
 
 pub line_comes : (text : List ℕ) (kind : Kind) (m : ℕ) (old : List WrittenExpression) (at b : ℕ) (result : Result (Option Address × ℕ) ScriptFault) → slice_get text at ≡ Some b → is_digit b ≡ true →
-    Agrees as_addressed (length old) result (line_of (length old) at (past Digit text at) (with_digits (Some 0) (bytes_between text at (past Digit text at)))) →
+    Agrees as_addressed (length old) result (line_address (length old) at (past Digit text at) (with_digits (Some 0) (bytes_between text at (past Digit text at)))) →
     Comes text kind m old old as_addressed result (address_at text (length old) at)
 unfolding address_at
 line_comes text kind m old at b result e d h =
     subst (λ (o : Option ℕ). Comes text kind m old old as_addressed result (address_of text (length old) at o)) (sym e)
     (rw d (comes_plain text kind m old old as_addressed result _ refl h))
 
-pub after_here : (text : List ℕ) (at start next : ℕ) (result : Result ItemOrEnd ScriptFault) → at ≤ start → start ≤ next → IfOk result (IsAfter next (length text)) → IfOk result (IsHere text at)
+pub after_here : (text : List ℕ) (at start next : ℕ) (result : Result ItemOrEnd ScriptFault) → at ≤ start → start ≤ next → IfOk result (IsItemAfter next (length text)) → IfOk result (IsHere text at)
 after_here text at start next (Err x) a b h = tt
 after_here text at start next (Ok (Is i to)) a b h = (omega (arith, a, b, h.0), h.1)
 after_here text at start next (Ok Ends) a b h = absurd h

@@ -13,9 +13,9 @@ use Rattle.std.proofs.lemmas.Slice.Eq.{bytes_eq-Decides}
 use Rattle.sedscript.specs.declared.targets.FirstLabel.{FirstLabel}
 use Rattle.sedscript.specs.declared.items.Item.{Item}
 use Rattle.sedscript.specs.Types.{Verb, Argument}
-use Rattle.sedscript.specs.Script.{is_label, counted, commands_in, label_in}
+use Rattle.sedscript.specs.Script.{is_label, count_with, commands_in, label_in}
 use Rattle.sedscript.specs.Letters.{becomes_command}
-use Rattle.sedscript.specs.Tables.{labelled, first_label, LabelsAre, is_earlier}
+use Rattle.sedscript.specs.Tables.{labelled, first_labelled, LabelsAre, is_earlier}
 
 abbrev Labels : Type 0
 Labels = BTreeMap (Bor (List ℕ)) FirstLabel
@@ -26,7 +26,7 @@ one_each true true x n e = ap suc e
 one_each true false x n e = ap suc e
 one_each false c x n e = e
 
-pub commands_snoc : (is : List Item) (i : Item) → commands_in (is ++ i ∷ []) ≡ counted (commands_in is) i
+pub commands_snoc : (is : List Item) (i : Item) → commands_in (is ++ i ∷ []) ≡ count_with (commands_in is) i
 commands_snoc [] i = refl
 commands_snoc (j ∷ is) i = one_each (becomes_command j.verb) (becomes_command i.verb) (commands_in (is ++ i ∷ [])) (commands_in is) (commands_snoc is i)
 
@@ -41,12 +41,12 @@ drop_item items k i at =
     drop-cons items k i (slice_get_within items k i at)
     ∙ (ap (λ (j : Item). j ∷ drop (suc k) items) (get_or_from_slice_get items k i i at) ∙ ap (λ (m : ℕ). i ∷ drop m items) one)
 
-pub counted_step : (items : List Item) (k n next : ℕ) (i : Item) → slice_get items k ≡ Some i → n ≡ commands_in (take k items) → next ≡ counted n i →
+pub counted_step : (items : List Item) (k n next : ℕ) (i : Item) → slice_get items k ≡ Some i → n ≡ commands_in (take k items) → next ≡ count_with n i →
     next ≡ commands_in (take (k + 1) items)
 counted_step items k n next i at e f =
-    f ∙ (ap (λ (m : ℕ). counted m i) e ∙ (sym (commands_snoc (take k items) i) ∙ ap commands_in (sym (take_item items k i at))))
+    f ∙ (ap (λ (m : ℕ). count_with m i) e ∙ (sym (commands_snoc (take k items) i) ∙ ap commands_in (sym (take_item items k i at))))
 
-counted_same : (i : Item) (m n : ℕ) → counted m i ≡ counted n i → m ≡ n
+counted_same : (i : Item) (m n : ℕ) → count_with m i ≡ count_with n i → m ≡ n
 counted_same i m n e = by_leaf (becomes_command i.verb) e
   where
     by_leaf : (b : Bool) → (if b then suc m else m) ≡ (if b then suc n else n) → m ≡ n
@@ -54,7 +54,7 @@ counted_same i m n e = by_leaf (becomes_command i.verb) e
     by_leaf false f = f
 
 -- and back
-pub counted_back : (items : List Item) (k n next : ℕ) (i : Item) → slice_get items k ≡ Some i → n ≡ commands_in (take (k + 1) items) → n ≡ counted next i →
+pub counted_back : (items : List Item) (k n next : ℕ) (i : Item) → slice_get items k ≡ Some i → n ≡ commands_in (take (k + 1) items) → n ≡ count_with next i →
     next ≡ commands_in (take k items)
 counted_back items k n next i at e f =
     counted_same i next (commands_in (take k items)) (sym f ∙ (e ∙ (ap commands_in (take_item items k i at) ∙ commands_snoc (take k items) i)))
@@ -62,12 +62,12 @@ counted_back items k n next i at e f =
 -- an item that becomes a command is counted
 pub counted_some : (items : List Item) (k n : ℕ) (i : Item) → slice_get items k ≡ Some i → n ≡ commands_in (take (k + 1) items) → becomes_command i.verb ≡ true → 1 ≤ n
 counted_some items k n i at e l =
-    let f : n ≡ counted (commands_in (take k items)) i = e ∙ (ap commands_in (take_item items k i at) ∙ commands_snoc (take k items) i) in
-    let g : counted (commands_in (take k items)) i ≡ suc (commands_in (take k items)) = rw l refl in
+    let f : n ≡ count_with (commands_in (take k items)) i = e ∙ (ap commands_in (take_item items k i at) ∙ commands_snoc (take k items) i) in
+    let g : count_with (commands_in (take k items)) i ≡ suc (commands_in (take k items)) = rw l refl in
     omega (arith, f, g)
 
 -- the commands before and after
-pub counted_in : (n : ℕ) (i : Item) (is : List Item) → counted n i + commands_in is ≡ n + commands_in (i ∷ is)
+pub counted_in : (n : ℕ) (i : Item) (is : List Item) → count_with n i + commands_in is ≡ n + commands_in (i ∷ is)
 counted_in n i is = by_leaf (becomes_command i.verb)
   where
     by_leaf : (b : Bool) → (if b then suc n else n) + commands_in is ≡ n + (if b then suc (commands_in is) else commands_in is)
@@ -84,12 +84,12 @@ some_pair true k n a b e f = rw e (rw f refl)
 
 -- the first label of a name is that of the items before, or else that of one more item
 pub first_label_snoc : (text name : List ℕ) (k n a b : ℕ) (is : List Item) (i : Item) → a ≡ k + length is → b ≡ n + commands_in is →
-    first_label text name k n (is ++ i ∷ []) ≡ option_or (first_label text name k n is) (if is_label text name i.verb i.argument then Some (record { item = a; number = b }) else None)
+    first_labelled text name k n (is ++ i ∷ []) ≡ option_or (first_labelled text name k n is) (if is_label text name i.verb i.argument then Some (record { item = a; number = b }) else None)
 first_label_snoc text name k n a b [] i e f = some_pair (is_label text name i.verb i.argument) k n a b (e ∙ omega arith) (f ∙ omega arith)
 first_label_snoc text name k n a b (j ∷ is) i e f =
-    option_or_if (is_label text name j.verb j.argument) (record { item = k; number = n }) (first_label text name (suc k) (counted n j) (is ++ i ∷ [])) (first_label text name (suc k) (counted n j) is)
+    option_or_if (is_label text name j.verb j.argument) (record { item = k; number = n }) (first_labelled text name (suc k) (count_with n j) (is ++ i ∷ [])) (first_labelled text name (suc k) (count_with n j) is)
     (if is_label text name i.verb i.argument then Some (record { item = a; number = b }) else None)
-    (first_label_snoc text name (suc k) (counted n j) a b is i (e ∙ omega arith) (f ∙ sym (counted_in n j is)))
+    (first_label_snoc text name (suc k) (count_with n j) a b is i (e ∙ omega arith) (f ∙ sym (counted_in n j is)))
 
 pub labels_step : (text : List ℕ) (items : List Item) (k n : ℕ) (i : Item) (old new : Labels) → slice_get items k ≡ Some i → n ≡ commands_in (take k items) → LabelsAre text (take k items) old →
     ((name : List ℕ) → labelled new name ≡ option_or (labelled old name) (if is_label text name i.verb i.argument then Some (record { item = k; number = n }) else None)) →
@@ -100,11 +100,11 @@ labels_step text items k n i old new at e are added = λ name.
     let long : length (take k items) ≡ k = length-take-le k items (omega (arith, h)) in
     added name ∙ (ap (λ (o : Option FirstLabel). option_or o last) (are name)
     ∙ (sym (first_label_snoc text name 0 0 k n (take k items) i (sym long ∙ omega arith) (e ∙ omega arith))
-    ∙ ap (first_label text name 0 0) (sym (take_item items k i at))))
+    ∙ ap (first_labelled text name 0 0) (sym (take_item items k i at))))
 
-pub label_of_first : (text name : List ℕ) (k n : ℕ) (is : List Item) → label_in text name n is ≡ option_map (λ (l : FirstLabel). l.number) (first_label text name k n is)
+pub label_of_first : (text name : List ℕ) (k n : ℕ) (is : List Item) → label_in text name n is ≡ option_map (λ (l : FirstLabel). l.number) (first_labelled text name k n is)
 label_of_first text name k n [] = refl
-label_of_first text name k n (i ∷ is) = by_label (is_label text name i.verb i.argument) (label_in text name (counted n i) is) (first_label text name (suc k) (counted n i) is) (label_of_first text name (suc k) (counted n i) is)
+label_of_first text name k n (i ∷ is) = by_label (is_label text name i.verb i.argument) (label_in text name (count_with n i) is) (first_labelled text name (suc k) (count_with n i) is) (label_of_first text name (suc k) (count_with n i) is)
   where
     by_label : (b : Bool) (x : Option ℕ) (y : Option FirstLabel) → x ≡ option_map (λ (l : FirstLabel). l.number) y → (if b then Some n else x) ≡ option_map (λ (l : FirstLabel). l.number) (if b then Some (record { item = k; number = n }) else y)
     by_label true x y e = refl
@@ -115,7 +115,7 @@ eq_more j k = elim (eqb_tells j (j + suc k)) [ inl h ↦ absurd (omega (arith, h
 
 -- whether an earlier item has the label is told by the index of the first that has it
 pub earlier_label : (text name : List ℕ) (k j n m t : ℕ) (is : List Item) (i : Item) → slice_get is k ≡ Some i → is_label text name i.verb i.argument ≡ true → t ≡ j + k →
-    is_earlier t (first_label text name j m is) ≡ is_some (label_in text name n (take k is))
+    is_earlier t (first_labelled text name j m is) ≡ is_some (label_in text name n (take k is))
 earlier_label text name k j n m t [] i e l f = let g : ◌≡◌ {A = Option Item} None (Some i) = e in cc
 earlier_label text name zero j n m t (x ∷ is) i e l f =
     let same : x ≡ i = cc in
@@ -123,8 +123,8 @@ earlier_label text name zero j n m t (x ∷ is) i e l f =
     let tj : t ≡ j = f ∙ omega arith in
     rw lx (rw tj (rw ((Decides-eqb j j).1 refl) refl))
 earlier_label text name (suc k) j n m t (x ∷ is) i e l f =
-    by_label (is_label text name x.verb x.argument) (first_label text name (suc j) (counted m x) is) (label_in text name (counted n x) (take k is))
-    (earlier_label text name k (suc j) (counted n x) (counted m x) t is i e l (f ∙ omega arith))
+    by_label (is_label text name x.verb x.argument) (first_labelled text name (suc j) (count_with m x) is) (label_in text name (count_with n x) (take k is))
+    (earlier_label text name k (suc j) (count_with n x) (count_with m x) t is i e l (f ∙ omega arith))
   where
     by_label : (b : Bool) (y : Option FirstLabel) (z : Option ℕ) → is_earlier t y ≡ is_some z →
         is_earlier t (if b then Some (record { item = j; number = m }) else y) ≡ is_some (if b then Some n else z)

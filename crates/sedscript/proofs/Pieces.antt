@@ -8,7 +8,7 @@ use Rattle.sedscript.specs.declared.substitution.ReplacementPart.TheVariants.{Li
 use Rattle.sedscript.specs.Bytes.{is_digit}
 use Rattle.sedscript.specs.Strings.{escapes, escaped_piece, piece_of, pieces_from, pieces_of, is_letter}
 use Rattle.sedscript.specs.Types.{Piece, literal, whole, group}
-use Rattle.sedscript.specs.Pieces.{pieces_in, GroupsWithin}
+use Rattle.sedscript.specs.Pieces.{pieces_in, PieceGroupsWithin}
 use Rattle.sedscript.specs.Answers.{pieces_with}
 
 pub pieces_append : (ps qs : List ReplacementPart) → pieces_in (ps ++ qs) ≡ pieces_in ps ++ pieces_in qs
@@ -52,20 +52,20 @@ piece_within : (d : ℕ) (escaped : Bool) (b : ℕ) → OfPiece 9 (piece_of d es
 piece_within d true b = escaped_within d b
 piece_within d false b = if_within 9 (b == 92) _ _ (λ _. tt) (λ _. if_within 9 (b == 38) _ _ (λ _. tt) (λ _. tt))
 
-with_within : (n : ℕ) (o : Option Piece) (ps : List Piece) → OfPiece n o → GroupsWithin n ps → GroupsWithin n (cons_option o ps)
+with_within : (n : ℕ) (o : Option Piece) (ps : List Piece) → OfPiece n o → PieceGroupsWithin n ps → PieceGroupsWithin n (cons_option o ps)
 with_within n (Some (group k)) ps h g = (h.0, h.1, g)
 with_within n other ps h g = g
 
-from_within : (d : ℕ) (escaped : Bool) (bs : List ℕ) → GroupsWithin 9 (pieces_from d escaped bs)
+from_within : (d : ℕ) (escaped : Bool) (bs : List ℕ) → PieceGroupsWithin 9 (pieces_from d escaped bs)
 from_within d escaped [] = tt
 from_within d escaped (b ∷ bs) = with_within 9 (piece_of d escaped b) _ (piece_within d escaped b) (from_within d (escapes escaped b) bs)
 
 -- each group of a replacement is one of a digit
-pub pieces_within : (d : ℕ) (bs : List ℕ) → GroupsWithin 9 (pieces_of d bs)
+pub pieces_within : (d : ℕ) (bs : List ℕ) → PieceGroupsWithin 9 (pieces_of d bs)
 pieces_within d bs = from_within d false bs
 
 -- at the end of a text nothing is left
-pub parts_within : (d k : ℕ) (escaped : Bool) (bs : List ℕ) (ps qs : List Piece) → length bs ≤ k → pieces_of d bs ≡ ps ++ pieces_from d escaped (drop k bs) → qs ≡ ps → GroupsWithin 9 qs
+pub parts_within : (d k : ℕ) (escaped : Bool) (bs : List ℕ) (ps qs : List Piece) → length bs ≤ k → pieces_of d bs ≡ ps ++ pieces_from d escaped (drop k bs) → qs ≡ ps → PieceGroupsWithin 9 qs
 parts_within d k escaped bs ps qs le e is =
     let none : drop k bs ≡ [] = drop_of_length-le bs le in
-    subst (GroupsWithin 9) (e ∙ (ap (λ (z : List ℕ). ps ++ pieces_from d escaped z) none ∙ (append-nil ps ∙ sym is))) (pieces_within d bs)
+    subst (PieceGroupsWithin 9) (e ∙ (ap (λ (z : List ℕ). ps ++ pieces_from d escaped z) none ∙ (append-nil ps ∙ sym is))) (pieces_within d bs)

@@ -3,7 +3,7 @@ use Rattle.std.proofs.Common.{◌≡◌, ℕ, zero, suc, ◌+◌, ◌-◌, ◌<�
 use Rattle.std.specs.Option.{option_len, option_or}
 use Rattle.std.specs.Result.{IsErrAnd}
 use Rattle.sedre.specs.declared.types.Kind.{Kind}
-use Rattle.sedre.specs.declared.types.Reason.{Reason as ExprReason}
+use Rattle.sedre.specs.declared.types.ExprReason.{ExprReason}
 use Rattle.sedre.specs.Tree.{WrittenExpression}
 use Rattle.sedre.specs.Grammar.{ExprFaulty}
 use Rattle.sedre.specs.Brackets.{first_delimiter, next_place, delimiter_at}
@@ -31,8 +31,8 @@ use Rattle.std.specs.List.{cons_option, prefix_len, take_while}
 use Rattle.std.proofs.lemmas.List.Sums.{prefix_len-le-length}
 use Rattle.sedscript.specs.Bytes.{past, belongs, bytes_between, is_digit, is_byte, with_digits, or_fault, ◌>>=◌ as ◌then◌, fault_if}
 use Rattle.sedscript.specs.Strings.{escapes, string_end, escaped_piece, exceeds, piece_fault, replacement_fault, escaped_byte, char_of, chars_from, chars_of, string_fault, is_among, repeated_in, strings_fault, repeated_fault}
-use Rattle.sedscript.specs.Arguments.{to_command_end, may_end, text_end, text_from, name_from, spanned, no_flags, numbered, with_number, with_flag, flags_from, own_delimiter, strings_after, substitute_strings, transliterate_strings, unless_fault, flags_after, with_file, ends_flags}
-use Rattle.sedscript.specs.Items.{Reading, plainly, expression, ◌>>=◌, Addressed, Headed, with_addresses, line_of, folds_at, past_flag, match_at, own_match, address_of, address_at, with_second, second_at, after_first, addresses_at, with_bang, substitute_with, substitute_at, argument_with, function_at, item_from, item_at, item_of, match_to, function_after, item_with}
+use Rattle.sedscript.specs.Arguments.{to_command_end, may_end, text_end, text_from, name_from, spanned, no_flags, with_flag_number, with_number, with_flag, flags_from, own_delimiter, strings_after, substitute_strings, transliterate_strings, unless_fault, flags_after, with_file, ends_flags}
+use Rattle.sedscript.specs.Items.{Reading, plainly, expression, ◌>>=◌, Addressed, Headed, with_addresses, line_address, folds_at, past_flag, match_at, own_match, address_of, address_at, with_second, second_at, after_first, addresses_at, with_bang, substitute_with, substitute_at, argument_with, function_at, item_from, item_at, item_of, match_to, function_after, item_with}
 use Rattle.sedscript.specs.Letters.{verb_of, most_addresses, allowed, label_at, transliterate_at, substituted, argument_of}
 use Rattle.sedscript.specs.Script.{Gives, value, after_expression, CutScript, done, item, target_fault_at, target_fault_in, depth_after, block_end, written_in, branch_in, label_in}
 use Rattle.sedscript.specs.FirstFault.{Fails, own, no_expression, later, Faulty, early, afterwards}
@@ -359,7 +359,7 @@ FlagsWithin f = 1 ≤ unwrap_or f.number 1
 abbrev FlagsUpTo : ℕ → Flags × ℕ → Type 0
 FlagsUpTo n found = FlagsWithin found.0 × (found.1 ≤ n)
 
-numbered_read : (n : ℕ) (f : Flags) (at : ℕ) (o : Option ℕ) → at ≤ n → ReadUpTo FlagsWithin n (numbered f at o)
+numbered_read : (n : ℕ) (f : Flags) (at : ℕ) (o : Option ℕ) → at ≤ n → ReadUpTo FlagsWithin n (with_flag_number f at o)
 numbered_read n f at (Some (suc k)) le = omega arith
 numbered_read n f at other le = le
 
@@ -454,7 +454,7 @@ AddressedUpTo n count x = (x.count ≡ count) × AddressWithin count x.address �
 abbrev HeadedUpTo : ℕ → ℕ → Headed → Type 0
 HeadedUpTo n count h = (h.count ≡ count) × AddressesWithin count h.addresses × (h.at ≤ n)
 
-line_read : (n count from to : ℕ) (o : Option ℕ) → from ≤ n → to ≤ n → ReadUpTo (AddressedUpTo n count) n (line_of count from to o)
+line_read : (n count from to : ℕ) (o : Option ℕ) → from ≤ n → to ≤ n → ReadUpTo (AddressedUpTo n count) n (line_address count from to o)
 line_read n count from to (Some (suc k)) low high = (refl, omega arith, high)
 line_read n count from to other low high = low
 

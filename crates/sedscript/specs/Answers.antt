@@ -3,8 +3,8 @@
 use Rattle.std.specs.Prelude.{◌≡◌, ◌≢◌, ◌<◌, ◌≤◌, ◌⊎◌, ℕ, List, ◌++◌, map, drop, length, Bool, true, false, Option, if◌then◌else◌, Result, Ok, Err}
 use Rattle.std.specs.List.{range_with_len}
 use Rattle.sedre.specs.declared.types.Kind.{Kind}
-use Rattle.sedre.specs.declared.types.Reason.{Reason as ExprReason}
-use Rattle.sedre.specs.declared.types.Reason.TheVariants.{NoMemory}
+use Rattle.sedre.specs.declared.types.ExprReason.{ExprReason}
+use Rattle.sedre.specs.declared.types.ExprReason.TheVariants.{NoMemory}
 use Rattle.sedre.specs.declared.types.ExprFault.{ExprFault}
 use Rattle.sedre.specs.Tree.{WrittenExpression}
 use Rattle.sedscript.specs.Types.{ScriptFault, Address, Addresses, Item, Strings, Argument, ItemOrEnd, Is, Ends, Flags, Piece, literal}
@@ -63,9 +63,9 @@ pub record AreStrings (at len : ℕ) (s : Strings) : Type 0 where
   pub inside : s.to < len
 
 -- what was read is between a place and the end
-abbrev pub IsAfter : ℕ → ℕ → ItemOrEnd → Type 0
-IsAfter at len (Is item next) = (at < next) × (next ≤ len)
-IsAfter at len Ends = ⊥
+abbrev pub IsItemAfter : ℕ → ℕ → ItemOrEnd → Type 0
+IsItemAfter at len (Is item next) = (at < next) × (next ≤ len)
+IsItemAfter at len Ends = ⊥
 
 -- what is at a place: an item that ends after it, or the end
 abbrev pub IsHere : List ℕ → ℕ → ItemOrEnd → Type 0
@@ -95,5 +95,5 @@ abbrev pub pieces_with : List ReplacementPart → List ℕ → List Piece
 pieces_with parts bytes = pieces_in parts ++ map literal bytes
 
 -- whether each byte is one of these
-unfoldable pub marks_of : List ℕ → List Bool
-marks_of bs = map (is_among bs) (range_with_len 0 256)
+unfoldable pub marks_of_bytes : List ℕ → List Bool
+marks_of_bytes bs = map (is_among bs) (range_with_len 0 256)

@@ -19,9 +19,9 @@ to_command_end text a at =
     else fault TrailingBytes (past Blank text at)
 
 -- whether a text ends before this byte: a newline that isn't escaped
-abbrev pub stops : Inside → ℕ → Bool
-stops Escape b = false
-stops how b = b == 10
+abbrev pub ends_text : Inside → ℕ → Bool
+ends_text Escape b = false
+ends_text how b = b == 10
 
 -- where the byte after this one is: within a line, after a backslash that escapes it, or where a further line is due
 abbrev pub inside_after : Inside → ℕ → Inside
@@ -32,7 +32,7 @@ inside_after how b = if b == 92 then Escape else InLine
 abbrev pub text_end : Inside → ℕ → List ℕ → Option ℕ
 text_end InLine at [] = Some at
 text_end how at [] = None
-text_end how at (b ∷ bs) = if stops how b then Some at else text_end (inside_after how b) (suc at) bs
+text_end how at (b ∷ bs) = if ends_text how b then Some at else text_end (inside_after how b) (suc at) bs
 
 -- where the text of `a`, `i` or `c` that is due at a place, after its letter and blanks, begins and ends. Without a backslash
 -- and a newline before it it has one line and isn't empty; after these it may be (both this project's own)
@@ -57,13 +57,13 @@ abbrev pub no_flags : Flags
 no_flags = record { number = None; global = false; print = false; folded = false; file = None }
 
 -- the flags with this number, whose digits begin at a place: from 1 to 2 ^ 64 - 1 (the end, and leading zeros: this project's own)
-abbrev pub numbered : Flags → ℕ → Option ℕ → Result Flags ScriptFault
-numbered f at (Some (suc n)) = Ok (record f { number = Some (suc n) })
-numbered f at number = fault BadNumber at
+abbrev pub with_flag_number : Flags → ℕ → Option ℕ → Result Flags ScriptFault
+with_flag_number f at (Some (suc n)) = Ok (record f { number = Some (suc n) })
+with_flag_number f at number = fault BadNumber at
 
 -- the flags with the number that these digits at a place write, if they have none (this project's own)
 abbrev pub with_number : Flags → ℕ → List ℕ → Result Flags ScriptFault
-with_number f at digits = if is_some f.number then fault RepeatedFlag at else numbered f at (with_digits (Some 0) digits)
+with_number f at digits = if is_some f.number then fault RepeatedFlag at else with_flag_number f at (with_digits (Some 0) digits)
 
 -- these flags, unless the one at a place was there already (this project's own)
 abbrev pub once : (already : Bool) → ℕ → Flags → Result Flags ScriptFault

@@ -31,13 +31,13 @@ pub record Addressed : Type 0 where
   pub at : ℕ
   pub count : ℕ
 
-abbrev pub found : Option Address → ℕ → ℕ → Result Addressed ScriptFault
-found address at count = Ok (record { address = address; at = at; count = count })
+abbrev pub address_found : Option Address → ℕ → ℕ → Result Addressed ScriptFault
+address_found address at count = Ok (record { address = address; at = at; count = count })
 
 -- the address of the line whose number has its digits between two places: 1 to 2 ^ 64 - 1, zeros before it or not (this project's own)
-abbrev pub line_of : ℕ → ℕ → ℕ → Option ℕ → Result Addressed ScriptFault
-line_of count from to (Some (suc n)) = found (Some (Line (suc n))) to count
-line_of count from to number = fault BadAddress from
+abbrev pub line_address : ℕ → ℕ → ℕ → Option ℕ → Result Addressed ScriptFault
+line_address count from to (Some (suc n)) = address_found (Some (Line (suc n))) to count
+line_address count from to number = fault BadAddress from
 
 -- whether the flag `I` is at a place (this project's own)
 abbrev pub folds_at : List ℕ → ℕ → Bool
@@ -49,14 +49,14 @@ past_flag text at = if folds_at text at then at + 1 else at
 
 -- the address of the empty regular expression, which ends before a place. It has no number, and takes no flag (this project's own)
 abbrev pub empty_match : List ℕ → ℕ → ℕ → Result Addressed ScriptFault
-empty_match text count at = if folds_at text at then fault FlagOnEmpty at else found (Some (Match None)) at count
+empty_match text count at = if folds_at text at then fault FlagOnEmpty at else address_found (Some (Match None)) at count
 
 -- the address of the regular expression that begins after the delimiter at a place, given where it ends, if it does
 abbrev pub match_to : List ℕ → ℕ → ℕ → ℕ → Option ℕ → Reading Addressed
 match_to text count delimiter place end = plainly (or_fault end OpenDelimiter place) >>= λ to.
     if to == place + 1 then plainly (empty_match text count (to + 1))
     else expression (record { from = place + 1; to = to; delimiter = delimiter; folded = folds_at text (to + 1) })
-    (λ groups. plainly (found (Some (Match (Some count))) (past_flag text (to + 1)) (count + 1)))
+    (λ groups. plainly (address_found (Some (Match (Some count))) (past_flag text (to + 1)) (count + 1)))
 
 -- the address of the regular expression after the delimiter at a place, with its flag `I`
 unfoldable pub match_at : List ℕ → ℕ → ℕ → ℕ → Reading Addressed
@@ -68,13 +68,13 @@ own_match text count place own = plainly (or_fault own BadDelimiter place) >>= �
 
 -- the address at a place, given the byte there, if one begins with it: a number, `$`, `/RE/` or `\cREc`
 abbrev pub address_of : List ℕ → ℕ → ℕ → Option ℕ → Reading Addressed
-address_of text count at None = plainly (found None at count)
+address_of text count at None = plainly (address_found None at count)
 address_of text count at (Some b) =
-    if is_digit b then plainly (line_of count at (past Digit text at) (with_digits (Some 0) (bytes_between text at (past Digit text at))))
-    else if b == 36 then plainly (found (Some Last) (at + 1) count)
+    if is_digit b then plainly (line_address count at (past Digit text at) (with_digits (Some 0) (bytes_between text at (past Digit text at))))
+    else if b == 36 then plainly (address_found (Some Last) (at + 1) count)
     else if b == 47 then match_at text count 47 at
     else if b == 92 then own_match text count (at + 1) (own_delimiter (slice_get text (at + 1)))
-    else plainly (found None at count)
+    else plainly (address_found None at count)
 
 -- the address at a place, if one is there
 unfoldable pub address_at : List ℕ → ℕ → ℕ → Reading Addressed

@@ -13,7 +13,7 @@ pieces_in (Whole ∷ ps) = whole ∷ pieces_in ps
 pieces_in (Group k ∷ ps) = group k ∷ pieces_in ps
 
 -- the groups of the pieces have numbers from 1 to this one
-abbrev pub GroupsWithin : ℕ → List Piece → Type 0
-GroupsWithin n [] = Unit {0}
-GroupsWithin n (group k ∷ ps) = (1 ≤ k) × (k ≤ n) × GroupsWithin n ps
-GroupsWithin n (other ∷ ps) = GroupsWithin n ps
+abbrev pub PieceGroupsWithin : ℕ → List Piece → Type 0
+PieceGroupsWithin n [] = Unit {0}
+PieceGroupsWithin n (group k ∷ ps) = (1 ≤ k) × (k ≤ n) × PieceGroupsWithin n ps
+PieceGroupsWithin n (other ∷ ps) = PieceGroupsWithin n ps

@@ -37,7 +37,7 @@ pub record SubstitutionWithin (p : Program) (s : Substitution) : Type 0 where
 
 -- each command and each substitution is in range, no expression has more nodes than allowed, and each table has
 -- all bytes
-pub record InRange (p : Program) : Type 0 where
+pub record IsWithinRanges (p : Program) : Type 0 where
   pub each : (i : ℕ) (c : Command) → slice_get p.commands i ≡ Some c → CommandWithin p c
   pub nodes : (k : ℕ) (e : WrittenExpression) → slice_get p.expressions k ≡ Some e → length e.nodes ≤ p.max_nodes
   pub substitutions : (k : ℕ) (s : Substitution) → slice_get p.substitutions k ≡ Some s →

@@ -108,8 +108,8 @@ abbrev pub sink_of : List ℕ → List Item → Flags → Option ℕ
 sink_of text items f = option_map (number_in Write text items) (sink_name text f)
 
 -- the number of commands up to and including this item, given the number before it
-abbrev pub counted : ℕ → Item → ℕ
-counted n i = if becomes_command i.verb then suc n else n
+abbrev pub count_with : ℕ → Item → ℕ
+count_with n i = if becomes_command i.verb then suc n else n
 
 -- how many commands the items become
 abbrev pub commands_in : List Item → ℕ
@@ -124,7 +124,7 @@ is_label text name verb a = false
 -- the number of the command after the first label of this name, with so many commands before the items
 abbrev pub label_in : List ℕ → List ℕ → ℕ → List Item → Option ℕ
 label_in text name n [] = None
-label_in text name n (i ∷ is) = if is_label text name i.verb i.argument then Some n else label_in text name (counted n i) is
+label_in text name n (i ∷ is) = if is_label text name i.verb i.argument then Some n else label_in text name (count_with n i) is
 
 -- where a branch to this label leads: an empty one stands for the end of the script
 abbrev pub branch_in : List ℕ → List Item → List ℕ → Option ℕ
@@ -140,7 +140,7 @@ abbrev pub close_in : ℕ → ℕ → List Item → Option ℕ
 close_in depth n [] = None
 close_in depth n (i ∷ is) =
     if is_close i.verb && depth == 0 then Some n
-    else close_in (depth_after depth i.verb) (counted n i) is
+    else close_in (depth_after depth i.verb) (count_with n i) is
 
 -- the end of the block whose brace is between these items
 abbrev pub block_end : List Item → List Item → Option ℕ

@@ -4,7 +4,7 @@ use Rattle.std.specs.List.{cons_option, list_any, range_with_len}
 use Rattle.std.specs.Option.{option_or}
 use Rattle.sedscript.specs.Types.{ScriptFault, BadEscape, GroupAbsent, LengthsDiffer, RepeatedByte, Piece, literal, whole, group, Char}
 use Rattle.sedscript.specs.Bytes.{is_digit, bytes_between, fault_if}
-pub use Rattle.sedre.specs.Items.{is_letter}
+pub use Rattle.sedre.specs.Tokens.{is_letter}
 
 -- whether a byte is a backslash that escapes the next one, given whether it is escaped itself
 abbrev pub escapes : Bool → ℕ → Bool

@@ -11,16 +11,16 @@ use Rattle.sedscript.specs.declared.targets.FirstLabel.{FirstLabel}
 use Rattle.sedscript.specs.declared.files.Files.{Files}
 use Rattle.sedscript.specs.declared.files.NumberedFiles.{NumberedFiles}
 use Rattle.sedscript.specs.Types.{Item, Verb}
-use Rattle.sedscript.specs.Script.{read_files, written_files, is_label, counted, commands_in, close_in, block_end}
+use Rattle.sedscript.specs.Script.{read_files, written_files, is_label, count_with, commands_in, close_in, block_end}
 use Rattle.sedscript.specs.Letters.{is_open, is_close}
 
 -- the first item with a label of this name, and the number of the command after it, where the items begin with this
 -- index and so many commands before them
-abbrev pub first_label : List ℕ → List ℕ → ℕ → ℕ → List Item → Option FirstLabel
-first_label text name k n [] = None
-first_label text name k n (i ∷ is) =
+abbrev pub first_labelled : List ℕ → List ℕ → ℕ → ℕ → List Item → Option FirstLabel
+first_labelled text name k n [] = None
+first_labelled text name k n (i ∷ is) =
     if is_label text name i.verb i.argument then Some (record { item = k; number = n })
-    else first_label text name (suc k) (counted n i) is
+    else first_labelled text name (suc k) (count_with n i) is
 
 -- whether the first item with a label is another one than that at an index; false where no item has the label
 abbrev pub is_earlier : ℕ → Option FirstLabel → Bool
@@ -33,7 +33,7 @@ labelled m name = get_by (λ x. slice_cmp nat_cmp name x.now) m
 
 -- the map has the first item with a label of each name
 abbrev pub LabelsAre : List ℕ → List Item → BTreeMap (Bor (List ℕ)) FirstLabel → Type 0
-LabelsAre text items m = (name : List ℕ) → labelled m name ≡ first_label text name 0 0 items
+LabelsAre text items m = (name : List ℕ) → labelled m name ≡ first_labelled text name 0 0 items
 
 -- where the closing braces from a function on lead that close no block opened there, in order, with `n` commands before
 -- the function, given where those after it lead
@@ -43,7 +43,7 @@ unopened_by n verb ends = if is_close verb then n ∷ ends else if is_open verb 
 -- where the closing braces of the items lead that close no block opened there, in order, with `n` commands before them
 abbrev pub unopened : ℕ → List Item → List ℕ
 unopened n [] = []
-unopened n (i ∷ is) = unopened_by n i.verb (unopened (counted n i) is)
+unopened n (i ∷ is) = unopened_by n i.verb (unopened (count_with n i) is)
 
 -- the number of blocks opened up to and including a function, given the number before it
 abbrev pub opened : ℕ → Verb → ℕ
@@ -61,7 +61,7 @@ with_end verb end ends = if is_open verb then end ∷ ends else ends
 -- the end of each block that the items open, in order, with so many commands before them
 abbrev pub ends_in : ℕ → List Item → List (Option ℕ)
 ends_in n [] = []
-ends_in n (i ∷ is) = with_end i.verb (close_in 0 (counted n i) is) (ends_in (counted n i) is)
+ends_in n (i ∷ is) = with_end i.verb (close_in 0 (count_with n i) is) (ends_in (count_with n i) is)
 
 -- where a function between these items opens a block, that ends there
 abbrev pub EndIs : List Item → List Item → Verb → Option ℕ → Type 0

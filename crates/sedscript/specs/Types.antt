@@ -1,6 +1,6 @@
 -- The types of src/ that the definitions speak of.
 pub use Rattle.sedre.specs.declared.types.Kind.{Kind}
-pub use Rattle.sedre.specs.declared.types.Reason.{Reason as ExprReason}
+pub use Rattle.sedre.specs.declared.types.ExprReason.{ExprReason}
 pub use Rattle.sedscript.specs.declared.types.ScriptFault.{ScriptFault}
 pub use Rattle.sedscript.specs.declared.types.Reason.{Reason}
 pub use Rattle.sedscript.specs.declared.types.Reason.TheVariants.{BadAddress, BadDelimiter, BadEscape, BadNumber, Expression, FlagOnEmpty, GroupAbsent, LengthsDiffer, MissingLabel, MissingName, MissingText, NoMemory, OpenBlock, OpenDelimiter, RepeatedByte, RepeatedFlag, RepeatedLabel, StrayClose, TooManyAddresses, TrailingBytes, UnknownCommand, UnknownFlag, UnknownLabel}

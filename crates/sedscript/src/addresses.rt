@@ -3,7 +3,7 @@
 ghost use Rattle.std.specs.Prelude.{◌≡◌, ◌≢◌, ◌≤◌, ◌<◌, ◌+◌, ℕ, Option, Some, length, slice_get, IfOk};
 ghost use Rattle.sedscript.specs.declared.types.Address.{Address};
 ghost use Rattle.sedscript.specs.Bytes.{bytes_between, with_digits};
-ghost use Rattle.sedscript.specs.Items.{folds_at, past_flag, match_at, own_match, address_at, after_first, second_at, addresses_at, with_bang, addresses_of, line_of, empty_match};
+ghost use Rattle.sedscript.specs.Items.{folds_at, past_flag, match_at, own_match, address_at, after_first, second_at, addresses_at, with_bang, addresses_of, line_address, empty_match};
 ghost use Rattle.sedscript.specs.Arguments.{own_delimiter};
 ghost use Rattle.sedscript.specs.Answers.{as_addressed, as_headed, ComesFrom, Agrees};
 
@@ -18,7 +18,7 @@ use sedre::{Expr, delimited};
 fn line_at(text: &[u8], from: usize, to: usize) -> Result<(Option<Address>, usize), ScriptFault>
     requires { (from ≤ to) × (to ≤ length text.now) }
     ensures is { (count : ℕ) → Agrees as_addressed count result
-        (line_of count from to (with_digits (Some 0) (bytes_between text.now from to))) }
+        (line_address count from to (with_digits (Some 0) (bytes_between text.now from to))) }
     ensures to { IfOk result (λ found. found.1 ≡ to) }
 {
     match number_of(&text[from..to]) {

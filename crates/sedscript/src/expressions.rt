@@ -1,7 +1,7 @@
 //! Regular expressions in a script.
 
 ghost use Rattle.std.specs.Prelude.{◌≡◌, ◌≢◌, ◌≤◌, ◌<◌, ◌+◌, ◌++◌, ◌∷◌, [], ◌⊎◌, ℕ, Ok, Some, length, IfOk, IfErr, OnOk};
-ghost use Rattle.sedre.specs.declared.types.Reason.{Reason as ExprReason};
+ghost use Rattle.sedre.specs.declared.types.ExprReason.{ExprReason};
 ghost use Rattle.sedre.specs.declared.types.TheConstants.{NO_MEMORY as NO_EXPR_MEMORY};
 ghost use Rattle.sedre.specs.Tree.{expression_tree};
 ghost use Rattle.sedre.specs.Grammar.{ReadsAs, ExprFaulty};
@@ -20,7 +20,7 @@ fn fault_of(from: usize, fault: ExprFault) -> ScriptFault
     ensures { result ≡ fault_of from fault }
 {
     match fault.reason {
-        sedre::Reason::NoMemory => NO_MEMORY,
+        sedre::ExprReason::NoMemory => NO_MEMORY,
         _ => Reason::Expression(fault).at(from + fault.place),
     }
 }

@@ -2,7 +2,7 @@
 
 ghost use Rattle.std.specs.Prelude.{◌≡◌, ◌≤◌, ◌<◌, length, IfOk};
 ghost use Rattle.sedscript.specs.Items.{substitute_at, argument_with, function_at, item_at, item_of};
-ghost use Rattle.sedscript.specs.Answers.{as_argument, as_here, ComesFrom, IsAfter, IsHere};
+ghost use Rattle.sedscript.specs.Answers.{as_argument, as_here, ComesFrom, IsItemAfter, IsHere};
 
 use crate::addresses::{addresses_at, with_bang};
 use crate::between::{folds, strings_at};
@@ -90,7 +90,7 @@ fn function_at(
     requires { at ≤ length source.now.text.now }
     ensures comes { ComesFrom source.now exprs.old.items exprs.new.items as_here result
         (function_at source.now.text.now (length exprs.old.items) addresses at) }
-    ensures within { IfOk result (IsAfter at (length source.now.text.now)) }
+    ensures within { IfOk result (IsItemAfter at (length source.now.text.now)) }
 {
     let Some(letter) = byte_at(source.text, at) else {
         return Err(Reason::UnknownCommand.at(at));

@@ -6,7 +6,7 @@ ghost use Rattle.sedre.specs.Tree.{expression_tree};
 ghost use Rattle.sedscript.specs.Script.{Means};
 ghost use Rattle.sedscript.specs.Program.{Program};
 ghost use Rattle.sedscript.specs.FirstFault.{Faulty};
-ghost use Rattle.sedscript.specs.Ranges.{InRange};
+ghost use Rattle.sedscript.specs.Ranges.{IsWithinRanges};
 ghost use Rattle.sedscript.specs.declared.types.ScriptFault.{ScriptFault};
 
 use sedre::laws::reads_as_one;
@@ -44,5 +44,5 @@ pub fn one_meaning()
 /// The numbers in a script that a text means are in range.
 pub fn in_range()
     ensures { (text : List ℕ) (kind : Kind) (max_nodes : ℕ) (s : Program) →
-        Means text kind max_nodes s → InRange s }
+        Means text kind max_nodes s → IsWithinRanges s }
 {}

@@ -3,7 +3,7 @@
 ghost use Rattle.std.specs.Prelude.{◌≡◌, ◌≤◌, ◌<◌, ◌+◌, ◌++◌, ◌∷◌, [], false, length, IfOk, OnOk};
 ghost use Rattle.sedscript.specs.Bytes.{bytes_between};
 ghost use Rattle.sedscript.specs.Strings.{escaped_piece, piece_of, pieces_of, exceeds, piece_fault, replacement_fault};
-ghost use Rattle.sedscript.specs.Pieces.{pieces_in, GroupsWithin};
+ghost use Rattle.sedscript.specs.Pieces.{pieces_in, PieceGroupsWithin};
 ghost use Rattle.sedscript.specs.Answers.{pieces_with};
 
 use crate::items::Strings;
@@ -140,7 +140,7 @@ pub fn parts_of(
     delimiter: u8,
 ) -> Result<Vec<ReplacementPart>, AllocError>
     ensures is { IfOk result (λ v. pieces_in v.items ≡ pieces_of delimiter bytes.now) }
-    ensures within { IfOk result (λ v. GroupsWithin 9 (pieces_in v.items)) }
+    ensures within { IfOk result (λ v. PieceGroupsWithin 9 (pieces_in v.items)) }
 {
     let mut parts = Vec::new(alloc);
     let mut run = Vec::new(alloc);

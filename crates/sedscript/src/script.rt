@@ -42,24 +42,24 @@ pub struct Script {
 
 impl Model for Script {
     ghost use Rattle.sedscript.specs.Program.{Program};
-    ghost use Rattle.sedscript.specs.Ranges.{InRange};
+    ghost use Rattle.sedscript.specs.Ranges.{IsWithinRanges};
     ghost use Rattle.sedscript.specs.Parts.{program_of};
 
     ghost Value = { Program };
 
     ghost view = { λ s. program_of s.commands.items s.named s.quiet s.max_nodes };
 
-    ghost invariant = { λ s. InRange (program_of s.commands.items s.named s.quiet s.max_nodes) };
+    ghost invariant = { λ s. IsWithinRanges (program_of s.commands.items s.named s.quiet s.max_nodes) };
 }
 
 impl Script {
     ghost use Rattle.sedscript.specs.Program.{Program};
-    ghost use Rattle.sedscript.specs.Ranges.{InRange, CommandWithin, SubstitutionWithin};
+    ghost use Rattle.sedscript.specs.Ranges.{IsWithinRanges, CommandWithin, SubstitutionWithin};
     ghost use Rattle.sedscript.specs.Parts.{program_of};
 
     /// A script of these parts.
     pub(crate) fn of(commands: Vec<Command>, named: Named, quiet: bool, max_nodes: usize) -> Script
-        requires { InRange (program_of commands.items named quiet max_nodes) }
+        requires { IsWithinRanges (program_of commands.items named quiet max_nodes) }
         ensures { result ≡ program_of commands.items named quiet max_nodes }
     {
         Script {

@@ -1,7 +1,7 @@
 //! Substitutions: what the command `s` replaces, and by what (XCU sed, "Editing Commands in sed").
 
 ghost use Rattle.std.specs.Prelude.{◌≡◌};
-ghost use Rattle.sedscript.specs.Pieces.{pieces_in, GroupsWithin};
+ghost use Rattle.sedscript.specs.Pieces.{pieces_in, PieceGroupsWithin};
 
 use std::marker::Model;
 
@@ -36,21 +36,21 @@ pub struct Replacement {
 impl Model for Replacement {
     ghost use Rattle.std.specs.Prelude.{List};
     ghost use Rattle.sedscript.specs.declared.substitution.Piece.{Piece};
-    ghost use Rattle.sedscript.specs.Pieces.{pieces_in, GroupsWithin};
+    ghost use Rattle.sedscript.specs.Pieces.{pieces_in, PieceGroupsWithin};
 
     ghost Value = { List Piece };
 
     ghost view = { λ r. pieces_in r.parts.items };
 
-    ghost invariant = { λ r. GroupsWithin 9 (pieces_in r.parts.items) };
+    ghost invariant = { λ r. PieceGroupsWithin 9 (pieces_in r.parts.items) };
 }
 
 impl Replacement {
-    ghost use Rattle.sedscript.specs.Pieces.{pieces_in, GroupsWithin};
+    ghost use Rattle.sedscript.specs.Pieces.{pieces_in, PieceGroupsWithin};
 
     /// A replacement of these parts.
     pub(crate) fn of(parts: Vec<ReplacementPart>) -> Replacement
-        requires { GroupsWithin 9 (pieces_in parts.items) }
+        requires { PieceGroupsWithin 9 (pieces_in parts.items) }
         ensures { result ≡ pieces_in parts.items }
     {
         Replacement { parts }
@@ -59,7 +59,7 @@ impl Replacement {
     /// Its parts, in order. Their groups are 1 to 9.
     pub fn parts(&self) -> &[ReplacementPart]
         ensures pieces { pieces_in result.now ≡ self.now }
-        ensures within { GroupsWithin 9 self.now }
+        ensures within { PieceGroupsWithin 9 self.now }
     {
         &self.parts
     }

@@ -3,7 +3,7 @@
 ghost use Rattle.std.specs.Prelude.{◌≡◌, ◌<◌, ◌≤◌, ◌+◌, ℕ, List, Option, Some, None, true, is_some, take};
 ghost use Rattle.std.specs.Prelude.{slice_get, reverse, unwrap_or, if◌then◌else◌, IfOk, OnOk};
 ghost use Rattle.std.specs.Option.{option_or};
-ghost use Rattle.sedscript.specs.Script.{written_in, counted, commands_in, is_label, label_in, branch_in, depth_after};
+ghost use Rattle.sedscript.specs.Script.{written_in, count_with, commands_in, is_label, label_in, branch_in, depth_after};
 ghost use Rattle.sedscript.specs.Letters.{becomes_command};
 ghost use Rattle.sedscript.specs.declared.items.Item.{Item};
 ghost use Rattle.sedscript.specs.Tables.{TargetsAre, ends_in, with_end, opened, unopened_by, labelled};
@@ -37,7 +37,7 @@ pub fn written_in(text: &[u8], argument: Argument) -> &[u8]
 /// The number of commands up to and including this item, where there are `n` before it.
 pub fn counted(n: usize, item: Item) -> usize
     requires { n < usize.MAX }
-    ensures is { result ≡ counted n item }
+    ensures is { result ≡ count_with n item }
     ensures few { result ≤ n + 1 }
 {
     if becomes_command(item.verb) { n + 1 } else { n }
@@ -46,7 +46,7 @@ pub fn counted(n: usize, item: Item) -> usize
 /// The number of commands before this item, where there are `n` up to and including it.
 fn number_before(n: usize, item: Item) -> usize
     requires { becomes_command item.verb ≡ true → 1 ≤ n }
-    ensures { n ≡ counted result item }
+    ensures { n ≡ count_with result item }
 {
     if becomes_command(item.verb) { n - 1 } else { n }
 }

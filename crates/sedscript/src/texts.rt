@@ -1,7 +1,7 @@
 //! The texts of `a`, `i` and `c` as they are written.
 
 ghost use Rattle.std.specs.Prelude.{◌≡◌, ◌≤◌, ◌<◌, ◌+◌, length, drop, IfSome};
-ghost use Rattle.sedscript.specs.Arguments.{text_end, stops, inside_after, text_from};
+ghost use Rattle.sedscript.specs.Arguments.{text_end, ends_text, inside_after, text_from};
 
 use crate::bytes::{byte_at, is_byte};
 
@@ -18,7 +18,7 @@ pub enum Inside {
 
 /// Whether a text ends before this byte.
 fn stops(inside: Inside, b: u8) -> bool
-    ensures { result ≡ stops inside b }
+    ensures { result ≡ ends_text inside b }
 {
     match inside {
         Inside::Escape => false,

@@ -4,7 +4,7 @@ ghost use Rattle.std.specs.Prelude.{◌≡◌, ◌≤◌, ◌<◌, ◌+◌, ℕ,
 ghost use Rattle.std.specs.List.{range_with_len};
 ghost use Rattle.sedscript.specs.Bytes.{bytes_between};
 ghost use Rattle.sedscript.specs.Strings.{escaped_byte, char_of, chars_from, bytes_of, string_fault, is_among, repeated_in, strings_fault, table_of};
-ghost use Rattle.sedscript.specs.Answers.{marks_of};
+ghost use Rattle.sedscript.specs.Answers.{marks_of_bytes};
 ghost use Rattle.sedscript.specs.Script.{table_between};
 
 use crate::bytes::bytes_between;
@@ -75,8 +75,8 @@ fn string_fault(bytes: &[u8], delimiter: u8, from: usize) -> Option<ScriptFault>
 
 /// Notes a byte, and says whether it was noted before.
 fn note(seen: &mut [bool; 256], b: u8) -> bool
-    ensures { (before : List ℕ) → seen.old ≡ marks_of before →
-        (result ≡ is_among before b) × (seen.new ≡ marks_of (b ∷ before)) }
+    ensures { (before : List ℕ) → seen.old ≡ marks_of_bytes before →
+        (result ≡ is_among before b) × (seen.new ≡ marks_of_bytes (b ∷ before)) }
 {
     let at = usize::from(b);
     let noted = seen[at];

@@ -8,7 +8,7 @@ use Rattle.std.proofs.lemmas.List.{drop_more, drop_all, get_or_at, take_all, len
 use Rattle.std.proofs.lemmas.Bool.Decides.{nat_tests}
 use Rattle.std.proofs.Math.Seq.{take-append-add}
 use Rattle.memchr.specs.Find.{IsFirstByte, is_byte}
-use Rattle.sedspace.specs.Lines.{lines, is_newline, without_empty_last, HasNoNewline}
+use Rattle.sedspace.specs.Lines.{split_lines, is_newline, without_empty_last, HasNoNewline}
 
 not_true : (b : Bool) → ¬ (b ≡ true) → b ≡ false
 not_true true h = absurd (h refl)
@@ -21,20 +21,20 @@ without_empty_last-cons [] (y ∷ ys) h = refl
 without_empty_last-cons (b ∷ bs) (y ∷ ys) h = refl
 
 -- a line that a newline ends
-pub lines_at : (line rest : List ℕ) → HasNoNewline line → lines (line ++ 10 ∷ rest) ≡ line ∷ lines rest
-unfolding lines
+pub lines_at : (line rest : List ℕ) → HasNoNewline line → split_lines (line ++ 10 ∷ rest) ≡ line ∷ split_lines rest
+unfolding split_lines
 lines_at line rest h =
     let pieces : 0 < length (slice_split is_newline rest) = omega (arith, length-slice_split is_newline rest) in
     rw (slice_split_at is_newline line 10 rest h refl) (without_empty_last-cons line (slice_split is_newline rest) pieces)
 
 -- a last line that no newline ends
-pub lines_last : (line : List ℕ) → HasNoNewline line → 0 < length line → lines line ≡ line ∷ []
-unfolding lines
+pub lines_last : (line : List ℕ) → HasNoNewline line → 0 < length line → split_lines line ≡ line ∷ []
+unfolding split_lines
 lines_last [] h n = absurd (omega arith)
 lines_last (b ∷ bs) h n = rw (slice_split_none is_newline (b ∷ bs) h) refl
 
-pub lines_nil : lines [] ≡ []
-unfolding lines
+pub lines_nil : split_lines [] ≡ []
+unfolding split_lines
 lines_nil = refl
 
 -- the first newline, and what stands before and after it
@@ -97,21 +97,21 @@ position_from_first bytes (Some k) h =
     let at : position_or_len is_newline bytes ≡ k = position_or_len_is is_newline bytes k 0 (omega arith) (λ j l. not_true _ (h.0.before j (omega arith) l)) (λ _. h.1) in
     grind (arith, nat_tests)
 
-first_at_end : (bytes : List ℕ) → 0 < length bytes → position_or_len is_newline bytes ≡ length bytes → lines bytes ≡ before_first is_newline bytes ∷ lines (after_first is_newline bytes)
+first_at_end : (bytes : List ℕ) → 0 < length bytes → position_or_len is_newline bytes ≡ length bytes → split_lines bytes ≡ before_first is_newline bytes ∷ split_lines (after_first is_newline bytes)
 first_at_end bytes some e =
     let none : HasNoNewline bytes = λ k d l. fails_before_first is_newline bytes k d (omega arith) in
     let all : take (position_or_len is_newline bytes) bytes ≡ bytes = take_all _ bytes (omega arith) in
     let past : drop (position_or_len is_newline bytes + 1) bytes ≡ [] = drop_all _ bytes (omega arith) in
-    lines_last bytes none some ∙ ap₂ (λ x y. x ∷ y) (sym all) (sym (ap lines past ∙ lines_nil))
+    lines_last bytes none some ∙ ap₂ (λ x y. x ∷ y) (sym all) (sym (ap split_lines past ∙ lines_nil))
 
-first_inside : (bytes : List ℕ) → position_or_len is_newline bytes < length bytes → lines bytes ≡ before_first is_newline bytes ∷ lines (after_first is_newline bytes)
-unfolding lines
+first_inside : (bytes : List ℕ) → position_or_len is_newline bytes < length bytes → split_lines bytes ≡ before_first is_newline bytes ∷ split_lines (after_first is_newline bytes)
+unfolding split_lines
 first_inside bytes l =
     let pieces : 0 < length (slice_split is_newline (after_first is_newline bytes)) = omega (arith, length-slice_split is_newline (after_first is_newline bytes)) in
     ap without_empty_last (slice_split_first is_newline bytes 0 l) ∙ without_empty_last-cons _ _ pieces
 
 -- a first line is what stands before the first newline
-pub lines_first : (bytes : List ℕ) → 0 < length bytes → lines bytes ≡ before_first is_newline bytes ∷ lines (after_first is_newline bytes)
+pub lines_first : (bytes : List ℕ) → 0 < length bytes → split_lines bytes ≡ before_first is_newline bytes ∷ split_lines (after_first is_newline bytes)
 lines_first bytes some = ⊎_elim (first_at_end bytes some) (first_inside bytes) (eq-or-lt_of_le (prefix_len-le-length (λ b. not (is_newline b)) bytes))
 
 -- what a list begins with, without a newline, is no longer than its first line
@@ -128,7 +128,7 @@ length-before_first-append part ahead rest none =
     omega (arith, total, more, length-prefix_len q ahead, length-prefix_len q (part ++ (ahead ++ rest)))
 
 -- there is no line only where there is no byte
-pub lines_none : (bytes : List ℕ) → lines bytes ≡ [] → bytes ≡ []
+pub lines_none : (bytes : List ℕ) → split_lines bytes ≡ [] → bytes ≡ []
 lines_none [] e = refl
 lines_none (b ∷ bs) e = absurd (cons_not_nil _ _ (sym (lines_first (b ∷ bs) (omega arith)) ∙ e))
   where

@@ -3,7 +3,7 @@ use Rattle.std.proofs.Common.{◌≡◌, ℕ, ◌+◌, ◌-◌, ◌<◌, ◌≤�
 use Rattle.std.proofs.Math.Seq.{take-append_seam}
 use Rattle.std.specs.List.{before_first}
 use Rattle.std.specs.Io.KnownBytes.{prepend_known, Consumes, IsAtEnd}
-use Rattle.sedspace.specs.Lines.{lines, is_newline, HasNoNewline}
+use Rattle.sedspace.specs.Lines.{split_lines, is_newline, HasNoNewline}
 use Rattle.sedspace.specs.Reading.{TakesAtMost}
 use Rattle.sedspace.specs.Stream.{Stream, left, lines_left, TakesLine, GivesLine, NoLineLeft, FirstIsLonger, SeesEnd, LosesPart, TellsLast}
 use Rattle.sedspace.specs.Spaces.{Contents}
@@ -14,35 +14,35 @@ use Rattle.sedspace.specs.declared.errors.LineFault.TheVariants.{Broken, TooLong
 use Rattle.sedspace.specs.Gathering.{Gathers}
 use Rattle.sedspace.proofs.LineLemmas.{lines_at, lines_last, lines_nil, lines_none, lines_first, length-before_first-append}
 
-pub takes_ended : (a b : Option (List ℕ)) (line : List ℕ) → Consumes a b (line ++ 10 ∷ []) → HasNoNewline line → TakesLine a b line × GivesLine (option_map lines a) (option_map lines b) line
+pub takes_ended : (a b : Option (List ℕ)) (line : List ℕ) → Consumes a b (line ++ 10 ∷ []) → HasNoNewline line → TakesLine a b line × GivesLine (option_map split_lines a) (option_map split_lines b) line
 takes_ended None b line h none = (tt, tt)
 takes_ended (Some xs) None line h none = absurd h
 takes_ended (Some xs) (Some ys) line h none =
     let e : xs ≡ line ++ 10 ∷ ys = h ∙ append_assoc line (10 ∷ []) ys in
-    ((none, inl e), ap lines e ∙ lines_at line ys none)
+    ((none, inl e), ap split_lines e ∙ lines_at line ys none)
 
-pub takes_last : (a b : Option (List ℕ)) (line : List ℕ) → Consumes a b line → HasNoNewline line → 0 < length line → IsAtEnd b → TakesLine a b line × GivesLine (option_map lines a) (option_map lines b) line
+pub takes_last : (a b : Option (List ℕ)) (line : List ℕ) → Consumes a b line → HasNoNewline line → 0 < length line → IsAtEnd b → TakesLine a b line × GivesLine (option_map split_lines a) (option_map split_lines b) line
 takes_last None b line h none some end = (tt, tt)
 takes_last (Some xs) None line h none some end = absurd h
 takes_last (Some xs) (Some ys) line h none some end =
     let e : xs ≡ line = h ∙ ap (λ z. line ++ z) end ∙ append-nil line in
-    ((none, inr (e, end, some)), ap lines e ∙ lines_last line none some ∙ ap (λ z. line ∷ z) (sym (ap lines end ∙ lines_nil)))
+    ((none, inr (e, end, some)), ap split_lines e ∙ lines_last line none some ∙ ap (λ z. line ∷ z) (sym (ap split_lines end ∙ lines_nil)))
 
-pub none_left : (a b : Option (List ℕ)) → Consumes a b [] → IsAtEnd b → NoLineLeft (option_map lines a) × NoLineLeft (option_map lines b)
+pub none_left : (a b : Option (List ℕ)) → Consumes a b [] → IsAtEnd b → NoLineLeft (option_map split_lines a) × NoLineLeft (option_map split_lines b)
 none_left None None h end = (tt, tt)
-none_left None (Some ys) h end = (tt, ap lines end ∙ lines_nil)
+none_left None (Some ys) h end = (tt, ap split_lines end ∙ lines_nil)
 none_left (Some xs) None h end = absurd h
-none_left (Some xs) (Some ys) h end = (ap lines (h ∙ end) ∙ lines_nil, ap lines end ∙ lines_nil)
+none_left (Some xs) (Some ys) h end = (ap split_lines (h ∙ end) ∙ lines_nil, ap split_lines end ∙ lines_nil)
 
-first_longer : (xs : List ℕ) (n : ℕ) → n < length (before_first is_newline xs) → FirstIsLonger (Some (lines xs)) n
+first_longer : (xs : List ℕ) (n : ℕ) → n < length (before_first is_newline xs) → FirstIsLonger (Some (split_lines xs)) n
 first_longer [] n h = absurd (omega arith)
 first_longer (x ∷ xs) n h = subst (λ z. FirstIsLonger (Some z) n) (sym (lines_first (x ∷ xs) (omega arith))) h
 
-pub first_is_longer : (a known : Option (List ℕ)) (part ahead : List ℕ) (n : ℕ) → Consumes a (prepend_known ahead known) part → HasNoNewline part → n < length part + length (before_first is_newline ahead) → FirstIsLonger (option_map lines a) n
+pub first_is_longer : (a known : Option (List ℕ)) (part ahead : List ℕ) (n : ℕ) → Consumes a (prepend_known ahead known) part → HasNoNewline part → n < length part + length (before_first is_newline ahead) → FirstIsLonger (option_map split_lines a) n
 first_is_longer None known part ahead n h none long = tt
 first_is_longer (Some xs) None part ahead n h none long = absurd h
 first_is_longer (Some xs) (Some ys) part ahead n h none long =
-    subst (λ z. FirstIsLonger (Some (lines z)) n) (sym h) (
+    subst (λ z. FirstIsLonger (Some (split_lines z)) n) (sym h) (
     first_longer (part ++ (ahead ++ ys)) n (omega (arith, long, length-before_first-append part ahead ys none))
     )
 
@@ -56,24 +56,24 @@ appended_fits old new bytes count e most fits =
     omega (arith, ap (λ (z : Contents). length z.bytes) e, ap (λ (z : Contents). z.limit) e, length-append old.bytes bytes, most, fits)
 
 -- bytes ahead are a line to come
-pub tells_more : (known : Option (List ℕ)) (ahead : List ℕ) → 0 < length ahead → TellsLast (option_map lines (prepend_known ahead known)) false
+pub tells_more : (known : Option (List ℕ)) (ahead : List ℕ) → 0 < length ahead → TellsLast (option_map split_lines (prepend_known ahead known)) false
 tells_more None ahead some = tt
 tells_more (Some ys) ahead some =
-    let none : lines (ahead ++ ys) ≡ [] → ⊥ = λ e. absurd (omega (arith, ap length (lines_none (ahead ++ ys) e), length-append ahead ys)) in
+    let none : split_lines (ahead ++ ys) ≡ [] → ⊥ = λ e. absurd (omega (arith, ap length (lines_none (ahead ++ ys) e), length-append ahead ys)) in
     (λ (t : IsTrue false). absurd (search (rules, t)), λ e. absurd (none e))
 
-tells_end : (a b : Option (List ℕ)) → Consumes a b [] → IsAtEnd b → TellsLast (option_map lines a) true
+tells_end : (a b : Option (List ℕ)) → Consumes a b [] → IsAtEnd b → TellsLast (option_map split_lines a) true
 tells_end None b h end = tt
 tells_end (Some xs) None h end = absurd h
-tells_end (Some xs) (Some ys) h end = (λ _. ap lines (h ∙ end) ∙ lines_nil, λ _. search rules)
+tells_end (Some xs) (Some ys) h end = (λ _. ap split_lines (h ∙ end) ∙ lines_nil, λ _. search rules)
 
-tells_same : (a b : Option (List ℕ)) (last : Bool) → Consumes a b [] → TellsLast (option_map lines b) last → TellsLast (option_map lines a) last
+tells_same : (a b : Option (List ℕ)) (last : Bool) → Consumes a b [] → TellsLast (option_map split_lines b) last → TellsLast (option_map split_lines a) last
 tells_same None b last h t = tt
 tells_same (Some xs) None last h t = absurd h
-tells_same (Some xs) (Some ys) last h t = subst (λ z. TellsLast (Some (lines z)) last) (sym h) t
+tells_same (Some xs) (Some ys) last h t = subst (λ z. TellsLast (Some (split_lines z)) last) (sym h) t
 
 -- what a read past an empty front tells
-pub tells_read : (a known : Option (List ℕ)) (ahead : List ℕ) (more : Bool) → Consumes a (prepend_known ahead known) [] → (IsTrue more ↔ (0 < length ahead)) → (more ≡ false → IsAtEnd (prepend_known ahead known)) → TellsLast (option_map lines a) (not more)
+pub tells_read : (a known : Option (List ℕ)) (ahead : List ℕ) (more : Bool) → Consumes a (prepend_known ahead known) [] → (IsTrue more ↔ (0 < length ahead)) → (more ≡ false → IsAtEnd (prepend_known ahead known)) → TellsLast (option_map split_lines a) (not more)
 tells_read a known ahead true h given end = tells_same a _ false h (tells_more known ahead (given.0 (search rules)))
 tells_read a known ahead false h given end = tells_end a _ h (end refl)
 

@@ -14,8 +14,8 @@ without_empty_last (x ∷ more) = x ∷ without_empty_last more
 
 -- the lines, each without its newline: the pieces between newlines, the last one only where it isn't empty. So a last line
 -- without a newline is a line (this project's own)
-unfoldable pub lines : List ℕ → List (List ℕ)
-lines bytes = without_empty_last (slice_split is_newline bytes)
+unfoldable pub split_lines : List ℕ → List (List ℕ)
+split_lines bytes = without_empty_last (slice_split is_newline bytes)
 
 -- no byte is a newline
 abbrev pub HasNoNewline : List ℕ → Type 0

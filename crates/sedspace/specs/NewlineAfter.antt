@@ -4,12 +4,12 @@ use Rattle.std.specs.Prelude.{◌≡◌, ℕ, ◌-◌, ◌≤◌, List, Some, le
 use Rattle.sedspace.specs.Lines.{HasNoNewline}
 
 -- the bytes from the front to the end
-abbrev pub between : ℕ → ℕ → List ℕ → List ℕ
-between front end held = drop front (take end held)
+abbrev pub held_between : ℕ → ℕ → List ℕ → List ℕ
+held_between front end held = drop front (take end held)
 
 -- a newline is at the end
-abbrev pub EndsAt : ℕ → List ℕ → Type 0
-EndsAt end held = slice_get held end ≡ Some 10
+abbrev pub NewlineAt : ℕ → List ℕ → Type 0
+NewlineAt end held = slice_get held end ≡ Some 10
 
 -- the first so many bytes contain no newline, and neither do the last so many
 pub record IsClear (first last : ℕ) (bytes : List ℕ) : Type 0 where

@@ -6,7 +6,7 @@ use Rattle.std.specs.Io.KnownBytes.{Consumes, prepend_known}
 use Rattle.sedspace.specs.declared.errors.LineFault.{LineFault}
 use Rattle.sedspace.specs.declared.errors.LineFault.TheVariants.{Broken}
 use Rattle.sedspace.specs.FailureCounts.{Rises}
-use Rattle.sedspace.specs.Lines.{lines, HasNoNewline}
+use Rattle.sedspace.specs.Lines.{split_lines, HasNoNewline}
 
 -- a reader of lines: its source, the bytes read ahead, at most how many, whether the end was seen, and the fault that
 -- it answered
@@ -23,7 +23,7 @@ left remaining s = prepend_known s.ahead (remaining s.source)
 
 -- the lines still to come
 abbrev pub lines_left : {R : Type 0} → (R → Option (List ℕ)) → Stream R → Option (List (List ℕ))
-lines_left remaining s = option_map lines (left remaining s)
+lines_left remaining s = option_map split_lines (left remaining s)
 
 -- a first line was taken
 abbrev pub GivesLine : Option (List (List ℕ)) → Option (List (List ℕ)) → List ℕ → Type 0
@@ -35,7 +35,7 @@ GivesLine (Some ls) (Some rest) line = ls ≡ line ∷ rest
 abbrev pub GivesLines : Option (List (List ℕ)) → Option (List (List ℕ)) → List ℕ → Type 0
 GivesLines None rest bytes = ⊤
 GivesLines (Some ls) None bytes = ⊥
-GivesLines (Some ls) (Some rest) bytes = ls ≡ lines bytes ++ rest
+GivesLines (Some ls) (Some rest) bytes = ls ≡ split_lines bytes ++ rest
 
 -- no line is left
 abbrev pub NoLineLeft : Option (List (List ℕ)) → Type 0

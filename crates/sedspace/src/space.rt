@@ -9,7 +9,7 @@ ghost use Rattle.std.specs.List.{after_first, before_first};
 ghost use Rattle.std.specs.Io.KnownBytes.{Keeps};
 ghost use Rattle.sedspace.specs.Lines.{is_newline, HasNoNewline};
 ghost use Rattle.sedspace.specs.Reading.{ReadsAt};
-ghost use Rattle.sedspace.specs.NewlineAfter.{EndsAt, between};
+ghost use Rattle.sedspace.specs.NewlineAfter.{NewlineAt, held_between};
 
 use super::lines::newline_in;
 use super::{Full, Texts};
@@ -37,15 +37,15 @@ pub struct Space {
 impl Model for Space {
     ghost use Rattle.std.specs.Prelude.{◌+◌, ◌<◌, ◌≤◌, vec_len, vec_capacity};
     ghost use Rattle.sedspace.specs.Spaces.{Contents};
-    ghost use Rattle.sedspace.specs.NewlineAfter.{EndsAt, IsClear, between};
+    ghost use Rattle.sedspace.specs.NewlineAfter.{NewlineAt, IsClear, held_between};
 
     ghost Value = { Contents };
 
-    ghost view = { λ s. record { bytes = between s.front s.end s.held.items; limit = s.most } };
+    ghost view = { λ s. record { bytes = held_between s.front s.end s.held.items; limit = s.most } };
 
     ghost invariant = { λ s. (s.front ≤ s.end) × (s.end < vec_len s.held) × (vec_len s.held ≤ s.most + 1)
-        × (s.most < vec_capacity s.held) × EndsAt s.end s.held.items
-        × IsClear s.clear_first s.clear_last (between s.front s.end s.held.items) };
+        × (s.most < vec_capacity s.held) × NewlineAt s.end s.held.items
+        × IsClear s.clear_first s.clear_last (held_between s.front s.end s.held.items) };
 }
 
 impl Space {
@@ -315,7 +315,7 @@ impl Space {
 fn end_line(held: &mut Vec<u8>, end: usize)
     requires inside { end < vec_len held.old }
     ensures bytes { take end held.new.items ≡ take end held.old.items }
-    ensures ended { EndsAt end held.new.items }
+    ensures ended { NewlineAt end held.new.items }
     ensures len { vec_len held.new ≡ vec_len held.old }
     ensures capacity { vec_capacity held.old ≤ vec_capacity held.new }
 {
@@ -353,8 +353,8 @@ fn append_to(
     requires held_within { vec_len held.old ≤ most + 1 }
     requires reserved { most < vec_capacity held.old }
     requires fits { end - front + count ≤ most }
-    ensures bytes { between result.0 result.1 held.new.items ≡ between front end held.old.items ++ take count text.now }
-    ensures ended { EndsAt result.1 held.new.items }
+    ensures bytes { held_between result.0 result.1 held.new.items ≡ held_between front end held.old.items ++ take count text.now }
+    ensures ended { NewlineAt result.1 held.new.items }
     ensures lies { (result.0 ≤ result.1) × (result.1 < vec_len held.new) }
     ensures within { vec_len held.new ≤ most + 1 }
     ensures capacity { vec_capacity held.old ≤ vec_capacity held.new }
@@ -371,7 +371,7 @@ fn put(held: &mut Vec<u8>, end: usize, text: &[u8], count: usize) -> usize
     requires inside { count ≤ length text.now }
     requires room { end + count < vec_len held.old }
     ensures bytes { take result held.new.items ≡ take end held.old.items ++ take count text.now }
-    ensures ended { EndsAt result held.new.items }
+    ensures ended { NewlineAt result held.new.items }
     ensures place { result ≡ end + count }
     ensures len { vec_len held.new ≡ vec_len held.old }
     ensures capacity { vec_capacity held.old ≤ vec_capacity held.new }
@@ -432,7 +432,7 @@ fn translate_between(held: &mut [u8], front: usize, end: usize, table: &[u8])
     requires table { length table.now ≡ 256 }
     requires order { front ≤ end }
     requires inside { end ≤ length held.old }
-    ensures bytes { between front end held.new ≡ map (λ b. slice_index_or table.now b b) (between front end held.old) }
+    ensures bytes { held_between front end held.new ≡ map (λ b. slice_index_or table.now b b) (held_between front end held.old) }
     ensures after { slice_get held.new end ≡ slice_get held.old end }
     ensures len { length held.new ≡ length held.old }
 {
@@ -480,7 +480,7 @@ fn make_room(
     requires held_within { vec_len held.old ≤ most + 1 }
     requires reserved { most < vec_capacity held.old }
     requires fits { end - front + count ≤ most }
-    ensures kept { between result.0 result.1 held.new.items ≡ between front end held.old.items }
+    ensures kept { held_between result.0 result.1 held.new.items ≡ held_between front end held.old.items }
     ensures order { result.0 ≤ result.1 }
     ensures room { result.1 + count < vec_len held.new }
     ensures within { vec_len held.new ≤ most + 1 }
@@ -499,7 +499,7 @@ fn make_room(
 fn move_down(held: &mut Vec<u8>, front: usize, end: usize)
     requires order { front ≤ end }
     requires inside { end < vec_len held.old }
-    ensures moved { take (end - front) held.new.items ≡ between front end held.old.items }
+    ensures moved { take (end - front) held.new.items ≡ held_between front end held.old.items }
     ensures len { vec_len held.new ≡ vec_len held.old }
     ensures capacity { vec_capacity held.old ≤ vec_capacity held.new }
 {

@@ -3,7 +3,7 @@
 ghost use Rattle.std.specs.Prelude.{◌<◌, length, IfOk};
 ghost use Rattle.std.specs.Io.{WritesAtMost};
 
-use crate::output::{Device, Gathered};
+use crate::output::{Device, BufferedDevice};
 use sedspace::Broken;
 use std::alloc::Global;
 use std::cell::RefCell;
@@ -19,18 +19,18 @@ const FILE_ROOM: usize = 8192;
 
 /// The devices of the sinks, by number. `FileSinks` writes to them, and `FileInputs` and `FileNames` have them written out.
 #[derive(Drop)]
-pub struct Devices {
-    all: RefCell<Vec<Gathered>>,
+pub struct SinkDevices {
+    all: RefCell<Vec<BufferedDevice>>,
 }
 
-impl Devices {
+impl SinkDevices {
     /// The standard output alone, as sink 0. An error is that there was no memory.
-    pub fn new(rt: &HostRuntime, output: Stdout) -> io::Result<Devices> {
+    pub fn new(rt: &HostRuntime, output: Stdout) -> io::Result<SinkDevices> {
         let alloc = rt.alloc();
         let metadata = fs::metadata(rt, "/dev/stdout").ok();
-        let standard = Gathered::new(alloc, Device::Standard(output), metadata, OUTPUT_ROOM)?;
+        let standard = BufferedDevice::new(alloc, Device::Standard(output), metadata, OUTPUT_ROOM)?;
         let all = vec![in alloc; standard]?;
-        Ok(Devices {
+        Ok(SinkDevices {
             all: RefCell::new(all),
         })
     }
@@ -38,7 +38,7 @@ impl Devices {
     /// Adds a file as the last sink.
     pub(crate) fn add(&self, alloc: Global, file: File) -> io::Result<()> {
         let metadata = file.metadata().ok();
-        let file = Gathered::new(alloc, Device::File(file), metadata, FILE_ROOM)?;
+        let file = BufferedDevice::new(alloc, Device::File(file), metadata, FILE_ROOM)?;
         match self.all.try_borrow_mut() {
             Ok(mut all) => Ok(all.push(file)?),
             Err(_) => Err(io::Error::from(io::ErrorKind::ResourceBusy)),

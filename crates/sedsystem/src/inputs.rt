@@ -2,7 +2,7 @@
 ghost use Rattle.std.specs.Prelude.{◌≡◌, [], None};
 ghost use Rattle.std.specs.Io.{ReadsAtMost};
 
-use crate::devices::Devices;
+use crate::devices::SinkDevices;
 use crate::standard_input::StandardInput;
 use sedfiles::Inputs;
 use sedspace::{Broken, ByteSource, FromReader};
@@ -12,7 +12,7 @@ use std::io::{self, ErrorKind};
 
 /// Which file is current.
 #[derive(Drop)]
-enum Current {
+enum CurrentFile {
     /// None: none was opened, or the last couldn't be or is written by the script.
     Nothing,
     /// The standard input.
@@ -26,8 +26,8 @@ enum Current {
 #[derive(Drop)]
 pub struct FileInputs<'a> {
     rt: &'a HostRuntime,
-    devices: &'a Devices,
-    current: Current,
+    devices: &'a SinkDevices,
+    current: CurrentFile,
     standard: StandardInput,
     // Whether a read of the current file may wait, once that was asked.
     may_wait: Option<bool>,
@@ -51,11 +51,11 @@ fn is_file(metadata: &io::Result<Metadata>) -> bool {
 impl<'a> FileInputs<'a> {
     /// Inputs of which none is open. What the devices have gathered is written out before a read that may wait.
     /// An error is that there was no memory.
-    pub fn new(rt: &'a HostRuntime, devices: &'a Devices) -> Result<FileInputs<'a>, AllocError> {
+    pub fn new(rt: &'a HostRuntime, devices: &'a SinkDevices) -> Result<FileInputs<'a>, AllocError> {
         Ok(FileInputs {
             rt,
             devices,
-            current: Current::Nothing,
+            current: CurrentFile::Nothing,
             standard: StandardInput::new(rt.alloc(), rt.stdin())?,
             may_wait: None,
             failures: 0,
@@ -72,9 +72,9 @@ impl<'a> FileInputs<'a> {
             return known;
         }
         let may_wait = match &self.current {
-            Current::Nothing => false,
-            Current::Standard => may_wait(self.rt, "/dev/stdin"),
-            Current::File(file) => !is_file(&file.metadata()),
+            CurrentFile::Nothing => false,
+            CurrentFile::Standard => may_wait(self.rt, "/dev/stdin"),
+            CurrentFile::File(file) => !is_file(&file.metadata()),
         };
         self.may_wait = Some(may_wait);
         may_wait
@@ -98,27 +98,27 @@ impl<'a> FileInputs<'a> {
     }
 
     // What is to be read: nothing where the script writes this file, since it was emptied then and what it gets is output.
-    fn unless_written(&self, file: Current, metadata: io::Result<Metadata>) -> Current {
+    fn unless_written(&self, file: CurrentFile, metadata: io::Result<Metadata>) -> CurrentFile {
         match metadata {
-            Ok(metadata) if self.devices.has_file(&metadata) => Current::Nothing,
+            Ok(metadata) if self.devices.has_file(&metadata) => CurrentFile::Nothing,
             _ => file,
         }
     }
 
     // The file of this name, where it can be opened.
-    fn opened(&mut self, name: &str) -> Option<Current>
+    fn opened(&mut self, name: &str) -> Option<CurrentFile>
         ensures failures { self.new.failures ≡ self.old.failures }
         ensures refusals { self.new.refusals ≡ self.old.refusals }
     {
         if name == "-" {
             let metadata = fs::metadata(self.rt, "/dev/stdin");
             self.standard.set_file(is_file(&metadata));
-            return Some(self.unless_written(Current::Standard, metadata));
+            return Some(self.unless_written(CurrentFile::Standard, metadata));
         }
         self.prepare_to_open(name);
         let file = File::open(self.rt, name).ok()?;
         let metadata = file.metadata();
-        Some(self.unless_written(Current::File(file), metadata))
+        Some(self.unless_written(CurrentFile::File(file), metadata))
     }
 
     // Reads on in the current file.
@@ -129,9 +129,9 @@ impl<'a> FileInputs<'a> {
     {
         self.prepare_to_read();
         match &self.current {
-            Current::Nothing => Ok(0),
-            Current::Standard => self.standard.read_on(buf),
-            Current::File(file) => FromReader::new(file).read(buf),
+            CurrentFile::Nothing => Ok(0),
+            CurrentFile::Standard => self.standard.read_on(buf),
+            CurrentFile::File(file) => FromReader::new(file).read(buf),
         }
     }
 }
@@ -156,7 +156,7 @@ impl<'a> Inputs for FileInputs<'a> {
     }
 
     fn open(&mut self, name: &str) -> bool {
-        self.current = Current::Nothing;
+        self.current = CurrentFile::Nothing;
         self.may_wait = None;
         match self.opened(name) {
             Some(current) => {
@@ -181,7 +181,7 @@ impl<'a> Inputs for FileInputs<'a> {
     }
 
     fn give_back(&self, count: usize) {
-        if let Current::Standard = self.current {
+        if let CurrentFile::Standard = self.current {
             self.standard.give_back(count);
         }
     }

@@ -12,7 +12,7 @@ mod sinks;
 mod standard_input;
 
 pub use closed::placeholders;
-pub use devices::Devices;
+pub use devices::SinkDevices;
 pub use inputs::FileInputs;
 pub use messages::Messages;
 pub use names::FileNames;

@@ -1,7 +1,7 @@
 //! The files that a script reads, as texts.
 ghost use Rattle.std.specs.Prelude.{◌≡◌, ◌≤◌, [], None, length};
 
-use crate::devices::Devices;
+use crate::devices::SinkDevices;
 use sedfiles::Names;
 use sedspace::{ByteSource, FromReader, Texts};
 use std::alloc::AllocError;
@@ -12,14 +12,14 @@ use std::str;
 
 /// A file that is being read: its number, how far it has been read, and whether a read of it may wait.
 #[derive(Drop)]
-struct Reading {
+struct OpenText {
     file: File,
     number: usize,
     offset: u64,
     may_wait: bool,
 }
 
-impl Reading {
+impl OpenText {
     /// Opens the file of this name, to be read from the place on.
     fn new(
         rt: &HostRuntime,
@@ -27,12 +27,12 @@ impl Reading {
         number: usize,
         offset: u64,
         may_wait: bool,
-    ) -> Option<Reading> {
+    ) -> Option<OpenText> {
         let mut file = File::open(rt, name).ok()?;
         if offset > 0 {
             file.seek(SeekFrom::Start(offset)).ok()?;
         }
-        Some(Reading {
+        Some(OpenText {
             file,
             number,
             offset,
@@ -55,9 +55,9 @@ impl Reading {
 #[derive(Drop)]
 pub struct FileNames<'a> {
     rt: &'a HostRuntime,
-    devices: &'a Devices,
+    devices: &'a SinkDevices,
     names: Vec<Vec<u8>>,
-    reading: Option<Reading>,
+    reading: Option<OpenText>,
 }
 
 impl<'a> Model for FileNames<'a> {
@@ -71,7 +71,7 @@ impl<'a> Model for FileNames<'a> {
 impl<'a> FileNames<'a> {
     /// Files of which none is named. What the devices have gathered for files is written out before one is read, so that
     /// it may be one of those; and what they have gathered for all, where opening it or a read may wait.
-    pub fn new(rt: &'a HostRuntime, devices: &'a Devices) -> FileNames<'a>
+    pub fn new(rt: &'a HostRuntime, devices: &'a SinkDevices) -> FileNames<'a>
         ensures { result ≡ [] }
     {
         FileNames {
@@ -96,11 +96,11 @@ impl<'a> FileNames<'a> {
     }
 
     // Opens the file of this number, to be read from the place on.
-    fn opened(&self, number: usize, offset: u64) -> Option<Reading> {
+    fn opened(&self, number: usize, offset: u64) -> Option<OpenText> {
         let name = self.name_of(number)?;
         let may_wait = !fs::metadata(self.rt, name).ok()?.is_file();
         self.devices.write_out(if may_wait { 0 } else { 1 });
-        Reading::new(self.rt, name, number, offset, may_wait)
+        OpenText::new(self.rt, name, number, offset, may_wait)
     }
 }
 

@@ -45,7 +45,7 @@ impl Write for Device {
 
 /// A device whose bytes are gathered, up to a number, before they are written. A terminal gets them with each newline.
 #[derive(Drop)]
-pub(crate) struct Gathered {
+pub(crate) struct BufferedDevice {
     writer: BufWriter<Device>,
     is_terminal: bool,
     // What it is, where that is known.
@@ -54,16 +54,16 @@ pub(crate) struct Gathered {
     is_broken: bool,
 }
 
-impl Gathered {
+impl BufferedDevice {
     /// Gathers up to `room` bytes for a device, which is what its metadata say.
     pub(crate) fn new(
         alloc: Global,
         device: Device,
         metadata: Option<Metadata>,
         room: usize,
-    ) -> io::Result<Gathered> {
+    ) -> io::Result<BufferedDevice> {
         let is_terminal = device.is_terminal();
-        Ok(Gathered {
+        Ok(BufferedDevice {
             writer: BufWriter::with_capacity(alloc, room, device)?,
             is_terminal,
             metadata,

@@ -2,7 +2,7 @@
 ghost use Rattle.std.specs.Prelude.{◌≡◌, ◌<◌, [], ◌∷◌, None, length, unwrap_or, slice_get, slice_set, IfOk, IfSome};
 ghost use Rattle.sedspace.specs.FailureCounts.{raised};
 
-use crate::devices::Devices;
+use crate::devices::SinkDevices;
 use sedfiles::Sinks;
 use sedspace::{Broken, Outputs};
 use std::alloc::AllocError;
@@ -14,7 +14,7 @@ use std::str;
 #[derive(Drop)]
 pub struct FileSinks<'a> {
     rt: &'a HostRuntime,
-    devices: &'a Devices,
+    devices: &'a SinkDevices,
     failures: Vec<u64>,
     names: Vec<Vec<u8>>,
 }
@@ -30,7 +30,7 @@ impl<'a> Model for FileSinks<'a> {
 
 impl<'a> FileSinks<'a> {
     /// The standard output alone, which is the device of sink 0. An error is that there was no memory.
-    pub fn new(rt: &'a HostRuntime, devices: &'a Devices) -> Result<FileSinks<'a>, AllocError>
+    pub fn new(rt: &'a HostRuntime, devices: &'a SinkDevices) -> Result<FileSinks<'a>, AllocError>
         ensures { IfOk result (λ sinks. sinks ≡ (0 ∷ [], [])) }
     {
         Ok(FileSinks {

@@ -6,7 +6,7 @@ use Rattle.std.proofs.lemmas.Option.{slice_get_within, get_or_from_slice_get, sl
 use Rattle.memchr.specs.Find.{Passes, IsFirstByte, is_byte, is_byte2, is_byte3}
 use Rattle.sedtext.specs.Bytes.{FirstAt}
 use Rattle.sedtext.specs.Spans.{IsIn}
-use Rattle.sedtext.specs.Few.{HasFew, FewAt, FirstFew, Gathered}
+use Rattle.sedtext.specs.Few.{HasFew, FewAt, FirstFew, IsGathered}
 use Rattle.sedtext.proofs.MatchingLemmas.{either-iff, equal-iff}
 use Rattle.sedtext.specs.declared.counted.few.Few.{Few}
 use Rattle.sedtext.specs.declared.counted.few.Few.TheVariants.{One, Two, Three}
@@ -82,4 +82,4 @@ few_inside few w i at = slice_get_within w i at.0 at.1
 
 -- the members of a set among the first bytes are those gathered
 abbrev pub AllGathered : List Bool → ℕ → Option Few → Type 0
-AllGathered set n few = (c : ℕ) → Gathered few c ↔ ((c < n) × IsIn c set)
+AllGathered set n few = (c : ℕ) → IsGathered few c ↔ ((c < n) × IsIn c set)

@@ -9,7 +9,7 @@ use Rattle.sedre.specs.declared.types.Node.TheVariants.{Seq, Alt, Group, Star, O
 use Rattle.sedre.proofs.TreeLemmas.{tree_at-node}
 use Rattle.sedtext.specs.Caps.{Captures}
 use Rattle.sedtext.specs.Groups.{Groups, forget}
-use Rattle.sedtext.specs.Matching.{groups_after, cut, last_start, spans}
+use Rattle.sedtext.specs.Matching.{groups_after, greatest_cut, last_start, spans}
 use Rattle.sedtext.proofs.NodeLemmas.{node_at}
 use Rattle.sedtext.proofs.MatchingLemmas.{groups_after-is}
 
@@ -37,7 +37,7 @@ cond-same false x y g left right = right
 groups_after-none : (e : Tree) → NoGroups e → (w : List ℕ) (i j : ℕ) (g : Groups) → groups_after e w i j g ≡ g
 unfolding groups_after
 groups_after-none (seq a b) none w i j g =
-    let k = cut (spans a w) (spans b w) i j in
+    let k = greatest_cut (spans a w) (spans b w) i j in
     groups_after-none b none.1 w k j (groups_after a w i k g) ∙ groups_after-none a none.0 w i k g
 groups_after-none (alt a b) none w i j g = cond-same (spans a w i j) (groups_after a w i j g) (groups_after b w i j g) g (groups_after-none a none.0 w i j g) (groups_after-none b none.1 w i j g)
 groups_after-none (group k a) none w i j g = absurd none

@@ -9,7 +9,7 @@ use Rattle.sedtext.specs.Spans.{CopiesLead, no_copy, one_more, Matches, IsLeftmo
 use Rattle.sedtext.specs.Caps.{Captures, LastCut, LastCopy, only, then}
 use Rattle.sedtext.specs.Groups.{Groups, forget, no_groups}
 use Rattle.sedtext.specs.Reach.{IsLongestFrom}
-use Rattle.sedtext.specs.Matching.{any, greatest, copies, byte_is_in, spans, longest, found_from, leftmost_longest, cut, first_copy, last_start, groups_after, report}
+use Rattle.sedtext.specs.Matching.{any, greatest, copies, byte_is_in, spans, longest, found_from, leftmost_longest, greatest_cut, first_copy, last_start, groups_after, reported_groups}
 use Rattle.sedtext.specs.MatchingLaws.{SpansLaw, FoundLaw, NotFoundLaw, SomeFoundLaw, OneCapsLaw, CapsLaw, ReportLaw}
 use Rattle.sedtext.proofs.SpanLemmas.{CopiesLead-forward, Matches-forward, Matches-within}
 use Rattle.sedtext.proofs.ReachLemmas.{takes_some}
@@ -318,8 +318,8 @@ cut-of a b A B left right i j m on l r (Some k) some =
       greatest = λ h l' r'. let within = on h r' in some.2 h (omega arith) (and_from (a i h) (b h j) ((left i h).1 l') ((right h j).1 r'));
     }
 
-cut-is : (a b : Tree) (w : List ℕ) (i j m : ℕ) → Matches a w i m → Matches b w m j → LastCut (Matches a w) (Matches b w) i j (cut (spans a w) (spans b w) i j)
-unfolding cut
+cut-is : (a b : Tree) (w : List ℕ) (i j m : ℕ) → Matches a w i m → Matches b w m j → LastCut (Matches a w) (Matches b w) i j (greatest_cut (spans a w) (spans b w) i j)
+unfolding greatest_cut
 cut-is a b w i j m l r =
     cut-of (spans a w) (spans b w) (Matches a w) (Matches b w) (spans-iff a w) (spans-iff b w) i j m (λ k s. Matches-forward b w k j s) l r
     (greatest (λ k. spans a w i k && spans b w k j) (j + 1)) (greatest-is (λ k. spans a w i k && spans b w k j) (j + 1))
@@ -351,7 +351,7 @@ null_copy a first w i j old on fails inner =
 pub groups_after-is : (e : Tree) (w : List ℕ) (i j : ℕ) (old : Groups) → Matches e w i j → Captures e w i j old (groups_after e w i j old)
 unfolding groups_after
 groups_after-is (seq a b) w i j old s =
-    let k = cut (spans a w) (spans b w) i j in
+    let k = greatest_cut (spans a w) (spans b w) i j in
     let is = cut-is a b w i j s.0 s.1 s.2 in
     (k, is, (groups_after a w i k old, groups_after-is a w i k old is.left, groups_after-is b w k j (groups_after a w i k old) is.right))
 groups_after-is (alt a b) w i j old s =
@@ -385,7 +385,7 @@ groups_after-iff e w i j old new s = (
 )
 
 pub report-iff : ReportLaw
-unfolding report
+unfolding reported_groups
 report-iff e w i j groups s = (
   λ h. (groups_after e w i j no_groups, groups_after-is e w i j no_groups s, h),
   λ h. h.2 ∙ ap (λ (g : Groups). slice_set g 0 (Some (i, j))) (Captures-unique e w i j no_groups h.0 (groups_after e w i j no_groups) h.1 (groups_after-is e w i j no_groups s)),

@@ -8,29 +8,29 @@ use Rattle.std.proofs.lemmas.List.{get_or_default, get_or-set_same, get_or-set_o
 use Rattle.std.proofs.lemmas.List.FromFn.{get_or-map-range_with_len, length-map-range_with_len}
 use Rattle.std.proofs.lemmas.Nat.Bits.{bit_at-zero}
 use Rattle.sedtext.specs.declared.counted.rows.Rows.TheInside.{Inside}
-use Rattle.sedtext.specs.Words.{table, marks_of, row_at, rows_of, row_of}
+use Rattle.sedtext.specs.Words.{tabulated, marks_of, row_at, rows_of, row_of}
 
-length-table : {X : Type 0} → (f : ℕ → X) (n : ℕ) → length (table f n) ≡ n
-unfolding table
+length-table : {X : Type 0} → (f : ℕ → X) (n : ℕ) → length (tabulated f n) ≡ n
+unfolding tabulated
 length-table f n = length-map-range_with_len f 0 n
 
-table-get : {X : Type 0} → (f : ℕ → X) (n i : ℕ) (d : X) → i < n → slice_index_or (table f n) i d ≡ f i
-unfolding table
+table-get : {X : Type 0} → (f : ℕ → X) (n i : ℕ) (d : X) → i < n → slice_index_or (tabulated f n) i d ≡ f i
+unfolding tabulated
 table-get f n i d lt = get_or-map-range_with_len f 0 n i i d lt (omega arith)
 
 -- the list that has these values
-table-is : (f : ℕ → Bool) (n : ℕ) (xs : List Bool) → length xs ≡ n → ((k : ℕ) → k < n → f k ≡ slice_index_or xs k false) → table f n ≡ xs
+table-is : (f : ℕ → Bool) (n : ℕ) (xs : List Bool) → length xs ≡ n → ((k : ℕ) → k < n → f k ≡ slice_index_or xs k false) → tabulated f n ≡ xs
 table-is f n xs long same =
-    same_lists (table f n) xs (length-table f n ∙ sym long)
+    same_lists (tabulated f n) xs (length-table f n ∙ sym long)
     (λ k d lt. let low : k < n = omega (arith, length-table f n, lt) in table-get f n k d low ∙ same k low ∙ get_or_default xs k false d (omega (arith, long, low)))
 
-table-set : (f g : ℕ → Bool) (n i : ℕ) (v : Bool) → i < n → g i ≡ v → ((k : ℕ) → k < n → k ≢ i → g k ≡ f k) → table g n ≡ slice_set (table f n) i v
+table-set : (f g : ℕ → Bool) (n i : ℕ) (v : Bool) → i < n → g i ≡ v → ((k : ℕ) → k < n → k ≢ i → g k ≡ f k) → tabulated g n ≡ slice_set (tabulated f n) i v
 table-set f g n i v lt here other =
-    table-is g n (slice_set (table f n) i v) (length-set (table f n) i v ∙ length-table f n)
+    table-is g n (slice_set (tabulated f n) i v) (length-set (tabulated f n) i v ∙ length-table f n)
     (λ k low.
     ⊎_elim
-    (λ (e : k ≡ i). subst (λ x. g x ≡ slice_index_or (slice_set (table f n) i v) x false) (sym e) (here ∙ sym (get_or-set_same (table f n) i v false (omega (arith, length-table f n, lt)))))
-    (λ (ne : k ≢ i). other k low ne ∙ sym (table-get f n k false low) ∙ sym (get_or-set_other (table f n) i k v false ne))
+    (λ (e : k ≡ i). subst (λ x. g x ≡ slice_index_or (slice_set (tabulated f n) i v) x false) (sym e) (here ∙ sym (get_or-set_same (tabulated f n) i v false (omega (arith, length-table f n, lt)))))
+    (λ (ne : k ≢ i). other k low ne ∙ sym (table-get f n k false low) ∙ sym (get_or-set_other (tabulated f n) i k v false ne))
     (cases_eq k i))
 
 pub length-marks_of : (words : List ℕ) (n : ℕ) → length (marks_of words n) ≡ n
@@ -137,7 +137,7 @@ pub row_kept : (words after : List ℕ) (width marks q : ℕ) → marks ≤ 64 *
     ((k : ℕ) → k < width → slice_index_or after (width * q + k) 0 ≡ slice_index_or words (width * q + k) 0) → row_at after width marks q ≡ row_at words width marks q
 unfolding row_at
 row_kept words after width marks q low same =
-    table-is (λ k. is_set after (64 * (width * q) + k)) marks (table (λ k. is_set words (64 * (width * q) + k)) marks) (length-table (λ k. is_set words (64 * (width * q) + k)) marks)
+    table-is (λ k. is_set after (64 * (width * q) + k)) marks (tabulated (λ k. is_set words (64 * (width * q) + k)) marks) (length-table (λ k. is_set words (64 * (width * q) + k)) marks)
     (λ i lt.
     let place : (64 * (width * q) + i) / 64 ≡ width * q + i / 64 = omega arith in
     marked_kept words after (64 * (width * q) + i)

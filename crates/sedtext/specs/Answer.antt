@@ -5,7 +5,7 @@ use Rattle.sedtext.specs.declared.found.Found.{Found}
 use Rattle.sedtext.specs.Spans.{IsLeftmostLongest as IsFound, NotFound}
 use Rattle.sedtext.specs.Caps.{IsReport}
 use Rattle.sedtext.specs.Groups.{span_of}
-use Rattle.sedtext.specs.Matching.{leftmost_longest, report}
+use Rattle.sedtext.specs.Matching.{leftmost_longest, reported_groups}
 
 -- the span, if there is one, lies in a text of n bytes
 abbrev pub SpanIn : ℕ → Option (ℕ × ℕ) → Type 0
@@ -34,4 +34,4 @@ MatchAnswer e w from r =
 
 -- the answer is the one that is computed: the same span and the same groups, or none
 abbrev pub IsComputed : Tree → List ℕ → ℕ → Option Found → Type 0
-IsComputed e w from r = (span_found r ≡ leftmost_longest e w from) × IfSome r (λ f. f.groups ≡ report e w f.start f.end)
+IsComputed e w from r = (span_found r ≡ leftmost_longest e w from) × IfSome r (λ f. f.groups ≡ reported_groups e w f.start f.end)

@@ -21,9 +21,9 @@ abbrev pub FirstFew : Few → List ℕ → ℕ → Option ℕ → Type 0
 FirstFew few w = FirstFrom (FewAt few w)
 
 -- the byte is one of those gathered before
-abbrev pub Gathered : Option Few → ℕ → Type 0
-Gathered None c = ⊥
-Gathered (Some few) c = HasFew few c
+abbrev pub IsGathered : Option Few → ℕ → Type 0
+IsGathered None c = ⊥
+IsGathered (Some few) c = HasFew few c
 
 -- the few are the members of the set
 abbrev pub AreMembers : List Bool → Few → Type 0

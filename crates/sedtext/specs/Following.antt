@@ -40,7 +40,7 @@ bytes_passed (Some q) f = f.1 - (q + 1)
 
 -- looks counted from the one number to the other pass over some match that begins at place p or later: one look at least for each of its
 -- bytes and, where the expression can match before a text's end, for each byte from p to the match's end
-pub record PassesOver (e : Tree) (w : List ℕ) (p before after : ℕ) : Type 0 where
+pub record LooksPast (e : Tree) (w : List ℕ) (p before after : ℕ) : Type 0 where
   pub start : ℕ
   pub end : ℕ
   pub later : p ≤ start

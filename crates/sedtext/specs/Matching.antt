@@ -50,8 +50,8 @@ unfoldable pub leftmost_longest : Tree → List ℕ → ℕ → Option (ℕ × �
 leftmost_longest e w p = found_from e w (length w + 1 - p) p
 
 -- how far a goes when a and b lead from i to j
-unfoldable pub cut : (ℕ → ℕ → Bool) → (ℕ → ℕ → Bool) → ℕ → ℕ → ℕ
-cut a b i j = unwrap_or (greatest (λ k. a i k && b k j) (j + 1)) i
+unfoldable pub greatest_cut : (ℕ → ℕ → Bool) → (ℕ → ℕ → Bool) → ℕ → ℕ → ℕ
+greatest_cut a b i j = unwrap_or (greatest (λ k. a i k && b k j) (j + 1)) i
 
 -- how far the first copy goes
 unfoldable pub first_copy : (ℕ → ℕ → Bool) → ℕ → ℕ → ℕ
@@ -64,7 +64,7 @@ last_start (suc n) step i j = cond (ltb (first_copy step i j) j) (last_start n s
 
 -- the groups after a match of i..j
 unfoldable pub groups_after : Tree → List ℕ → ℕ → ℕ → Groups → Groups
-groups_after (seq a b) w i j old = groups_after b w (cut (spans a w) (spans b w) i j) j (groups_after a w i (cut (spans a w) (spans b w) i j) old)
+groups_after (seq a b) w i j old = groups_after b w (greatest_cut (spans a w) (spans b w) i j) j (groups_after a w i (greatest_cut (spans a w) (spans b w) i j) old)
 groups_after (alt a b) w i j old = cond (spans a w i j) (groups_after a w i j old) (groups_after b w i j old)
 groups_after (group k a) w i j old = slice_set (groups_after a w i j (forget (group k a) old)) k (Some (i, j))
 groups_after (star a first) w i j old =
@@ -76,8 +76,8 @@ groups_after (opt a first) w i j old =
 groups_after other w i j old = old
 
 -- the groups of a match of i..j as they are reported
-unfoldable pub report : Tree → List ℕ → ℕ → ℕ → Groups
-report e w i j = slice_set (groups_after e w i j no_groups) 0 (Some (i, j))
+unfoldable pub reported_groups : Tree → List ℕ → ℕ → ℕ → Groups
+reported_groups e w i j = slice_set (groups_after e w i j no_groups) 0 (Some (i, j))
 
 -- The match of the null string at a place is passed over for another one. `span` gives where a match begins and ends.
 abbrev pub unless_null_at : {M : Type 0} → (M → ℕ × ℕ) → ℕ → Option M → Option M → Option M

@@ -4,7 +4,7 @@ use Rattle.sedre.specs.Tree.{Tree}
 use Rattle.sedtext.specs.Spans.{Matches, IsLeftmostLongest, NotFound, SomeFound}
 use Rattle.sedtext.specs.Caps.{Captures, IsReport}
 use Rattle.sedtext.specs.Groups.{Groups}
-use Rattle.sedtext.specs.Matching.{groups_after, leftmost_longest, report, spans}
+use Rattle.sedtext.specs.Matching.{groups_after, leftmost_longest, reported_groups, spans}
 
 -- the computed match is the one that the relations determine
 abbrev pub SpansLaw : Type 0
@@ -27,4 +27,4 @@ abbrev pub CapsLaw : Type 0
 CapsLaw = (e : Tree) (w : List ℕ) (i j : ℕ) (old new : Groups) → Matches e w i j → (new ≡ groups_after e w i j old) ↔ Captures e w i j old new
 
 abbrev pub ReportLaw : Type 0
-ReportLaw = (e : Tree) (w : List ℕ) (i j : ℕ) (groups : Groups) → Matches e w i j → (groups ≡ report e w i j) ↔ IsReport e w i j groups
+ReportLaw = (e : Tree) (w : List ℕ) (i j : ℕ) (groups : Groups) → Matches e w i j → (groups ≡ reported_groups e w i j) ↔ IsReport e w i j groups

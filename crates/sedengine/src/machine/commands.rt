@@ -4,8 +4,8 @@ ghost use Rattle.sedscript.specs.Script.{ActionWithin};
 ghost use Rattle.sedscript.specs.declared.types.Action.TheVariants.{Plain};
 ghost use Rattle.sedengine.specs.State.{do_at, flush, print_pattern};
 ghost use Rattle.sedengine.specs.Move.{acts, line_to, writes_text_at};
-ghost use Rattle.sedengine.specs.Ends.{is_next};
-ghost use Rattle.sedengine.specs.Inside.{holds};
+ghost use Rattle.sedengine.specs.Ends.{is_next_line};
+ghost use Rattle.sedengine.specs.Inside.{keeps_in_hold};
 ghost use Rattle.sedengine.specs.Passing.{NeedWithin, behind_by, need_of_action, passed_over};
 ghost use Rattle.sedengine.specs.Calls.{Delivers, Puts};
 ghost use Rattle.sedengine.specs.Steps.{reaches, ActsHere, ActsLines, Advances, HasAction, takes_further_line};
@@ -31,7 +31,7 @@ fn writes_text(command: &Command, end: bool) -> bool
 
 /// Whether an action puts something into the hold space.
 pub(crate) fn is_holding(action: &Action) -> bool
-    ensures { result ≡ holds action.now }
+    ensures { result ≡ keeps_in_hold action.now }
 {
     matches!(
         action,
@@ -116,7 +116,7 @@ impl Machine {
         requires within { ActionWithin self.old.script action }
         requires action { HasAction (slice_get self.old.script.commands k) action }
         requires sinks { length self.old.script.wfiles < O.count outputs.old }
-        ensures { ActsLines R.remaining R.failures R.reference O.tally O.count T.text (λ g s. acts g s writes_text action) (is_next action)
+        ensures { ActsLines R.remaining R.failures R.reference O.tally O.count T.text (λ g s. acts g s writes_text action) (is_next_line action)
             self.old self.new lines.old lines.new outputs.old outputs.new texts.old texts.new result }
     {
         match action {

@@ -2,7 +2,7 @@
 //! so the proof of one call for all of them would be long.
 ghost use Rattle.std.specs.Prelude.{◌≡◌, ◌<◌, ◌≤◌, IfOk, length};
 ghost use Rattle.sedengine.specs.Fitting.{AllFit, Seek};
-ghost use Rattle.sedengine.specs.Parts.{AreParts, AreSeekers, IsStore};
+ghost use Rattle.sedengine.specs.Parts.{AreEngineParts, AreSeekers, IsStore};
 
 use crate::idle::{Idle, idle_of};
 use crate::limits::Limits;
@@ -26,7 +26,7 @@ impl Parts {
     /// The parts at the start of a run of this script.
     pub(super) fn new(alloc: Global, script: &Script, limits: &Limits) -> Result<Parts, AllocError>
         requires { script.now.max_nodes ≤ limits.now.nodes }
-        ensures { IfOk result (AreParts script.now limits.now) }
+        ensures { IfOk result (AreEngineParts script.now limits.now) }
     {
         let ranges = vec![in alloc; false; script.len()]?;
         let idle = idle_of(alloc, script)?;

@@ -3,14 +3,14 @@ ghost use Rattle.std.specs.Prelude.{◌≡◌, ◌<◌, ◌≤◌, ◌+◌, ◌*
 ghost use Rattle.sedscript.specs.Ranges.{IsOneOf};
 ghost use Rattle.sedspace.specs.Stream.{AreWholeLines};
 ghost use Rattle.sedengine.specs.State.{begin};
-ghost use Rattle.sedengine.specs.Calls.{Delivers, end_of};
-ghost use Rattle.sedengine.specs.Passing.{AllowsLines, BreaksOffBy, PassesLines, PassesOver, WritesLines, counted_block, need_at};
+ghost use Rattle.sedengine.specs.Calls.{Delivers, without_count};
+ghost use Rattle.sedengine.specs.Passing.{AllowsLines, BreaksOffBy, PassesLines, PassesLinesOver, WritesLines, counted_block, need_at};
 
 use super::Machine;
 use crate::block::{clear_end, extent_of, line_length, lines_before};
 use crate::ends::Ended;
 use crate::idle::{Idle, clear_lines};
-use crate::meter::{Cut, MeteredSinks};
+use crate::meter::{CutShort, MeteredSinks};
 use crate::next_step::NextStep;
 use sedspace::{ByteSource, Lines, whole_lines};
 
@@ -45,7 +45,7 @@ impl Machine {
 
     /// The first of the lines ahead that no command touches, as far as is told at a look.
     fn idle_block(&self, ahead: &[u8]) -> Option<IdleLines>
-        ensures { IfSome result (PassesOver self.now ahead.now) }
+        ensures { IfSome result (PassesLinesOver self.now ahead.now) }
     {
         let Some(idle) = &self.idle else {
             return None;
@@ -71,7 +71,7 @@ impl Machine {
 
     /// The first of the lines ahead that may be passed over. Where there is none, the next try is put off.
     fn find_block(&mut self, ahead: &[u8]) -> Option<IdleLines>
-        ensures block { IfSome result (PassesOver self.old ahead.now) }
+        ensures block { IfSome result (PassesLinesOver self.old ahead.now) }
         ensures same { self.new ≡ self.old }
     {
         if whole_lines(ahead) == 0 {
@@ -85,11 +85,11 @@ impl Machine {
     }
 
     /// Writes lines as they are, unless default output is suppressed.
-    fn write_lines<O: MeteredSinks>(&self, bytes: &[u8], outputs: &mut O) -> Result<(), Cut>
+    fn write_lines<O: MeteredSinks>(&self, bytes: &[u8], outputs: &mut O) -> Result<(), CutShort>
         requires { 0 < O.count outputs.old }
         ensures writes { WritesLines (O.tally outputs.old) (O.tally outputs.new) self.now.script.quiet bytes.now
             result }
-        ensures output { Delivers O.tally O.count outputs.old outputs.new (end_of result) }
+        ensures output { Delivers O.tally O.count outputs.old outputs.new (without_count result) }
     {
         if self.script.quiet() {
             return Ok(());

@@ -1,6 +1,6 @@
 //! Up to three bytes, one of which is sought.
 ghost use Rattle.std.specs.Prelude.{◌≡◌, ℕ, ◌↔◌, ◌⊎◌, IfSome, IsTrue};
-ghost use Rattle.sedtext.specs.Few.{AreMembers, Gathered, HasFew, FirstFew};
+ghost use Rattle.sedtext.specs.Few.{AreMembers, IsGathered, HasFew, FirstFew};
 
 use memchr::{memchr, memchr2, memchr3};
 use sedre::ByteSet;
@@ -42,7 +42,7 @@ impl Few {
 
 /// The bytes gathered before and one more, if they are still few.
 fn with_byte(few: Option<Few>, byte: u8) -> Option<Few>
-    ensures { IfSome result (λ f. (c : ℕ) → HasFew f c ↔ (Gathered few c ⊎ (c ≡ byte))) }
+    ensures { IfSome result (λ f. (c : ℕ) → HasFew f c ↔ (IsGathered few c ⊎ (c ≡ byte))) }
 {
     match few {
         None => Some(Few::One(byte)),

@@ -1,6 +1,6 @@
 use Rattle.std.proofs.Common.{◌∙◌, ap, inl, inr, map, refl}
 use Rattle.std.specs.String.{string_bytes}
-use Rattle.sededit.specs.Program.{or_standard, texts_of}
+use Rattle.sededit.specs.Program.{or_standard, texts_by_name}
 use Rattle.sededit.proofs.RunLemmas.{Ran-from, Ready}
 use Rattle.sededit.proofs.program.run_line.Goals as goal
 
@@ -48,7 +48,7 @@ returns-in-Ok-run g c =
     let r = c.in-Ok.ensures in
     let names = or_standard (map string_bytes c.args.line.now.operands.items) in
     let ready : Ready (g.I.Inputs.ahead c.args.inputs.now names) (g.I.Inputs.ahead c.read_script.new.inputs (or_standard (map string_bytes c.as_slice.result.now)))
-    (texts_of (g.N.Names.file c.args.names.now) (g.N.Texts.text c.args.names.now) c.in-Ok.script) (g.N.Texts.text c.name_files.new.names)
+    (texts_by_name (g.N.Names.file c.args.names.now) (g.N.Texts.text c.args.names.now) c.in-Ok.script) (g.N.Texts.text c.name_files.new.names)
     (g.O.Outputs.contents c.args.sinks.now) (g.O.Outputs.contents c.create_files.new.sinks) =
     record { kept = rw c.as_slice.ensures.value (r.inputs.same_ahead names); same_texts = c.in_default.ensures; same_sinks = f.contents } in
     inr (

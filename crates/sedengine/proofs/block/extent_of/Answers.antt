@@ -1,6 +1,6 @@
 use Rattle.std.proofs.Common.{length, take, subst, sym, ap, ◌∙◌, arith}
 use Rattle.std.proofs.Math.Seq.{take-length}
-use Rattle.sedspace.specs.Lines.{lines}
+use Rattle.sedspace.specs.Lines.{split_lines}
 use Rattle.sedspace.specs.Stream.{AreWholeLines}
 use Rattle.sedengine.proofs.BlockLemmas.{whole_count}
 use Rattle.sedengine.proofs.block.extent_of.Goals as goal
@@ -11,7 +11,7 @@ returns-then-lines-most c =
     record {
       within = omega arith;
       whole = subst AreWholeLines (sym (take-length bytes)) c.requires;
-      count = c.count_lines-lines.ensures ∙ whole_count bytes c.requires ∙ ap (λ w. length (lines w)) (sym (take-length bytes));
+      count = c.count_lines-lines.ensures ∙ whole_count bytes c.requires ∙ ap (λ w. length (split_lines w)) (sym (take-length bytes));
       few = c.if-lines-most.true;
     }
 

@@ -1,5 +1,5 @@
 use Rattle.std.proofs.Common.{◌≡◌, ℕ, false, get_or, refl, subst, arith, rules}
-use Rattle.sedengine.specs.Passing.{IsClear}
+use Rattle.sedengine.specs.Passing.{AsksNoNumber}
 use Rattle.sedengine.proofs.Walking.{cleared_none, cleared_more}
 use Rattle.sedengine.proofs.idle.clear_lines.Goals as goal
 
@@ -14,4 +14,4 @@ walk-preserved c =
 pub returns-clause-clear : goal.returns-clause-clear
 returns-clause-clear c =
     let all : c.walk.j ≡ c.args.reached = omega arith in
-    subst (λ (j : ℕ). IsClear c.args.script.now.commands c.args.script.now.substitutions j c.args.number c.walk.most) all c.walk.invariant.clear
+    subst (λ (j : ℕ). AsksNoNumber c.args.script.now.commands c.args.script.now.substitutions j c.args.number c.walk.most) all c.walk.invariant.clear

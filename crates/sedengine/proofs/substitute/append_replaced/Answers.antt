@@ -1,6 +1,6 @@
 use Rattle.std.proofs.Common.{rules, arith, ◌-◌, ◌∙◌, Bool, Err, ap, drop, length, refl, subst, sym, take}
 use Rattle.std.specs.Prelude.{slice_range}
-use Rattle.sedengine.specs.SubstituteParts.{GroupsOf, has_group}
+use Rattle.sedengine.specs.SubstituteParts.{GroupsOf, names_group}
 use Rattle.sedengine.proofs.Due.{appended, due_after, due_cut, due_full, due_next, due_rest}
 use Rattle.sedengine.proofs.Due.{groups_paid, lies_on, more_pending, none_pending}
 use Rattle.sedengine.proofs.Fitting.{keeps_trans}
@@ -13,7 +13,7 @@ put-requires c = record {
   lies = let lies = rw c.in-Some.is at c.occurrences.invariant.lies in (lies.1, lies.2, tt);
   groups_in = λ some.
       let told = rw c.in-Some.is at c.occurrences.invariant.groups in
-      (told (ap has_group (sym c.parts-parts.ensures.pieces) ∙ some)).1;
+      (told (ap names_group (sym c.parts-parts.ensures.pieces) ∙ some)).1;
 }
 
 pub returns-in_err-append : goal.returns-in_err-append

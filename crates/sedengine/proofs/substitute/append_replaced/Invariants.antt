@@ -2,7 +2,7 @@ use Rattle.std.proofs.Common.{◌≡◌, ◌≤◌, ℕ, ◌+◌, ◌-◌, ◌*�
 use Rattle.std.specs.Prelude.{IfSome}
 use Rattle.sedmatch.specs.Occurrences.{KeepsRoom, Serves, owed, owed_after}
 use Rattle.sedengine.specs.Substitute.{replaced_from}
-use Rattle.sedengine.specs.SubstituteParts.{GroupsOf, has_group, later_cost, owed_groups, owed_groups_after, pending}
+use Rattle.sedengine.specs.SubstituteParts.{GroupsOf, names_group, later_cost, owed_groups, owed_groups_after, pending}
 use Rattle.sedengine.proofs.substitute.append_replaced.Given as goal
 
 -- what the groups of one occurrence take at most, for m nodes and n bytes
@@ -28,7 +28,7 @@ invariant-occurrences l = record {
   limit : l.build.limit ≡ l.fn.build.limit;
   copied : l.copied ≤ length l.text;
   lies : IfSome l.occurrence (λ span. (l.copied ≤ span.0) × (span.0 ≤ span.1) × (span.1 ≤ length l.text));
-  groups : GroupsOf l.fn.matcher l.text (has_group l.substitution.replacement) l.occurrence l.findings.groups;
+  groups : GroupsOf l.fn.matcher l.text (names_group l.substitution.replacement) l.occurrence l.findings.groups;
   made : l.build.bytes ++ replaced_from l.text l.substitution.replacement l.copied
       (pending l.fn.matcher l.text l.substitution.global l.occurrence)
       ≡ l.fn.build.bytes ++ replaced_from l.text l.substitution.replacement 0

@@ -1,7 +1,7 @@
 use Rattle.std.proofs.Common.{rules, ◌∙◌, Some, None, ap, length, refl, arith}
 use Rattle.sedspace.specs.Spaces.{Contents}
 use Rattle.sedengine.proofs.Fitting.{keeps_trans, kept_on}
-use Rattle.sedengine.specs.SubstituteParts.{has_group, pending}
+use Rattle.sedengine.specs.SubstituteParts.{names_group, pending}
 use Rattle.sedengine.proofs.Due.{to_replace_is, groups_took, replaces_full, replaces_made}
 use Rattle.sedengine.proofs.Telling.{all_took, searches_none, searches_three, searches_two, takes_few, takes_none}
 use Rattle.sedengine.proofs.substitute.build_text.Goals as goal
@@ -108,5 +108,5 @@ append_replaced-requires c = record {
   lies = let lies = c.in-Some-next_occurrence.ensures.next.1 in (lies.0, lies.1, tt);
   groups = search rules;
   serves = let w = c.in-Some-next_occurrence.ensures in rw w.same.0 w.serves.1;
-  wanted = c.needs_groups-wanted.ensures ∙ ap has_group c.parts.ensures.pieces;
+  wanted = c.needs_groups-wanted.ensures ∙ ap names_group c.parts.ensures.pieces;
 }

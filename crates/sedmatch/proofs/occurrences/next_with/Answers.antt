@@ -2,7 +2,7 @@ use Rattle.std.proofs.Common.{Some, None, length, arith}
 use Rattle.sedre.specs.Tree.{expression_tree}
 use Rattle.sedtext.specs.Answer.{SpanAnswer}
 use Rattle.sedtext.proofs.FollowingLemmas.{if_occurs}
-use Rattle.sedpass.specs.Search.{owed_search}
+use Rattle.sedpass.specs.Search.{owed_seeking}
 use Rattle.sedpass.proofs.OccurrenceLemmas.{answer_found, answer_lies, search_falls}
 use Rattle.sedpass.proofs.SearchLemmas.{later_answer, looks_later, looks_to_end}
 use Rattle.sedmatch.proofs.OccurrenceLemmas.{first_paid, first_square, lies_first}
@@ -60,7 +60,7 @@ returns-in-Some-skip_to_literal-clause-cost c =
     let less = search_falls m n c.args.seeking.now 0 start (omega arith) in
     rw c.in-None.is (
       omega (arith, looks.0, pays.0),
-      first_paid m n start (owed_search m n c.args.seeking.now start) (owed_search m n c.args.seeking.now 0) c.args.steps.now c.skip_to_literal.new.steps c.next_match.new.steps (owed_search m n c.next_match.new.seeking)
+      first_paid m n start (owed_seeking m n c.args.seeking.now start) (owed_seeking m n c.args.seeking.now 0) c.args.steps.now c.skip_to_literal.new.steps c.next_match.new.steps (owed_seeking m n c.next_match.new.seeking)
           c.next_match.result less (omega (arith, looks.1)) pays.1,
     )
 

@@ -1,6 +1,6 @@
 use Rattle.std.proofs.Common.{rules, ◌≡◌, ◌-◌, ◌≤◌, List, [], ◌∷◌, ◌++◌, length, reverse, ap, ◌∙◌, subst, arith}
-use Rattle.sedpass.proofs.Words.{nil_from_length, size, tree_at, expression_tree, At, Task, Apart, Told}
-use Rattle.sedpass.specs.Decide.{told_in, told_of, undecided, IsTold, nodes_in, text_in, IsMatch}
+use Rattle.sedpass.proofs.Words.{nil_from_length, size, tree_at, expression_tree, At, GroupTask, Apart, Decided}
+use Rattle.sedpass.specs.Decide.{told_in, told_of, undecided, HasBlank, nodes_in, subject_text, IsMatch}
 use Rattle.sedpass.proofs.DecideLemmas.{starts_due, starts_blank, tables_same, tables_then}
 use Rattle.sedpass.proofs.KeptLemmas.{space_same, space_then}
 use Rattle.sedpass.proofs.OneGroupLemmas.{walk_report}
@@ -10,12 +10,12 @@ use Rattle.sedpass.proofs.groups.decide.Goals as goal
 pub all-init : goal.all-init
 all-init c =
     let s = c.args.subject in
-    let told : Told = record { due = c.args.due; spans = undecided c.args.start c.args.stop } in
-    let first : Task = Apart (record { node = s.prepared.now.root; start = c.args.start; stop = c.args.stop }) in
-    let begun : reverse c.push_reserved.new.self.items ≡ first ∷ [] = ap reverse (c.push_reserved.ensures.items ∙ ap (λ (xs : List Task). xs ++ (first ∷ [])) c.requires.tasks) in
-    let there : IsMatch (nodes_in s) (text_in s) (record { node = s.prepared.now.root; start = c.args.start; stop = c.args.stop }) =
+    let told : Decided = record { due = c.args.due; spans = undecided c.args.start c.args.stop } in
+    let first : GroupTask = Apart (record { node = s.prepared.now.root; start = c.args.start; stop = c.args.stop }) in
+    let begun : reverse c.push_reserved.new.self.items ≡ first ∷ [] = ap reverse (c.push_reserved.ensures.items ∙ ap (λ (xs : List GroupTask). xs ++ (first ∷ [])) c.requires.tasks) in
+    let there : IsMatch (nodes_in s) (subject_text s) (record { node = s.prepared.now.root; start = c.args.start; stop = c.args.stop }) =
     record { inside = omega (arith, s.prepared.now.is_prepared.last); up = c.requires.order.0; fits = c.requires.order.1; at = c.requires.spans } in
-    let blank : IsTold told = record { blank = starts_blank c.args.start c.args.stop c.args.due c.requires.whole; whole = c.requires.whole } in
+    let blank : HasBlank told = record { blank = starts_blank c.args.start c.args.stop c.args.due c.requires.whole; whole = c.requires.whole } in
     record {
       keeps = record { desk = c.requires.desk; shape = tables_same c.args.tables.now; space = space_same c.args.room.now.kept; tasks = omega arith };
       works = rw begun (works_none s (first ∷ []) told c.args.steps.now blank (there, tt));
@@ -76,7 +76,7 @@ returns c =
     let s = c.args.subject in
     let p = s.prepared.now in
     let e = p.arena.expr in
-    let w = text_in s in
+    let w = subject_text s in
     let i = c.args.start in
     let j = c.args.stop in
     let last = told_in c.all.told in

@@ -1,20 +1,20 @@
 use Rattle.std.proofs.Common.{◌≡◌, ◌⊎◌, ◌+◌, ◌-◌, ◌*◌, ◌<◌, ◌≤◌, ℕ, length}
 use Rattle.sedpass.proofs.Words.{LastCopy, TakesAtLeast, CostsWithin, At, CopiesLead}
-use Rattle.sedpass.specs.Kept.{owed}
-use Rattle.sedpass.specs.Decide.{EndsRegion, KeepsDesk, nodes_in, text_in}
+use Rattle.sedpass.specs.Kept.{owed_region}
+use Rattle.sedpass.specs.Decide.{EndsRegion, KeepsGroupDesk, nodes_in, subject_text}
 use Rattle.sedpass.proofs.groups.last_copy.Given as goal
 
 abbrev pub invariant-copies : goal.invariant-copies
 invariant-copies l = record {
-  desk : KeepsDesk l.subject l.initial.tables l.tables l.initial.kept l.kept;
+  desk : KeepsGroupDesk l.subject l.initial.tables l.tables l.initial.kept l.kept;
   ends : EndsRegion l.subject l.kept.region l.here;
   low : l.here.start ≤ l.end;
   within : l.end ≤ l.here.stop;
-  rest : CopiesLead (At (nodes_in l.subject) (text_in l.subject) l.fn.a.index) l.here.stop l.end;
-  walk : (c : ℕ) → ((l.end < l.here.stop) × LastCopy (At (nodes_in l.subject) (text_in l.subject) l.fn.a.index) l.here.stop l.end c) ⊎ ((l.end ≡ l.here.stop) × (c ≡ l.copy)) →
-      LastCopy (At (nodes_in l.subject) (text_in l.subject) l.fn.a.index) l.here.stop l.here.start c;
-  cost : CostsWithin l.initial.steps l.steps (owed (length (nodes_in l.subject)) l.initial.kept.region l.here.start + 72 * length (nodes_in l.subject) * (l.here.stop - l.here.start))
-      (owed (length (nodes_in l.subject)) l.kept.region l.end + 72 * length (nodes_in l.subject) * (l.here.stop - l.end));
+  rest : CopiesLead (At (nodes_in l.subject) (subject_text l.subject) l.fn.a.index) l.here.stop l.end;
+  walk : (c : ℕ) → ((l.end < l.here.stop) × LastCopy (At (nodes_in l.subject) (subject_text l.subject) l.fn.a.index) l.here.stop l.end c) ⊎ ((l.end ≡ l.here.stop) × (c ≡ l.copy)) →
+      LastCopy (At (nodes_in l.subject) (subject_text l.subject) l.fn.a.index) l.here.stop l.here.start c;
+  cost : CostsWithin l.initial.steps l.steps (owed_region (length (nodes_in l.subject)) l.initial.kept.region l.here.start + 72 * length (nodes_in l.subject) * (l.here.stop - l.here.start))
+      (owed_region (length (nodes_in l.subject)) l.kept.region l.end + 72 * length (nodes_in l.subject) * (l.here.stop - l.end));
   counts : TakesAtLeast l.initial.steps l.steps (l.end - l.here.start);
 }
 

@@ -1,6 +1,6 @@
 use Rattle.std.proofs.Common.{◌≡◌, ◌∷◌, Some, length, reverse, ◌∙◌, true≢false, sym, ap, subst, arith}
 use Rattle.sedpass.proofs.Words.{length-reverse, Apart}
-use Rattle.sedpass.specs.Decide.{AreReady, GoesOn, Works, nodes_in, text_in, waiting, weights}
+use Rattle.sedpass.specs.Decide.{AreReady, GoesOn, Works, nodes_in, subject_text, waiting, weights}
 use Rattle.sedpass.specs.Regions.{all_of}
 use Rattle.sedpass.proofs.DecideLemmas.{desk_then, may_begin, tables_same}
 use Rattle.sedpass.proofs.KeptLemmas.{space_same, space_then}
@@ -32,7 +32,7 @@ nodes-init c =
 pub turn-then-requires : goal.turn-then-requires
 turn-then-requires c =
     let inv = c.nodes.invariant in
-    let ready = subst (λ at. AreReady (nodes_in c.args.subject) (text_in c.args.subject) (waiting at c.nodes.room.tasks.items)) c.in-Some.is inv.works.ready in
+    let ready = subst (λ at. AreReady (nodes_in c.args.subject) (subject_text c.args.subject) (waiting at c.nodes.room.tasks.items)) c.in-Some.is inv.works.ready in
     record { arena = c.requires.arena; there = ready.0; ends = subst (GoesOn c.args.subject c.nodes.room.kept.region) c.in-Some.is inv.goes; desk = inv.keeps.desk; told = inv.works.told }
 
 pub put-at-requires : goal.put-at-requires
@@ -48,7 +48,7 @@ nodes-smaller c =
     let s = c.args.subject in
     let stack = c.nodes.room.tasks.items in
     let turn = c.turn-then in
-    let ready = subst (λ at. AreReady (nodes_in s) (text_in s) (waiting at stack)) c.in-Some.is c.nodes.invariant.works.ready in
+    let ready = subst (λ at. AreReady (nodes_in s) (subject_text s) (waiting at stack)) c.in-Some.is c.nodes.invariant.works.ready in
     let turned = works_turn s c.in-Some.next turn.result (reverse stack) c.nodes.told turn.new.told turn.new.kept.region c.nodes.steps turn.new.steps ready turn.ensures.turned turn.ensures.told turn.ensures.counts in
     omega (arith, turned.less, ap (weights (nodes_in s)) c.put-at.ensures.items, ap (λ at. weights (nodes_in s) (waiting at stack)) c.in-Some.is)
 

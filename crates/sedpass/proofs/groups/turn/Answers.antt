@@ -1,5 +1,5 @@
 use Rattle.std.proofs.Common.{inl, inr, refl, arith}
-use Rattle.sedpass.specs.Decide.{found, nodes_in}
+use Rattle.sedpass.specs.Decide.{spans_in, nodes_in}
 use Rattle.sedpass.proofs.DecideLemmas.{desk_same, none_due}
 use Rattle.sedpass.proofs.SpineLemmas.{least_look}
 use Rattle.sedpass.proofs.Words.{least_none, both_ways}
@@ -20,5 +20,5 @@ returns c =
       turned = inr (look.result, look.new.steps, look.ensures.node, look.ensures.counts, look.ensures.cost, turn.turned);
       desk = turn.desk;
       told = turn.told;
-      counts = least_look c.args.steps.now look.new.steps c.turn_node.new.steps (found c.args.told.now.spans) (found c.turn_node.new.told.spans) look.ensures.counts turn.turned.cost.0 turn.few;
+      counts = least_look c.args.steps.now look.new.steps c.turn_node.new.steps (spans_in c.args.told.now.spans) (spans_in c.turn_node.new.told.spans) look.ensures.counts turn.turned.cost.0 turn.few;
     }

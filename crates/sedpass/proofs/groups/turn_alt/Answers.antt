@@ -1,6 +1,6 @@
 use Rattle.std.proofs.Common.{refl, sym, inl, inr, arith}
 use Rattle.sedpass.proofs.Words.{both_ways, Alt}
-use Rattle.sedpass.specs.Decide.{KeepsDesk}
+use Rattle.sedpass.specs.Decide.{KeepsGroupDesk}
 use Rattle.sedpass.specs.Regions.{last_of}
 use Rattle.sedpass.proofs.DecideLemmas.{desk_ahead, ends_still, look_paid}
 use Rattle.sedpass.proofs.TurnLemmas.{alt_turned}
@@ -18,7 +18,7 @@ spans-spans-requires c =
     }
 
 -- where the left alternative was looked at, the region is as it was
-looked : (c : After-spans-spans) → KeepsDesk c.args.subject c.args.tables.now (record c.args.tables.now { inside = c.spans-spans.new.table }) c.args.kept.now c.spans-spans.new.self
+looked : (c : After-spans-spans) → KeepsGroupDesk c.args.subject c.args.tables.now (record c.args.tables.now { inside = c.spans-spans.new.table }) c.args.kept.now c.spans-spans.new.self
 looked c =
     let desk = c.requires.desk in
     desk_ahead c.args.subject c.args.tables.now c.spans-spans.new.table c.args.tables.now.ahead c.args.kept.now c.spans-spans.new.self desk c.spans-spans.ensures.keeps desk.ahead.table (refl, refl, refl, refl, refl)

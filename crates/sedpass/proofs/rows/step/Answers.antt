@@ -1,6 +1,6 @@
 use Rattle.std.proofs.Common.{◌+◌, Some, length, ◌∙◌, sym, arith, true≢false, false}
 use Rattle.sedpass.proofs.Words.{seen-length, IsPlace, least_both}
-use Rattle.sedpass.specs.Rows.{nodes_of, at_begin, at_end, TellTook}
+use Rattle.sedpass.specs.Rows.{nodes_of, at_begin, at_edge, TellTook}
 use Rattle.sedpass.proofs.FactLemmas.{null_tells, null_anywhere}
 use Rattle.sedpass.proofs.RowLemmas.{took_bits}
 use Rattle.sedpass.proofs.rows.step.Goals as goal
@@ -11,7 +11,7 @@ returns-clause-leads c before w s p bytes is_end is_start row =
     let way = c.args.way in
     let kind = c.edge_kind-kind.result in
     let end = c.edge_kind-kind.ensures.end in
-    let there : IsPlace w (p + 1) (at_begin way.mirrored kind) (at_end way.mirrored kind) =
+    let there : IsPlace w (p + 1) (at_begin way.mirrored kind) (at_edge way.mirrored kind) =
     ((λ h. absurd (true≢false (sym h ∙ c.edge_kind-kind.ensures.begin)), λ none. absurd (omega arith)), (λ h. is_end.0 (sym end ∙ h), λ at. end ∙ is_end.1 at)) in
     let nulls = null_tells way.mirrored e kind w (p + 1) there in
     let told : TellTook (nodes_of way e) w c.args.root s (p + 1) (Some c.args.byte) c.args.work.now.leaves =

@@ -1,5 +1,5 @@
 use Rattle.std.proofs.Common.{◌≡◌, min, take}
-use Rattle.sedre.specs.Items.{decimal}
+use Rattle.sedre.specs.Tokens.{decimal}
 use Rattle.sedre.proofs.intervals.decimal.Given as goal
 
 abbrev pub invariant-loop-digit : goal.invariant-loop-digit

@@ -1,6 +1,6 @@
 use Rattle.std.proofs.Common.{ℕ, sym, subst, ◌∙◌, length}
 use Rattle.sedscript.specs.Answers.{as_addressed, Agrees}
-use Rattle.sedscript.specs.Items.{address_at, line_of}
+use Rattle.sedscript.specs.Items.{address_at, line_address}
 use Rattle.std.proofs.Common.{Some}
 use Rattle.sedscript.specs.Bytes.{bytes_between, with_digits}
 use Rattle.sedscript.proofs.Coming.{gives_plain, line_comes, no_byte, last_address, no_address}
@@ -9,7 +9,7 @@ use Rattle.sedscript.proofs.addresses.address_at.Goals as goal
 pub returns-then-is_ascii_digit-clause-comes : goal.returns-then-is_ascii_digit-clause-comes
 returns-then-is_ascii_digit-clause-comes c =
     line_comes c.args.source.now.text.now c.args.source.now.kind c.args.source.now.max_nodes c.args.exprs.now.items c.args.at c.in-Some.b c.line_at.result (sym c.byte_at.ensures ∙ c.in-Some.is) (sym c.is_ascii_digit.ensures.value ∙ c.if-is_ascii_digit.true)
-    (subst (λ (to : ℕ). Agrees as_addressed (length c.args.exprs.now.items) c.line_at.result (line_of (length c.args.exprs.now.items) c.args.at to (with_digits (Some 0) (bytes_between c.args.source.now.text.now c.args.at to)))) c.past.ensures.is (c.line_at.ensures.is (length c.args.exprs.now.items)))
+    (subst (λ (to : ℕ). Agrees as_addressed (length c.args.exprs.now.items) c.line_at.result (line_address (length c.args.exprs.now.items) c.args.at to (with_digits (Some 0) (bytes_between c.args.source.now.text.now c.args.at to)))) c.past.ensures.is (c.line_at.ensures.is (length c.args.exprs.now.items)))
 
 pub returns-in-None-clause-comes : goal.returns-in-None-clause-comes
 returns-in-None-clause-comes c =

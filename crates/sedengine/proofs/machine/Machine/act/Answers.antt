@@ -2,7 +2,7 @@ use Rattle.std.proofs.Common.{rules, Bool, Option, ap, ◌∙◌}
 use Rattle.sedscript.specs.declared.types.Action.{Action}
 use Rattle.sedscript.specs.declared.types.Action.TheVariants.{Plain}
 use Rattle.sedengine.specs.State.{Move, Setting, State}
-use Rattle.sedengine.specs.Ends.{is_next}
+use Rattle.sedengine.specs.Ends.{is_next_line}
 use Rattle.sedengine.specs.Move.{acts}
 use Rattle.sedengine.proofs.Acts.{acts_here, lines_by, some_sink}
 use Rattle.sedengine.proofs.machine.Machine.act.Goals as goal
@@ -11,7 +11,7 @@ abbrev made : Bool → Action → Setting → State → Option Move
 made writes_text action g s = acts g s writes_text action
 
 pub returns-in_default : goal.returns-in_default
-returns-in_default g c = acts_here (is_next c.args.action) c.act_here.ensures
+returns-in_default g c = acts_here (is_next_line c.args.action) c.act_here.ensures
 
 pub returns-in-Plain-AppendNext : goal.returns-in-Plain-AppendNext
 returns-in-Plain-AppendNext g c =

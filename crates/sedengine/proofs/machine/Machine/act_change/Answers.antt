@@ -5,7 +5,7 @@ use Rattle.sedengine.specs.declared.next_step.NextStep.TheVariants as p
 use Rattle.sedengine.proofs.Sending.{Sent-none}
 use Rattle.sedengine.proofs.Writing.{Delivers-none}
 use Rattle.sedengine.proofs.Deleting.{acts_deleting, change_is, change_stops, text_put}
-use Rattle.sedengine.specs.Inside.{run_of}
+use Rattle.sedengine.specs.Inside.{run_state_of}
 use Rattle.sedengine.proofs.Tasks.{cleared_is_run}
 use Rattle.sedengine.proofs.Leaving.{falls_more, falls_kept, leaves_seen, leaves_written}
 use Rattle.sedengine.proofs.machine.Machine.act_change.Goals as goal
@@ -30,7 +30,7 @@ returns-in_err-write_line g c =
     let e = c.args.self.now in
     let w = c.in_err-write_line.ensures in
     let none = ap (λ (c : Contents). c.bytes) c.clear.ensures in
-    let e1 = run_of (record c.self.inside { pattern = c.clear.new.self }) in
+    let e1 = run_state_of (record c.self.inside { pattern = c.clear.new.self }) in
     let p = err_from_is_err_and c.from_residual.result c.from_residual.ensures.1 in
     rw (p.1, p.2) (record {
       acts = λ files told ls. change_stops c.self.inside e files ls _ c.clear.new.self _ _ _ c.in_err-write_line.field-0.0 c.self.view_is c.self.invariant none

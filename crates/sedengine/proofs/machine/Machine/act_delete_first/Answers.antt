@@ -1,5 +1,5 @@
 use Rattle.std.proofs.Common.{[], refl}
-use Rattle.sedengine.specs.Inside.{run_of}
+use Rattle.sedengine.specs.Inside.{run_state_of}
 use Rattle.sedengine.specs.declared.next_step.NextStep.TheVariants as p
 use Rattle.sedengine.proofs.Sending.{Sent-none}
 use Rattle.sedengine.proofs.Writing.{Delivers-none}
@@ -18,7 +18,7 @@ pub returns-else-cut_line : goal.returns-else-cut_line
 returns-else-cut_line g c =
     let w = c.act_delete.ensures in
     let whole = c.cut_line.ensures.whole c.if-cut_line.false in
-    let e1 = run_of (record c.self.inside { pattern = c.cut_line.new.self }) in
+    let e1 = run_state_of (record c.self.inside { pattern = c.cut_line.new.self }) in
     record {
       acts = λ files told ls. uncut_performs c.self.inside c.args.self.now c.act_delete.new.self files ls c.cut_line.new.self _ _ c.act_delete.result c.self.view_is whole.0 whole.1 (w.acts files told ls);
       falls = falls_seen c.self.inside c.args.self.now e1 c.act_delete.new.self c.self.view_is refl w.falls;

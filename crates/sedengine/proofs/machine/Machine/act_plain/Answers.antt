@@ -6,7 +6,7 @@ use Rattle.std.specs.List.{before_first}
 use Rattle.sedspace.specs.Lines.{is_newline}
 use Rattle.sedengine.specs.State.{flush, print_pattern, State, Move, Setting}
 use Rattle.sedengine.specs.Listing.{listed}
-use Rattle.sedengine.specs.Inside.{holds}
+use Rattle.sedengine.specs.Inside.{keeps_in_hold}
 use Rattle.sedengine.specs.Move.{acts, line_to, newline, to_sink}
 use Rattle.sedengine.specs.Run.{RunState}
 use Rattle.sedengine.proofs.Acting.{acts_by, acts_going, acts_growing, acts_holding, acts_writing}
@@ -79,10 +79,10 @@ returns-in-PrintFirst g c = λ writes_text.
     (puts_seen c.self.inside c.args.self.now (λ (e : RunState). line_to 0 (before_first is_newline e.state.pattern)) _ _ c.write_all.result c.self.view_is (rw c.first_line.ensures.value at w.puts)) w.devices)
 
 pub act_hold-requires : goal.act_hold-requires
-act_hold-requires g c = fills c.args.self.now.script c.args.k (Plain c.args.simple) c.requires.action (ap (λ s. holds (Plain s)) c.in-Hold.is)
+act_hold-requires g c = fills c.args.self.now.script c.args.k (Plain c.args.simple) c.requires.action (ap (λ s. keeps_in_hold (Plain s)) c.in-Hold.is)
 
 pub act_hold_more-requires : goal.act_hold_more-requires
-act_hold_more-requires g c = fills c.args.self.now.script c.args.k (Plain c.args.simple) c.requires.action (ap (λ s. holds (Plain s)) c.in-HoldMore.is)
+act_hold_more-requires g c = fills c.args.self.now.script c.args.k (Plain c.args.simple) c.requires.action (ap (λ s. keeps_in_hold (Plain s)) c.in-HoldMore.is)
 
 pub act_exchange-requires-clause-holds : goal.act_exchange-requires-clause-holds
-act_exchange-requires-clause-holds g c = fills c.args.self.now.script c.args.k (Plain c.args.simple) c.requires.action (ap (λ s. holds (Plain s)) c.in-Exchange.is)
+act_exchange-requires-clause-holds g c = fills c.args.self.now.script c.args.k (Plain c.args.simple) c.requires.action (ap (λ s. keeps_in_hold (Plain s)) c.in-Exchange.is)

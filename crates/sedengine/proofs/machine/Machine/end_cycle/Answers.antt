@@ -6,7 +6,7 @@ use Rattle.sedengine.specs.State.{State, flush}
 use Rattle.sedengine.specs.Move.{then_do}
 use Rattle.sedengine.specs.Run.{RunState, at_lines, run_setting}
 use Rattle.sedengine.specs.Steps.{Ran}
-use Rattle.sedengine.specs.Inside.{run_of, tasks_of}
+use Rattle.sedengine.specs.Inside.{run_state_of, tasks_of}
 use Rattle.sedengine.proofs.Ending.{stopped_anyway, weight_ended}
 use Rattle.sedengine.proofs.machine.Machine.end_cycle.Goals as goal
 
@@ -19,7 +19,7 @@ returns g c = record {
       subst Q (sym c.self.view_is) (c.in_ok-flush.ensures.moves files told ls (tasks_of c.args.next_step));
   falls = let e = c.args.self.now in
       let L : RunState → Type 0 = λ e'. e.state.turns ≤ e'.state.turns in
-      weight_ended e (run_of (record c.self.inside { next_step = c.args.next_step })) c.args.next_step (ap (λ (e : RunState). e.limits) (c.self.view_is ∙ c.in_ok-flush.ensures.ok)) (subst L (sym c.self.view_is) c.in_ok-flush.ensures.later) refl;
+      weight_ended e (run_state_of (record c.self.inside { next_step = c.args.next_step })) c.args.next_step (ap (λ (e : RunState). e.limits) (c.self.view_is ∙ c.in_ok-flush.ensures.ok)) (subst L (sym c.self.view_is) c.in_ok-flush.ensures.later) refl;
   leaves = record { devices = c.in_ok-flush.ensures.devices; same = SameRun-then (same_flushed c.args.self.now c.flush.new.self _ c.in_ok-flush.ensures.ok) (same_seen c.self.inside c.flush.new.self _ c.self.view_is refl refl); kept = c.in_ok-flush.ensures.kept };
 }
 

@@ -6,7 +6,7 @@ use Rattle.sedengine.proofs.Tasks.{placed}
 use Rattle.sedengine.proofs.Telling.{le_zero}
 use Rattle.sedspace.specs.Spaces.{Contents}
 use Rattle.sedengine.specs.State.{begin, empty_pattern}
-use Rattle.sedengine.specs.Inside.{run_of}
+use Rattle.sedengine.specs.Inside.{run_state_of}
 use Rattle.sedengine.specs.declared.next_step.NextStep.TheVariants as p
 use Rattle.sedengine.proofs.Ending.{emptied, finished, finish_stopped}
 use Rattle.sedengine.proofs.machine.Machine.finish.Goals as goal
@@ -14,7 +14,7 @@ use Rattle.sedengine.proofs.machine.Machine.finish.Goals as goal
 pub returns : goal.returns
 returns g c = record {
   moves = λ files told ls.
-      finished c.args.self.now c.print_and_flush.new.self (run_of (record c.self.inside { pattern = c.clear.new.self; next_step = p.Begin })) files ls c.args.k _ _ c.requires.at c.requires.end (c.in_ok-print_and_flush.ensures.moves files told ls (empty_pattern ∷ begin ∷ []))
+      finished c.args.self.now c.print_and_flush.new.self (run_state_of (record c.self.inside { pattern = c.clear.new.self; next_step = p.Begin })) files ls c.args.k _ _ c.requires.at c.requires.end (c.in_ok-print_and_flush.ensures.moves files told ls (empty_pattern ∷ begin ∷ []))
       (rw c.clear.ensures (ap emptied c.self.view_is));
   falls = search rules;
   leaves = record { devices = c.in_ok-print_and_flush.ensures.devices; same = SameRun-then (same_flushed c.args.self.now c.print_and_flush.new.self _ c.in_ok-print_and_flush.ensures.ok) (same_seen c.self.inside c.print_and_flush.new.self _ c.self.view_is refl refl); kept = c.in_ok-print_and_flush.ensures.kept };

@@ -1,7 +1,7 @@
 use Rattle.std.proofs.Common.{rules, ap, Ok, Err}
 use Rattle.std.proofs.lemmas.Result.{err_from_is_err_and}
 use Rattle.sedengine.specs.Run.{RunState, run_setting}
-use Rattle.sedengine.specs.Inside.{run_of}
+use Rattle.sedengine.specs.Inside.{run_state_of}
 use Rattle.sedengine.specs.Queueing.{flushed, with_turns}
 use Rattle.sedengine.proofs.Ending.{flush_moves}
 use Rattle.sedengine.proofs.Tasks.{stopped_flushing, flushed_is_run}
@@ -11,7 +11,7 @@ pub returns : goal.returns
 returns g c = record {
   moves = λ files told ls rest.
       let w = c.flush_queue.new in
-      flush_moves c.self.inside c.args.self.now (run_of (record c.self.inside { build = w.build; turns = w.turns; queue = c.clear.new.self })) (run_setting c.args.self.now files) ls rest w.turns
+      flush_moves c.self.inside c.args.self.now (run_state_of (record c.self.inside { build = w.build; turns = w.turns; queue = c.clear.new.self })) (run_setting c.args.self.now files) ls rest w.turns
       (g.O.MeteredSinks.tally c.args.outputs.now) (g.O.MeteredSinks.tally w.outputs) (Ok tt) c.self.view_is c.self.invariant (c.in_ok-flush_queue.ensures.flushes (run_setting c.args.self.now files) told)
       (rw c.clear.ensures (ap (λ (e : RunState). flushed e w.turns) c.self.view_is)) (tt {0});
   ok = rw c.clear.ensures (ap (λ (e : RunState). flushed e c.flush_queue.new.turns) c.self.view_is);
@@ -26,7 +26,7 @@ returns-in_err-flush_queue g c = record {
   moves = λ files told ls rest.
       let w = c.flush_queue.new in
       let p = err_from_is_err_and c.from_residual.result c.from_residual.ensures.1 in
-      rw (p.1, p.2) (flush_moves c.self.inside c.args.self.now (run_of (record c.self.inside { build = w.build; turns = w.turns })) (run_setting c.args.self.now files) ls rest w.turns
+      rw (p.1, p.2) (flush_moves c.self.inside c.args.self.now (run_state_of (record c.self.inside { build = w.build; turns = w.turns })) (run_setting c.args.self.now files) ls rest w.turns
       (g.O.MeteredSinks.tally c.args.outputs.now) (g.O.MeteredSinks.tally w.outputs) (Err c.in_err-flush_queue.field-0.0) c.self.view_is c.self.invariant (c.in_err-flush_queue.ensures.flushes (run_setting c.args.self.now files) told)
       (tt {0}) (ap (λ (e : RunState). with_turns e w.turns) c.self.view_is));
   ok = let p = err_from_is_err_and c.from_residual.result c.from_residual.ensures.1 in

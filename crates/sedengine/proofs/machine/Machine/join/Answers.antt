@@ -3,7 +3,7 @@ use Rattle.sedengine.specs.Run.{RunState}
 use Rattle.sedengine.specs.Steps.{reaches}
 use Rattle.std.proofs.lemmas.Result.{err_from_is_err_and}
 use Rattle.sedengine.proofs.NextLines.{joins_next}
-use Rattle.sedengine.specs.Inside.{run_of}
+use Rattle.sedengine.specs.Inside.{run_state_of}
 use Rattle.sedengine.proofs.Tasks.{brought_is_run}
 use Rattle.sedengine.proofs.Leaving.{falls_brought, falls_kept, same_brought}
 use Rattle.sedengine.proofs.Runs.{SameRun-then, same_seen}
@@ -16,9 +16,9 @@ returns g c = record {
       joins_next g.R.ByteSource.remaining c.args.lines.now c.join_line.new.lines ls files sinks c.self.inside c.args.self.now c.go_on.new.self c.self.view_is c.self.invariant c.join_line.new.space (Ok c.in_ok-got.got)
       c.go_on.ensures (c.in_ok-got.ensures.brings sound ls known);
   reads = ReadsAlone-told c.in_ok-got.got c.in_ok-got.ensures.reads;
-  falls = let e = (run_of (record c.self.inside { pattern = c.join_line.new.space })) in
+  falls = let e = (run_state_of (record c.self.inside { pattern = c.join_line.new.space })) in
       falls_kept c.self.inside c.args.self.now e c.go_on.new.self c.self.view_is refl (falls_brought e c.go_on.new.self c.in_ok-got.got c.go_on.ensures);
-  same = let e = (run_of (record c.self.inside { pattern = c.join_line.new.space })) in
+  same = let e = (run_state_of (record c.self.inside { pattern = c.join_line.new.space })) in
       SameRun-then (same_seen c.self.inside c.args.self.now e c.self.view_is refl refl) (same_brought e c.go_on.new.self c.in_ok-got.got c.go_on.ensures);
 }
 
@@ -30,7 +30,7 @@ returns-in_err-got g c =
           rw (p.1, p.2) (joins_next g.R.ByteSource.remaining c.args.lines.now c.join_line.new.lines ls files sinks c.self.inside c.args.self.now _ c.self.view_is c.self.invariant c.join_line.new.space (Err c.in_err-got.field-0.0)
           refl (c.in_err-got.ensures.brings sound ls known));
       reads = rw (p.1, p.2) (ReadsAlone-ended c.in_err-got.field-0.0 c.in_err-got.ensures.reads);
-      falls = let e = (run_of (record c.self.inside { pattern = c.join_line.new.space })) in
+      falls = let e = (run_state_of (record c.self.inside { pattern = c.join_line.new.space })) in
           falls_kept c.self.inside c.args.self.now e e c.self.view_is refl (omega arith);
       same = same_seen c.self.inside c.args.self.now _ c.self.view_is refl refl;
     }

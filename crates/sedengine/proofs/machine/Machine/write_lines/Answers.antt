@@ -2,11 +2,11 @@ use Rattle.std.proofs.Common.{◌≡◌, Bool, ℕ, List, Result, Ok, Err, false
 use Rattle.sedengine.specs.Meters.{SinkView}
 use Rattle.sedengine.specs.Calls.{WritesPart}
 use Rattle.sedengine.specs.Passing.{WritesLines}
-use Rattle.sedengine.specs.declared.meter.Cut.{Cut}
+use Rattle.sedengine.specs.declared.meter.CutShort.{CutShort}
 use Rattle.sedengine.proofs.machine.Machine.write_lines.Goals as goal
 
 -- lines are written where default output isn't suppressed
-lines_written : (old new : SinkView) (quiet : Bool) (bytes : List ℕ) (r : Result Unit Cut) → quiet ≡ false → WritesPart old new 0 bytes r → WritesLines old new quiet bytes r
+lines_written : (old new : SinkView) (quiet : Bool) (bytes : List ℕ) (r : Result Unit CutShort) → quiet ≡ false → WritesPart old new 0 bytes r → WritesLines old new quiet bytes r
 lines_written old new quiet bytes (Ok u) loud h = rw loud h
 lines_written old new quiet bytes (Err cut) loud h = (loud, h)
 

@@ -3,7 +3,7 @@ use Rattle.sedre.specs.Tree.{expression_tree}
 use Rattle.sedre.specs.Arena.{IsExpr}
 use Rattle.sedtext.proofs.MatchingLemmas.{report-iff}
 use Rattle.sedtext.proofs.PartLemmas.{report_lies}
-use Rattle.sedmatch.specs.Passes.{TellsGroups, written_of}
+use Rattle.sedmatch.specs.Passes.{TellsGroups, searched_expression}
 use Rattle.sedmatch.proofs.MatcherLemmas.{direct_is, groups_within, passes_are, written_is}
 use Rattle.sedmatch.proofs.table_matcher.TableMatcher.groups_of.Goals as goal
 use Rattle.sedmatch.proofs.table_matcher.TableMatcher.groups_of.Goals.{in-Direct, in-Passes}
@@ -17,7 +17,7 @@ told c =
           let expr = subst (λ v. IsExpr v.nodes v.groups) same w.is_expression.ensures.expr in
           rw (w.result-is, w.steps-is) (w.whole_alone.ensures c.args.self.now c.args.text.now c.args.steps.now expr is.1 c.requires.spans)
       | in-Passes w ↦
-          let is = passes_are c.self.inside.engine c.args.self.now w.deref_mut.result.now _ c.self.view_is (ap written_of w.in-Passes.is) w.deref_mut.ensures.value in
+          let is = passes_are c.self.inside.engine c.args.self.now w.deref_mut.result.now _ c.self.view_is (ap searched_expression w.in-Passes.is) w.deref_mut.ensures.value in
           rw (w.result-is, w.steps-is) (rw is at w.groups_by.ensures.told)
     ]
 

@@ -1,7 +1,7 @@
 use Rattle.std.proofs.Common.{ap}
 use Rattle.sedre.specs.Tree.{expression_tree}
 use Rattle.sedtext.proofs.MatchingLemmas.{same_test}
-use Rattle.sedmatch.specs.Passes.{TellsMatch, written_of}
+use Rattle.sedmatch.specs.Passes.{TellsMatch, searched_expression}
 use Rattle.sedmatch.proofs.MatcherLemmas.{direct_is, passes_are}
 use Rattle.sedmatch.proofs.table_matcher.TableMatcher.is_match.Goals as goal
 use Rattle.sedmatch.proofs.table_matcher.TableMatcher.is_match.Goals.{in-Direct, in-Passes}
@@ -13,7 +13,7 @@ told c =
           let is = direct_is c.self.inside.engine c.args.self.now w.in-Direct.field-0 w.in-Direct.form c.self.view_is c.self.invariant w.in-Direct.is in
           rw (w.result-is, w.steps-is) (w.direct_matches.ensures c.args.self.now is)
       | in-Passes w ↦
-          let is = passes_are c.self.inside.engine c.args.self.now w.deref_mut.result.now _ c.self.view_is (ap written_of w.in-Passes.is) w.deref_mut.ensures.value in
+          let is = passes_are c.self.inside.engine c.args.self.now w.deref_mut.result.now _ c.self.view_is (ap searched_expression w.in-Passes.is) w.deref_mut.ensures.value in
           rw (w.result-is, w.steps-is) (rw is at w.matches_by.ensures.told)
     ]
 

@@ -2,7 +2,7 @@ use Rattle.std.proofs.Common.{length, ap}
 use Rattle.sedre.specs.Tree.{expression_tree}
 use Rattle.sedtext.proofs.FollowingLemmas.{if_occurs}
 use Rattle.sedmatch.specs.Occurrences.{TellsNext}
-use Rattle.sedmatch.specs.Passes.{written_of}
+use Rattle.sedmatch.specs.Passes.{searched_expression}
 use Rattle.sedmatch.proofs.MatcherLemmas.{direct_is, direct_once, direct_owed, passes_are, serves_same}
 use Rattle.sedmatch.proofs.table_matcher.TableMatcher.next_occurrence.Goals as goal
 use Rattle.sedmatch.proofs.table_matcher.TableMatcher.next_occurrence.Goals.{in-Direct, in-Passes}
@@ -27,7 +27,7 @@ told c =
             passes = next.passes e is;
           }
       | in-Passes w ↦
-          let is = passes_are c.self.inside.engine c.args.self.now w.deref_mut.result.now _ c.self.view_is (ap written_of w.in-Passes.is) w.deref_mut.ensures.value in
+          let is = passes_are c.self.inside.engine c.args.self.now w.deref_mut.result.now _ c.self.view_is (ap searched_expression w.in-Passes.is) w.deref_mut.ensures.value in
           rw (w.result-is, w.occurrences-is, w.steps-is) (rw is at w.next_by_passes.ensures.told)
     ]
 

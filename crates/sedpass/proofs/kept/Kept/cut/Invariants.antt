@@ -1,7 +1,7 @@
 use Rattle.std.proofs.Common.{◌+◌, ◌-◌, ◌*◌, ◌≤◌, length}
 use Rattle.sedpass.proofs.Words.{TakesAtLeast, CostsWithin}
 use Rattle.sedpass.specs.Table.{IsOffset, IsTable, SameShape}
-use Rattle.sedpass.specs.Kept.{Follows, KeepsRegion, Meet, owed}
+use Rattle.sedpass.specs.Kept.{Follows, KeepsRegion, Meet, owed_region}
 use Rattle.sedpass.proofs.kept.Kept.cut.Given as goal
 
 abbrev pub invariant-loop-place : goal.invariant-loop-place
@@ -14,7 +14,7 @@ invariant-loop-place l = record {
   offset : IsOffset l.ahead l.offset;
   follows : Follows l.subject.prepared.now l.subject.text.now l.ahead l.a l.from l.place l.offset;
   meets : Meet l.subject.prepared.now l.subject.text.now l.initial.table l.initial.self l.a l.from l.from l.place;
-  cost : CostsWithin l.initial.steps l.steps (owed (length l.subject.prepared.now.arena.expr.nodes) l.initial.self.region l.from + 36 * length l.subject.prepared.now.arena.expr.nodes * l.place) (owed (length l.subject.prepared.now.arena.expr.nodes) l.self.region l.place + 36 * length l.subject.prepared.now.arena.expr.nodes * l.from);
+  cost : CostsWithin l.initial.steps l.steps (owed_region (length l.subject.prepared.now.arena.expr.nodes) l.initial.self.region l.from + 36 * length l.subject.prepared.now.arena.expr.nodes * l.place) (owed_region (length l.subject.prepared.now.arena.expr.nodes) l.self.region l.place + 36 * length l.subject.prepared.now.arena.expr.nodes * l.from);
   counts : TakesAtLeast l.initial.steps l.steps (2 * (l.place - l.from));
 }
 

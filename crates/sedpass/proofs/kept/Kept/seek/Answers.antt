@@ -1,6 +1,6 @@
 use Rattle.std.proofs.Common.{◌≡◌, ◌-◌, refl, subst, ◌↔◌, IsTrue, arith, length, not}
 use Rattle.sedpass.proofs.Words.{TakesAtLeast, least_none, least_both, least_since}
-use Rattle.sedpass.specs.Kept.{AllMarked, KeepsRegion, ends_told, owed}
+use Rattle.sedpass.specs.Kept.{AllMarked, KeepsRegion, ends_told, owed_region}
 use Rattle.sedpass.proofs.KeptLemmas.{keeps_same, keeps_then, marked_then, told_as}
 use Rattle.sedpass.specs.Regions.{ReachesEnd}
 use Rattle.sedpass.proofs.OwedLemmas.{owed_falls, seek_at, seek_on}
@@ -56,8 +56,8 @@ loop-place-preserved c =
       passed = subst (λ y. AllMarked nodes w c.args.self.now.region.root (ends_told c.args.table.now.way.all_starts (length w) c.args.self.now.region.end) c.args.x (not c.args.marked) c.args.from y) at (passed here);
       cost = (
         (let h = before.cost.0 in let g = ready.cost.0 in let f = seek.cost.0 in omega (arith, h, g, f)),
-        seek_on (owed m c.args.self.now.region c.args.from) (owed m c.loop-place.self.region c.loop-place.place) (owed m c.ready-to.new.self.region c.loop-place.place)
-            (owed m c.ready-to.new.self.region c.ready-to.result) c.loop-place.steps c.args.steps.now c.ready-to.new.steps c.seek_in-found.new.steps c.args.from c.loop-place.place c.ready-to.result
+        seek_on (owed_region m c.args.self.now.region c.args.from) (owed_region m c.loop-place.self.region c.loop-place.place) (owed_region m c.ready-to.new.self.region c.loop-place.place)
+            (owed_region m c.ready-to.new.self.region c.ready-to.result) c.loop-place.steps c.args.steps.now c.ready-to.new.steps c.seek_in-found.new.steps c.args.from c.loop-place.place c.ready-to.result
             before.cost.1 ready.cost.1 (let h = seek.cost.1 in omega (arith, h, at)) (owed_falls m c.ready-to.new.self.region c.loop-place.place c.ready-to.result (omega (arith, up))) up,
       );
       counts = subst (λ y. TakesAtLeast c.args.steps.now c.seek_in-found.new.steps (y - c.args.from)) at (counts here);
@@ -82,8 +82,8 @@ returns-then-found-to c =
           kept (seek.found (let h = c.if-found-to.true in omega (arith, h, ready.to.0)));
       cost = (
         (let h = before.cost.0 in let g = ready.cost.0 in let f = seek.cost.0 in omega (arith, h, g, f)),
-        seek_at (owed m c.args.self.now.region c.args.from) (owed m c.loop-place.self.region c.loop-place.place) (owed m c.ready-to.new.self.region c.loop-place.place)
-            (owed m c.ready-to.new.self.region found) c.loop-place.steps c.args.steps.now c.ready-to.new.steps c.seek_in-found.new.steps c.args.from c.loop-place.place found
+        seek_at (owed_region m c.args.self.now.region c.args.from) (owed_region m c.loop-place.self.region c.loop-place.place) (owed_region m c.ready-to.new.self.region c.loop-place.place)
+            (owed_region m c.ready-to.new.self.region found) c.loop-place.steps c.args.steps.now c.ready-to.new.steps c.seek_in-found.new.steps c.args.from c.loop-place.place found
             before.cost.1 ready.cost.1 seek.cost.1 (owed_falls m c.ready-to.new.self.region c.loop-place.place found seek.after) seek.after,
       );
       counts = counts here;

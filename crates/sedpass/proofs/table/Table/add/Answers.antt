@@ -1,7 +1,7 @@
 use Rattle.std.proofs.Common.{rules, ◌≡◌, ℕ, ◌+◌, ◌*◌, ◌%◌, ◌^◌, ◌<◌, ◌∙◌, ◌↔◌, length, length-set, mul-le-mul_left, ◌≤◌, IsTrue, refl, sym, ap, subst, arith, slice_index_or, false}
-use Rattle.sedpass.proofs.Words.{with_item, AgreeBelow, row_of, Flags, Table}
+use Rattle.sedpass.proofs.Words.{with_item, AgreeBelow, row_of, StateFlags, Table}
 use Rattle.sedpass.specs.Rows.{bits}
-use Rattle.sedpass.specs.Table.{State, IsTold, HasRow, AddsStates, HasRoom, cell_of, stops, code_of}
+use Rattle.sedpass.specs.Table.{PassState, FlagsShow, HasRow, AddsStates, HasRoom, cell_of, stops, code_of}
 use Rattle.sedpass.proofs.RowLemmas.{bits_here}
 use Rattle.sedpass.proofs.TableLemmas.{shifted, one_shifted, few_offset, cell_inside, bits_dead, state, state_added, state_adds, one_more}
 use Rattle.sedpass.proofs.table.Table.add.Goals as goal
@@ -61,7 +61,7 @@ returns c =
     let m = length c.args.prepared.now.arena.expr.nodes in
     let L = c.args.work.now.leaves in
     let E = c.args.work.now.ends in
-    let flags : Flags = record { ends = c.get.result; dead = c.is_clear.result } in
+    let flags : StateFlags = record { ends = c.get.result; dead = c.is_clear.result } in
     let N : Table = record {
       way = T.way;
       room = T.room;
@@ -113,19 +113,19 @@ returns c =
     let dead : IsTrue c.is_clear.result ↔ ((k : ℕ) → k < m → slice_index_or L k false ≡ false) =
     subst (λ n. IsTrue c.is_clear.result ↔ ((k : ℕ) → k < n → slice_index_or L k false ≡ false)) nodes c.is_clear.ensures.clear in
     let law = bits_dead m L in
-    let told : IsTold (state c.args.root (bits m L) (bits m E) flags) = (c.get.ensures.mark ∙ sym (bits_here m E c.args.root c.requires.root), (λ h. law.0 (dead.0 h), λ h. dead.1 (law.1 h))) in
+    let told : FlagsShow (state c.args.root (bits m L) (bits m E) flags) = (c.get.ensures.mark ∙ sym (bits_here m E c.args.root c.requires.root), (λ h. law.0 (dead.0 h), λ h. dead.1 (law.1 h))) in
     record {
       codes = record {
         table = one_more c.args.prepared.now T N adds refl t room refl refl before clear
-            (subst (λ (a : State). a.root < m) (sym added) c.requires.root)
-            (subst (λ (a : State). IsTold a) (sym added) told);
+            (subst (λ (a : PassState). a.root < m) (sym added) c.requires.root)
+            (subst (λ (a : PassState). FlagsShow a) (sym added) told);
         adds = adds;
         names = record {
           to = T.count;
           there = omega arith;
           code = c.code_of.ensures ∙ ap (λ b. code_of b (T.count * 2 ^ T.layout.shift % 2 ^ 64)) c.stops.ensures ∙ ap (λ x. code_of (stops T.way flags) x) place
-              ∙ ap (λ (a : State). code_of (stops T.way a.flags) (T.count * 2 ^ T.layout.shift)) (sym added);
-          is = subst (λ (a : State). HasRow c.args.root (bits m L) (bits m E) a) (sym added) (refl, refl, refl);
+              ∙ ap (λ (a : PassState). code_of (stops T.way a.flags) (T.count * 2 ^ T.layout.shift)) (sym added);
+          is = subst (λ (a : PassState). HasRow c.args.root (bits m L) (bits m E) a) (sym added) (refl, refl, refl);
         };
       };
       count = refl;

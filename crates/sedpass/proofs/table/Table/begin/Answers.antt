@@ -1,7 +1,7 @@
 use Rattle.std.proofs.Common.{length, refl, sym, subst}
 use Rattle.sedpass.proofs.Words.{with_item, Way, Beginning, Table}
 use Rattle.sedpass.specs.Rows.{nodes_of}
-use Rattle.sedpass.specs.Table.{AddsStates, BeginsIn, IsTable, MayBegin, Names}
+use Rattle.sedpass.specs.Table.{AddsStates, BeginsIn, IsTable, MayBegin, NamesState}
 use Rattle.sedpass.proofs.TableLemmas.{adds_same, adds_then, names_first, names_more, note_beginning}
 use Rattle.sedpass.proofs.table.Table.begin.Goals as goal
 
@@ -19,7 +19,7 @@ returns-then-self-lt-LAST_EPOCHS-clause-codes c =
     let N : Table = record S { beginnings = with_item S.beginnings c.beginning_at-at.result fresh } in
     let same : AddsStates m S N = adds_same m S N (refl, refl, refl, refl, refl) refl refl (λ x. refl) in
     let begins = names_first p S T.way root code kind c.first.new.work.leaves c.first.new.work.ends codes.names c.first.ensures.first in
-    let begins_now : Names m S (BeginsIn (nodes_of S.way p.arena.expr) S.way root kind) code = subst (λ (w : Way). Names m S (BeginsIn (nodes_of w p.arena.expr) w root kind) code) (sym codes.adds.shape.0) begins in
+    let begins_now : NamesState m S (BeginsIn (nodes_of S.way p.arena.expr) S.way root kind) code = subst (λ (w : Way). NamesState m S (BeginsIn (nodes_of w p.arena.expr) w root kind) code) (sym codes.adds.shape.0) begins in
     let may : MayBegin p S.way root = subst (λ (w : Way). MayBegin p w root) (sym codes.adds.shape.0) c.requires.root in
     record {
       table = subst (λ i. IsTable p (record S { beginnings = with_item S.beginnings i fresh })) (sym c.beginning_at-at.ensures) (note_beginning p S codes.table root code kind may c.if-self-lt-LAST_EPOCHS.true begins_now);

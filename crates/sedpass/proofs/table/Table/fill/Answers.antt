@@ -1,7 +1,7 @@
 use Rattle.std.proofs.Common.{Bool, ◌+◌, ◌<◌, length, refl, arith, ◌*◌, ◌/◌, ◌^◌}
 use Rattle.sedpass.proofs.Words.{with_item, TakesAtLeast, Takes, Table, least_counted, least_up}
 use Rattle.sedpass.specs.Rows.{nodes_of}
-use Rattle.sedpass.specs.Table.{AddsStates, IsNext, IsOffset, LeadsOn, Names}
+use Rattle.sedpass.specs.Table.{AddsStates, IsNext, IsOffset, LeadsOn, NamesState}
 use Rattle.sedpass.proofs.TableLemmas.{adds_same, adds_then, cell_there, names_anywhere, names_leads, names_more, names_moved, note_cell, offset_more, root_read}
 use Rattle.sedpass.proofs.table.Table.fill.Goals.{After-index-root, After-intern-next, In-Some}
 use Rattle.sedpass.proofs.table.Table.fill.Goals as goal
@@ -45,7 +45,7 @@ cost c =
     (omega (arith, load.0, step.0, next.0), omega (arith, c.requires.table.expr.arena.nonempty, c.nodes.ensures.value, load.1, step.1, next.1))
 
 -- the next state is the one that the byte leads to
-leads : (c : After-intern-next) → Names (length c.args.prepared.now.arena.expr.nodes) c.intern-next.new.self (IsNext c.args.prepared.now c.args.self.now c.args.offset c.args.byte c.args.edge) c.intern-next.result
+leads : (c : After-intern-next) → NamesState (length c.args.prepared.now.arena.expr.nodes) c.intern-next.new.self (IsNext c.args.prepared.now c.args.self.now c.args.offset c.args.byte c.args.edge) c.intern-next.result
 leads c = names_leads c.args.prepared.now c.args.self.now c.intern-next.new.self c.requires.table c.args.offset c.requires.offset c.state_at-state.result c.nodes.result c.index-root.result.now c.args.byte c.intern-next.result
     c.load.new.marks c.step.new.work c.state_at-state.ensures c.nodes.ensures.value c.index-root.ensures c.load.ensures.same c.intern-next.ensures.codes.names c.args.edge c.step.ensures.leads
 

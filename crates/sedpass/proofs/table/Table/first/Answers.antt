@@ -1,7 +1,7 @@
 use Rattle.std.proofs.Common.{◌≡◌, ◌∙◌, length, sym, ap, subst, arith, slice_index_or}
 use Rattle.sedpass.proofs.Words.{Beginning, get_or_default, least_counted, least_up}
 use Rattle.sedpass.specs.Rows.{nodes_of}
-use Rattle.sedpass.specs.Table.{BeginsIn, Names, beginning_at, beginning_of}
+use Rattle.sedpass.specs.Table.{BeginsIn, NamesState, beginning_at, beginning_of}
 use Rattle.sedpass.proofs.TableLemmas.{adds_none}
 use Rattle.sedpass.proofs.table.Table.first.Goals as goal
 
@@ -24,7 +24,7 @@ returns-then-known-self c =
       codes = record {
         table = c.requires.table;
         adds = adds_none m t;
-        names = subst (λ (b : Beginning). Names m t (BeginsIn (nodes_of t.way p.arena.expr) t.way c.args.root c.args.kind) b.code) (sym is)
+        names = subst (λ (b : Beginning). NamesState m t (BeginsIn (nodes_of t.way p.arena.expr) t.way c.args.root c.args.kind) b.code) (sym is)
             (c.requires.table.begun c.args.root c.args.kind c.requires.root (ap (λ (b : Beginning). b.epoch) (sym is) ∙ c.if-known-self.true));
       };
       cost = (omega (arith, c.add.ensures.cost), omega (arith, c.add.ensures.cost, c.requires.table.expr.arena.nonempty));

@@ -1,7 +1,7 @@
 use Rattle.std.proofs.Common.{rules, ◌≡◌, ◌+◌, ◌-◌, ◌*◌, ◌∙◌, false, length, refl, sym, ap, subst, inl, inr, arith}
 use Rattle.sedpass.proofs.Words.{not-false, Way, least_less, least_both}
 use Rattle.sedpass.specs.Rows.{nodes_of}
-use Rattle.sedpass.specs.Table.{BeginsIn, Names}
+use Rattle.sedpass.specs.Table.{BeginsIn, NamesState}
 use Rattle.sedpass.specs.Forwards.{Arrives}
 use Rattle.sedpass.proofs.TableLemmas.{names_map}
 use Rattle.sedpass.proofs.ForwardLemmas.{arrives_first, end_below, none_before, run_longest, run_found, run_passes}
@@ -20,7 +20,7 @@ loop-at-init c =
     let here = c.arrive-at.ensures.place in
     let end = c.kind_of-kind.ensures.end in
     let is = c.len.ensures.is in
-    let names = subst (λ (x : Way). Names m S (Arrives p x w from from) c.first-code.result) (sym way)
+    let names = subst (λ (x : Way). NamesState m S (Arrives p x w from from) c.first-code.result) (sym way)
     (names_map m S (BeginsIn (nodes_of T.way p.arena.expr) T.way p.root kind) (Arrives p T.way w from from) c.first-code.result
     (λ a begins. arrives_first p T.way w from kind a c.requires.forwards c.requires.from c.kind_of-kind.ensures.begin ((λ h. end.0 h ∙ is), (λ e. end.1 (e ∙ sym is))) begins) c.first-code.ensures.codes.names) in
     let cost = c.first-code.ensures.cost in

@@ -1,5 +1,5 @@
 use Rattle.std.proofs.Common.{arith, refl, subst, sym}
-use Rattle.sedre.specs.declared.syntax.Item.{Item}
+use Rattle.sedre.specs.declared.syntax.Token.{Token}
 use Rattle.sedre.specs.Tree.{set, begin, end}
 use Rattle.sedre.specs.Stacks.{CanTake, Represents, step}
 use Rattle.sedre.proofs.Stacked.{on_ok_map}
@@ -14,27 +14,27 @@ close-requires-clause-alternatives c = represents_alternatives c.requires.some.0
 
 pub close-requires-clause-opened : goal.close-requires-clause-opened
 close-requires-clause-opened c =
-    let h = represents_below c.requires.some.0 c.args.self.now c.requires.some.1 (subst (λ (i : Item). CanTake i c.requires.some.1) c.in-Close.is c.requires.some.3) c.requires.some.2 in omega (arith, h)
+    let h = represents_below c.requires.some.0 c.args.self.now c.requires.some.1 (subst (λ (i : Token). CanTake i c.requires.some.1) c.in-Close.is c.requires.some.3) c.requires.some.2 in omega (arith, h)
 
 pub bar-requires : goal.bar-requires
 bar-requires c = let h = represents_pieces c.requires.some.0 c.args.self.now c.requires.some.1 c.requires.some.2 in omega (arith, h)
 
 pub repeat-requires-clause-some : goal.repeat-requires-clause-some
 repeat-requires-clause-some c =
-    let can = subst (λ (i : Item). CanTake i c.requires.some.1) c.in-Repeat.is c.requires.some.3 in
+    let can = subst (λ (i : Token). CanTake i c.requires.some.1) c.in-Repeat.is c.requires.some.3 in
     let h = represents_some c.requires.some.0 c.args.self.now c.requires.some.1 can.0 c.requires.some.2 in omega (arith, h)
 
 pub repeat-requires-clause-order : goal.repeat-requires-clause-order
-repeat-requires-clause-order c = (subst (λ (i : Item). CanTake i c.requires.some.1) c.in-Repeat.is c.requires.some.3).1
+repeat-requires-clause-order c = (subst (λ (i : Token). CanTake i c.requires.some.1) c.in-Repeat.is c.requires.some.3).1
 
 pub returns-in-Byte-clause-state : goal.returns-in-Byte-clause-state
-returns-in-Byte-clause-state c = on_ok_map c.leaf.result _ _ (λ f limit s r can. subst (λ (i : Item). Represents limit c.leaf.new.self (step i s)) (sym c.in-Byte.is)
+returns-in-Byte-clause-state c = on_ok_map c.leaf.result _ _ (λ f limit s r can. subst (λ (i : Token). Represents limit c.leaf.new.self (step i s)) (sym c.in-Byte.is)
     (f limit s (set c.in-Byte.set) (λ base. refl, refl, refl, refl, λ k. tt) r)) c.leaf.ensures.state
 
 pub returns-in-AtBegin-clause-state : goal.returns-in-AtBegin-clause-state
-returns-in-AtBegin-clause-state c = on_ok_map c.leaf-in-AtBegin.result _ _ (λ f limit s r can. subst (λ (i : Item). Represents limit c.leaf-in-AtBegin.new.self (step i s)) (sym c.in-AtBegin.is)
+returns-in-AtBegin-clause-state c = on_ok_map c.leaf-in-AtBegin.result _ _ (λ f limit s r can. subst (λ (i : Token). Represents limit c.leaf-in-AtBegin.new.self (step i s)) (sym c.in-AtBegin.is)
     (f limit s begin (λ base. refl, refl, refl, refl, λ k. tt) r)) c.leaf-in-AtBegin.ensures.state
 
 pub returns-in-AtEnd-clause-state : goal.returns-in-AtEnd-clause-state
-returns-in-AtEnd-clause-state c = on_ok_map c.leaf-in-AtEnd.result _ _ (λ f limit s r can. subst (λ (i : Item). Represents limit c.leaf-in-AtEnd.new.self (step i s)) (sym c.in-AtEnd.is)
+returns-in-AtEnd-clause-state c = on_ok_map c.leaf-in-AtEnd.result _ _ (λ f limit s r can. subst (λ (i : Token). Represents limit c.leaf-in-AtEnd.new.self (step i s)) (sym c.in-AtEnd.is)
     (f limit s end (λ base. refl, refl, refl, refl, λ k. tt) r)) c.leaf-in-AtEnd.ensures.state

@@ -1,7 +1,7 @@
 use Rattle.std.proofs.Common.{ap, arith}
 use Rattle.sedengine.specs.ListingParts.{Listing}
 use Rattle.sedengine.proofs.ListingLemmas.{lists_found}
-use Rattle.sedengine.proofs.listing.Gathered.list_some.Goals as goal
+use Rattle.sedengine.proofs.listing.ListingBuffer.list_some.Goals as goal
 
 pub returns-clause-lists : goal.returns-clause-lists
 returns-clause-lists c =

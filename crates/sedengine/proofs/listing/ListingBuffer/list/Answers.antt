@@ -1,7 +1,7 @@
 use Rattle.std.proofs.Common.{arith}
 use Rattle.sedengine.proofs.ListingLemmas.{lists_more}
 use Rattle.std.proofs.lemmas.Grind.{common_steps}
-use Rattle.sedengine.proofs.listing.Gathered.list.Goals as goal
+use Rattle.sedengine.proofs.listing.ListingBuffer.list.Goals as goal
 
 pub items-preserved : goal.items-preserved
 items-preserved c = record {

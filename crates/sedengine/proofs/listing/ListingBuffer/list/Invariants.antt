@@ -1,6 +1,6 @@
 use Rattle.std.proofs.Common.{◌≡◌, ◌+◌, ◌*◌, ◌≤◌, ◌++◌, List, length, ℕ}
 use Rattle.sedengine.specs.Listing.{listed_from}
-use Rattle.sedengine.proofs.listing.Gathered.list.Given as goal
+use Rattle.sedengine.proofs.listing.ListingBuffer.list.Given as goal
 
 abbrev pub invariant-items : goal.invariant-items
 invariant-items l = record {
