@@ -14,7 +14,7 @@ use Rattle.sedpass.proofs.OccurrenceLemmas.{answer_found, passed_by, search_fall
 use Rattle.sedmatch.specs.Direct.{IsDirect}
 use Rattle.sedmatch.specs.Stretches.{end_or}
 use Rattle.sedmatch.specs.Occurrences.{Serves, ServesOn, owed, owed_after, owed_direct, owed_direct_after}
-use Rattle.sedmatch.specs.Passes.{IsEngine, searched_expression}
+use Rattle.sedmatch.specs.Passes.{ArePasses, IsEngine, searched_expression}
 use Rattle.sedmatch.specs.declared.direct.DirectForm.{DirectForm}
 use Rattle.sedmatch.specs.declared.occurrences.Occurrences.{Occurrences}
 use Rattle.sedmatch.specs.declared.passes.Passes.{Passes}
@@ -32,6 +32,14 @@ passes_are m v p q view is same = ap (λ (x : Passes). x.sought.prepared.arena.e
 
 pub written_is : (m : SearchMethod) (v e : WrittenExpression) (form : DirectForm) → searched_expression m ≡ v → m ≡ Direct e form → e ≡ v
 written_is m v e form view is = sym (ap searched_expression is) ∙ view
+
+-- passes that were made for the expression, and put elsewhere
+pub passes_made : (e : WrittenExpression) (made p : Passes) → ArePasses e made → p ≡ made → ArePasses p.sought.prepared.arena.expr p × (p.sought.prepared.arena.expr ≡ e)
+passes_made e made p are same = (subst (λ q. ArePasses q.sought.prepared.arena.expr q) (sym same) (subst (λ v. ArePasses v made) (sym are.0.expr) are), ap (λ (q : Passes). q.sought.prepared.arena.expr) same ∙ are.0.expr)
+
+-- a form that was found for the expression, beside a copy of that
+pub form_found : (e copy : WrittenExpression) (found : Option DirectForm) (form : DirectForm) → IfSome found (IsDirect e) → found ≡ Some form → copy ≡ e → IsDirect copy form
+form_found e copy found form is there same = subst (λ v. IsDirect v form) (sym same) (subst (λ r. IfSome r (IsDirect e)) there is)
 
 -- What it finds and costs, by a look at the text.
 

@@ -25,8 +25,8 @@ use Rattle.sedpass.proofs.SearchLemmas.{search_long, serves_for, table_for}
 use Rattle.sedpass.proofs.TableLemmas.{roomy_fewer, roomy_still}
 use Rattle.sedmatch.proofs.PassLemmas.{blocks_enough, few_looks, kept_room}
 use Rattle.sedmatch.specs.declared.occurrences.Occurrences.{Occurrences}
-use Rattle.sedmatch.specs.Passes.{IsRoomyWay, back_way}
-use Rattle.sedmatch.specs.Occurrences.{HasTable, HaveOwn, IsBack, IsReady, RoomAt, RoomFor, Serves, ServesIn, ServesOn, TellsNext, owed, owed_after, owed_search}
+use Rattle.sedmatch.specs.Passes.{IsRoomyWay, reverse_any_way}
+use Rattle.sedmatch.specs.Occurrences.{HasTable, HaveOwn, IsReverseAny, IsReady, RoomAt, RoomFor, Serves, ServesIn, ServesOn, TellsNext, owed, owed_after, owed_search}
 use Rattle.sedtext.proofs.CountLemmas.{least_less, least_since}
 
 -- Lists.
@@ -83,8 +83,8 @@ shape_room : (t t' : Table) → SameShape t t' → SameRoom t t'
 shape_room t t' same = (same.0, same.1, same.3, same.4)
 
 -- a table for an expression is one however that was made ready
-pub back_made : (p : Prepared) (e : WrittenExpression) (t : Table) → p.arena.expr ≡ e → IsTable p t → t.way ≡ back_way → IsBack e t
-back_made p e t is table way = (way, λ q is'. table_for p q (is ∙ sym is') t table)
+pub reverse_any_made : (p : Prepared) (e : WrittenExpression) (t : Table) → p.arena.expr ≡ e → IsTable p t → t.way ≡ reverse_any_way → IsReverseAny e t
+reverse_any_made p e t is table way = (way, λ q is'. table_for p q (is ∙ sym is') t table)
 
 serves_each : (p : Prepared) (w : List ℕ) (t : Table) (s : Seeking) → SearchServes p w t s → ServesIn p.arena.expr w s t
 serves_each p w t s serves q is = serves_for p q (sym is) w t s serves
@@ -95,7 +95,7 @@ record KeepsTables (e : WrittenExpression) (old new : Occurrences) : Type 0 wher
   pub space : SameSpace old.seeking.kept new.seeking.kept
   pub room : SameRoom old.shared new.shared
   pub roomy : (nodes : ℕ) → IsRoomy nodes old.shared → IsRoomy nodes new.shared
-  pub own : (x : ℕ) (t : Table) → slice_get new.own.items x ≡ Some (Some t) → (slice_get old.own.items x ≡ Some (Some t)) ⊎ ((x ≡ old.number) × IsBack e t)
+  pub own : (x : ℕ) (t : Table) → slice_get new.own.items x ≡ Some (Some t) → (slice_get old.own.items x ≡ Some (Some t)) ⊎ ((x ≡ old.number) × IsReverseAny e t)
 
 module _ (e : WrittenExpression) (old new : Occurrences) (keeps : KeepsTables e old new) where
   at_after : (text x : ℕ) (f : WrittenExpression) → (x ≡ old.number → e ≡ f) → RoomAt text x f old → RoomAt text x f new
@@ -108,7 +108,7 @@ module _ (e : WrittenExpression) (old new : Occurrences) (keeps : KeepsTables e 
     few = (let few = at.few in let long = keeps.space.edges in omega (arith, few, long));
     own = λ t is. ⊎_elim
         (λ (was : slice_get old.own.items x ≡ Some (Some t)). at.own t was)
-        (λ (now : (x ≡ old.number) × IsBack e t). subst (λ v. IsBack v t) (same now.0) now.1)
+        (λ (now : (x ≡ old.number) × IsReverseAny e t). subst (λ v. IsReverseAny v t) (same now.0) now.1)
         (keeps.own x t is);
   }
 
@@ -226,7 +226,7 @@ module _ (p : Prepared) (w : List ℕ) (a a' b b' : Table) (o : Occurrences) (s 
   pub shared_searched : o.by_own ≡ false → o.shared ≡ b → IsReady p.arena.expr w o (record o { seeking = s; shared = b' })
   shared_searched by is =
       let new : Occurrences = record o { seeking = s; shared = b' } in
-      let room : SameRoom o.shared b' = subst (λ v. SameRoom v b') (sym is) (shape_room b b' done.tables.back_shape) in
+      let room : SameRoom o.shared b' = subst (λ v. SameRoom v b') (sym is) (shape_room b b' done.tables.reverse_any_shape) in
       still_ready p.arena.expr o new (record {
         number = refl;
         space = done.tables.space;
@@ -238,7 +238,7 @@ module _ (p : Prepared) (w : List ℕ) (a a' b b' : Table) (o : Occurrences) (s 
   pub own_searched : IsTrue o.by_own → slice_get o.own.items o.number ≡ Some (Some b) → IsReady p.arena.expr w o (record o { seeking = s; own = with_item o.own o.number (Some b') })
   own_searched by is =
       let new : Occurrences = record o { seeking = s; own = with_item o.own o.number (Some b') } in
-      let back = back_made p p.arena.expr b' refl done.serves.table (done.tables.back_shape.0 ∙ (at.own b is).0) in
+      let reverse_any = reverse_any_made p p.arena.expr b' refl done.serves.table (done.tables.reverse_any_shape.0 ∙ (at.own b is).0) in
       still_ready p.arena.expr o new (record {
         number = refl;
         space = done.tables.space;
@@ -246,7 +246,7 @@ module _ (p : Prepared) (w : List ℕ) (a a' b b' : Table) (o : Occurrences) (s 
         roomy = λ nodes roomy. roomy;
         own = λ x u is'. ⊎_elim
             (λ (was : slice_get o.own.items x ≡ Some (Some u)). inl was)
-            (λ (now : (x ≡ o.number) × (Some u ≡ Some b')). inr (now.0, subst (IsBack p.arena.expr) (sym (same_there u b' now.1)) back))
+            (λ (now : (x ≡ o.number) × (Some u ≡ Some b')). inr (now.0, subst (IsReverseAny p.arena.expr) (sym (same_there u b' now.1)) reverse_any))
             (set_cases o.own.items o.number x (Some b') (Some u) is');
       }) w at (record {
         own = λ h. (b', set_there o.own.items o.number (Some b') (slice_get_within o.own.items o.number (Some b) is), serves_each p w b' s done.serves);
@@ -273,19 +273,19 @@ pub record AreFirst (es : List WrittenExpression) (n : ℕ) (own : List (Option 
   pub long : length own ≡ n
   pub each : HaveOwn es own
 
-pub one_more : (es : List WrittenExpression) (n : ℕ) (own own' : List (Option Table)) (e : WrittenExpression) (o : Option Table) → AreFirst es n own → slice_get es n ≡ Some e → IfSome o (IsBack e) → own' ≡ own ++ o ∷ [] → AreFirst es (n + 1) own'
-one_more es n own own' e o are sought back push = record {
+pub one_more : (es : List WrittenExpression) (n : ℕ) (own own' : List (Option Table)) (e : WrittenExpression) (o : Option Table) → AreFirst es n own → slice_get es n ≡ Some e → IfSome o (IsReverseAny e) → own' ≡ own ++ o ∷ [] → AreFirst es (n + 1) own'
+one_more es n own own' e o are sought reverse_any push = record {
   long = (let h = ap (λ (xs : List (Option Table)). length xs) push in let l = length-append own (o ∷ []) in let m = are.long in omega (arith, h, l, m));
   each = λ x f is t at. ⊎_elim
       (λ (old : slice_get own x ≡ Some (Some t)). are.each x f is t old)
       (λ (new : (x ≡ length own) × (Some t ≡ o)).
       let one : e ≡ f = same_there e f (sym sought ∙ ap (λ v. slice_get es v) (sym (new.0 ∙ are.long)) ∙ is) in
-      subst (λ v. IsBack v t) one (subst (λ (v : Option Table). IfSome v (IsBack e)) (sym new.1) back))
+      subst (λ v. IsReverseAny v t) one (subst (λ (v : Option Table). IfSome v (IsReverseAny e)) (sym new.1) reverse_any))
       (push_cases own o (Some t) x (sym (ap (λ xs. slice_get xs x) push) ∙ at));
 }
 
 pub room_made : (text most width : ℕ) (es : List WrittenExpression) (o : Occurrences) → text < vec_capacity o.seeking.kept.states → length o.seeking.kept.edges ≡ 2 * (text / width + 1) →
-    ((q : ℕ) → q < length o.seeking.kept.edges → length (row_of o.seeking.kept.edges q) ≡ most) → 1 ≤ width → text / width + 1 ≤ 32768 → IsRoomyWay back_way most o.shared → o.shared.room ≡ width + 1 →
+    ((q : ℕ) → q < length o.seeking.kept.edges → length (row_of o.seeking.kept.edges q) ≡ most) → 1 ≤ width → text / width + 1 ≤ 32768 → IsRoomyWay reverse_any_way most o.shared → o.shared.room ≡ width + 1 →
     HaveOwn es o.own.items → ((x : ℕ) (e : WrittenExpression) → slice_get es x ≡ Some e → length e.nodes ≤ most) → RoomFor text es o
 room_made text most width es o places edges marks some few roomy room own fit = record {
   each = λ x e is. let less = fit x e is in record {

@@ -15,10 +15,10 @@ use Rattle.sedtext.specs.Spans.{SomeFound, Matches}
 use Rattle.sedtext.proofs.GroupLemmas.{Captures-none, no_groups_at}
 use Rattle.sedtext.specs.Required.{Narrowed}
 use Rattle.sedtext.specs.Reach.{IsLongestFrom}
-use Rattle.sedpass.specs.Decide.{AreGroupTables, AreRoomy, HasDesk, HasSpace, SameRooms}
+use Rattle.sedpass.specs.Decide.{AreGroupTables, AreRoomy, HasDesk, HasSpace, SameRooms, SameTables}
 use Rattle.sedpass.specs.Kept.{KeptRoom, SameSpace}
 use Rattle.sedtext.specs.Words.{row_of}
-use Rattle.sedpass.specs.Table.{IsRoomy, IsTable, SameRoom, SameShape}
+use Rattle.sedpass.specs.Table.{IsForwardOne, IsRoomy, IsTable, SameRoom, SameShape}
 use Rattle.sedpass.specs.declared.groups.GroupRoom.{GroupRoom}
 use Rattle.sedpass.specs.declared.groups.GroupTables.{GroupTables}
 use Rattle.sedpass.specs.declared.kept.Kept.{Kept}
@@ -29,7 +29,7 @@ use Rattle.sedpass.specs.declared.table.Table.{Table}
 use Rattle.sedpass.proofs.DecideLemmas.{has_desk, space_again}
 use Rattle.sedpass.proofs.TableLemmas.{roomy_fewer, roomy_still}
 use Rattle.sedpass.proofs.OneGroupLemmas.{enters_nothing}
-use Rattle.sedmatch.specs.Passes.{AreOwn, IsDesk, IsRoomyWay, KeepsDesk, TellsGroups, TellsMatch, any_way, back_way}
+use Rattle.sedmatch.specs.Passes.{AreOwn, IsDesk, IsRoomyWay, KeepsDesk, TellsGroups, TellsMatch, forward_any_way, reverse_any_way}
 use Rattle.sedmatch.specs.declared.passes.OwnTables.{OwnTables}
 use Rattle.sedmatch.specs.declared.scratch.Desk.{Desk}
 use Rattle.sedpass.proofs.ForwardLemmas.{passes_later}
@@ -86,18 +86,34 @@ whole_told e w span s expr none spans =
 pub there_own : (p : Prepared) (own : Option OwnTables) (t : OwnTables) → own ≡ Some t → AreOwn p own → AreOwn p (Some t)
 there_own p own t is are = subst (AreOwn p) is are
 
+-- the tables serve the expression still, where the one of passes forwards searched
+pub groups_after : (p : Prepared) (t : GroupTables) (after : Table) → AreGroupTables p t → IsForwardOne p after → SameShape t.forward_one after → AreGroupTables p (record t { forward_one = after })
+groups_after p t after are one same = record {
+  ways = record { reverse_one = are.ways.reverse_one; forward_one = same.0 ∙ are.ways.forward_one };
+  reverse_one = are.reverse_one;
+  forward_one = one.table;
+}
+
+-- and where both decided groups
+pub groups_decided : (s : Subject) (t after : GroupTables) (kept : Kept) → AreGroupTables s.prepared.now t → HasDesk s after kept → SameTables t after → AreGroupTables s.prepared.now after
+groups_decided s t after kept are desk same = record {
+  ways = record { reverse_one = same.reverse_one.0 ∙ are.ways.reverse_one; forward_one = same.forward_one.0 ∙ are.ways.forward_one };
+  reverse_one = desk.reverse_one;
+  forward_one = desk.forward_one.table;
+}
+
 -- The desk.
 
 -- room that was made
-pub desk_made : (text nodes block : ℕ) (room : GroupRoom) (any back : Table) (shared : GroupTables) → HasSpace text (text / block + 1) nodes room → IsRoomyWay any_way nodes any → IsRoomyWay back_way nodes back →
-    AreRoomy nodes shared → shared.inside.room ≡ block + 1 → back.room ≡ block + 1 → text / block + 1 ≤ 32768 →
-    IsDesk (record { room = room; any = any; back = back; shared = shared; max_text = text; max_nodes = nodes })
-desk_made text nodes block room any back shared space sweep keeps roomy states rows few =
-    let width : shared.inside.room - 1 ≡ block = omega (arith, states) in
+pub desk_made : (text nodes block : ℕ) (room : GroupRoom) (forward_any reverse_any : Table) (shared : GroupTables) → HasSpace text (text / block + 1) nodes room → IsRoomyWay forward_any_way nodes forward_any → IsRoomyWay reverse_any_way nodes reverse_any →
+    AreRoomy nodes shared → shared.reverse_one.room ≡ block + 1 → reverse_any.room ≡ block + 1 → text / block + 1 ≤ 32768 →
+    IsDesk (record { room = room; forward_any = forward_any; reverse_any = reverse_any; shared = shared; max_text = text; max_nodes = nodes })
+desk_made text nodes block room forward_any reverse_any shared space forward keeps roomy states rows few =
+    let width : shared.reverse_one.room - 1 ≡ block = omega (arith, states) in
     record {
       space = subst (λ v. HasSpace text (text / v + 1) nodes room) (sym width) space;
-      any = sweep;
-      back = keeps;
+      forward_any = forward;
+      reverse_any = keeps;
       states = rows ∙ sym states;
       shared = roomy;
       few = (let e = space.edges in omega (arith, e, few));
@@ -107,24 +123,24 @@ desk_made text nodes block room any back shared space sweep keeps roomy states r
 pub shared_serves : (m : ℕ) (d : Desk) → IsDesk d → m ≤ d.max_nodes → AreRoomy m d.shared
 shared_serves m d is few = record {
   ways = is.shared.ways;
-  inside = roomy_fewer m d.max_nodes d.shared.inside few is.shared.inside;
-  ahead = roomy_fewer m d.max_nodes d.shared.ahead few is.shared.ahead;
+  reverse_one = roomy_fewer m d.max_nodes d.shared.reverse_one few is.shared.reverse_one;
+  forward_one = roomy_fewer m d.max_nodes d.shared.forward_one few is.shared.forward_one;
 }
 
-pub any_serves : (m : ℕ) (d : Desk) → IsDesk d → m ≤ d.max_nodes → IsRoomy m d.any
-any_serves m d is few = roomy_fewer m d.max_nodes d.any few is.any.0
+pub forward_any_serves : (m : ℕ) (d : Desk) → IsDesk d → m ≤ d.max_nodes → IsRoomy m d.forward_any
+forward_any_serves m d is few = roomy_fewer m d.max_nodes d.forward_any few is.forward_any.0
 
 halves : (edges blocks : ℕ) → edges ≡ 2 * blocks → edges / 2 ≡ blocks
 halves edges blocks is = omega (arith, is)
 
 -- an expression's own tables decide groups there, where its blocks are enough
 pub own_decides : (s : Subject) (t : GroupTables) (d : Desk) (bytes : ℕ) → AreGroupTables s.prepared.now t → IsDesk d → length s.text.now ≤ d.max_text → length s.prepared.now.arena.expr.nodes ≤ d.max_nodes →
-    bytes ≡ length s.text.now → bytes < length d.room.kept.edges / 2 * (t.inside.room - 1) → HasDesk s t d.room.kept
+    bytes ≡ length s.text.now → bytes < length d.room.kept.edges / 2 * (t.reverse_one.room - 1) → HasDesk s t d.room.kept
 own_decides s t d bytes tables is short few long enough =
-    let blocks = subst (λ v. v < length d.room.kept.edges / 2 * (t.inside.room - 1)) long enough in
-    let all = d.max_text / (d.shared.inside.room - 1) + 1 in
+    let blocks = subst (λ v. v < length d.room.kept.edges / 2 * (t.reverse_one.room - 1)) long enough in
+    let all = d.max_text / (d.shared.reverse_one.room - 1) + 1 in
     let half = halves (length d.room.kept.edges) all is.space.edges in
-    has_desk s t d.room d.max_text all d.max_nodes tables is.space short (subst (λ v. length s.text.now < v * (t.inside.room - 1)) half blocks) few
+    has_desk s t d.room d.max_text all d.max_nodes tables is.space short (subst (λ v. length s.text.now < v * (t.reverse_one.room - 1)) half blocks) few
 
 -- two rows for each block, in which a table has a state for each place and one more, are enough
 pub blocks_enough : (text width room edges : ℕ) → 1 ≤ width → room - 1 ≡ width → edges ≡ 2 * (text / width + 1) → text < edges / 2 * (room - 1)
@@ -140,7 +156,7 @@ blocks_fit b w n e low enough =
     (cases_lt b (e / 2))
 
 -- a pass from the text's end can be made where all its blocks have rows
-pub kept_room : (m n : ℕ) (t : Table) (k : Kept) → t.way ≡ back_way → n < vec_capacity k.states → n < length k.edges / 2 * (t.room - 1) → ((q : ℕ) → q < length k.edges → m ≤ length (row_of k.edges q)) →
+pub kept_room : (m n : ℕ) (t : Table) (k : Kept) → t.way ≡ reverse_any_way → n < vec_capacity k.states → n < length k.edges / 2 * (t.room - 1) → ((q : ℕ) → q < length k.edges → m ≤ length (row_of k.edges q)) →
     KeptRoom m n t k
 kept_room m n t k way places enough marks = record {
   mirrored = ap (λ v. v.mirrored) way;
@@ -151,20 +167,20 @@ kept_room m n t k way places enough marks = record {
 }
 
 -- those of a desk are enough for its tables, also where they are fitted to an expression
-desk_enough : (d : Desk) (room : ℕ) → IsDesk d → room ≡ d.shared.inside.room → 2 ≤ room → d.max_text < length d.room.kept.edges / 2 * (room - 1)
-desk_enough d room is same some = blocks_enough d.max_text (d.shared.inside.room - 1) room (length d.room.kept.edges) (omega (arith, same, some)) (ap (λ v. v - 1) same) is.space.edges
+desk_enough : (d : Desk) (room : ℕ) → IsDesk d → room ≡ d.shared.reverse_one.room → 2 ≤ room → d.max_text < length d.room.kept.edges / 2 * (room - 1)
+desk_enough d room is same some = blocks_enough d.max_text (d.shared.reverse_one.room - 1) room (length d.room.kept.edges) (omega (arith, same, some)) (ap (λ v. v - 1) same) is.space.edges
 
-pub desk_keeps : (d : Desk) (p : Prepared) (back : Table) (m n : ℕ) → IsDesk d → IsTable p back → SameRoom d.back back → n ≤ d.max_text → m ≤ d.max_nodes → KeptRoom m n back d.room.kept
-desk_keeps d p back m n is table same short few =
-    let enough = desk_enough d back.room is (same.1 ∙ is.states) table.room.rows.some in
+pub desk_keeps : (d : Desk) (p : Prepared) (reverse_any : Table) (m n : ℕ) → IsDesk d → IsTable p reverse_any → SameRoom d.reverse_any reverse_any → n ≤ d.max_text → m ≤ d.max_nodes → KeptRoom m n reverse_any d.room.kept
+desk_keeps d p reverse_any m n is table same short few =
+    let enough = desk_enough d reverse_any.room is (same.1 ∙ is.states) table.room.rows.some in
     let places = is.space.places in
-    kept_room m n back d.room.kept (same.0 ∙ is.back.1) (omega (arith, places, short)) (omega (arith, enough, short)) (λ q low. let marks = is.space.marks q low in omega (arith, marks, few))
+    kept_room m n reverse_any d.room.kept (same.0 ∙ is.reverse_any.1) (omega (arith, places, short)) (omega (arith, enough, short)) (λ q low. let marks = is.space.marks q low in omega (arith, marks, few))
 
 -- and those that serve all do, fitted to it
 pub shared_decides : (s : Subject) (fitted : GroupTables) (d : Desk) → AreGroupTables s.prepared.now fitted → SameRooms d.shared fitted → IsDesk d → length s.text.now ≤ d.max_text →
     length s.prepared.now.arena.expr.nodes ≤ d.max_nodes → HasDesk s fitted d.room.kept
 shared_decides s fitted d tables fit is short few =
-    let enough = desk_enough d fitted.inside.room is fit.inside.1 tables.inside.room.rows.some in
+    let enough = desk_enough d fitted.reverse_one.room is fit.reverse_one.1 tables.reverse_one.room.rows.some in
     own_decides s fitted d (length s.text.now) tables is short few refl (omega (arith, enough, short))
 
 -- the table goes the same way, and has as much room for expressions of at most m nodes
@@ -189,20 +205,20 @@ pub worked : (kept : Kept) (work : Work) → SameSpace kept (record kept { work 
 worked kept work = record { places = refl; edges = refl; marks = λ q. refl }
 
 -- the desk after a search, or after groups were decided
-pub desk_again : (d : Desk) (room : GroupRoom) (any back : Table) (shared : GroupTables) → IsDesk d → SameSpace d.room.kept room.kept → room.tasks.items ≡ [] → vec_capacity d.room.tasks ≤ vec_capacity room.tasks →
-    IsAgain d.max_nodes d.any any → IsAgain d.max_nodes d.back back → IsAgain d.max_nodes d.shared.inside shared.inside → IsAgain d.max_nodes d.shared.ahead shared.ahead →
-    KeepsDesk d (record d { room = room; any = any; back = back; shared = shared })
-desk_again d room any back shared is same none grows sweeps keeps inside ahead = (
+pub desk_again : (d : Desk) (room : GroupRoom) (forward_any reverse_any : Table) (shared : GroupTables) → IsDesk d → SameSpace d.room.kept room.kept → room.tasks.items ≡ [] → vec_capacity d.room.tasks ≤ vec_capacity room.tasks →
+    IsAgain d.max_nodes d.forward_any forward_any → IsAgain d.max_nodes d.reverse_any reverse_any → IsAgain d.max_nodes d.shared.reverse_one shared.reverse_one → IsAgain d.max_nodes d.shared.forward_one shared.forward_one →
+    KeepsDesk d (record d { room = room; forward_any = forward_any; reverse_any = reverse_any; shared = shared })
+desk_again d room forward_any reverse_any shared is same none grows forward_any_again reverse_any_again reverse_one_again forward_one_again = (
   record {
-    space = subst (λ v. HasSpace d.max_text (d.max_text / (v - 1) + 1) d.max_nodes room) (sym inside.room)
-        (space_again d.max_text (d.max_text / (d.shared.inside.room - 1) + 1) d.max_nodes d.room room is.space same none grows);
-    any = (sweeps.roomy, sweeps.way ∙ is.any.1);
-    back = (keeps.roomy, keeps.way ∙ is.back.1);
-    states = keeps.room ∙ is.states ∙ sym inside.room;
+    space = subst (λ v. HasSpace d.max_text (d.max_text / (v - 1) + 1) d.max_nodes room) (sym reverse_one_again.room)
+        (space_again d.max_text (d.max_text / (d.shared.reverse_one.room - 1) + 1) d.max_nodes d.room room is.space same none grows);
+    forward_any = (forward_any_again.roomy, forward_any_again.way ∙ is.forward_any.1);
+    reverse_any = (reverse_any_again.roomy, reverse_any_again.way ∙ is.reverse_any.1);
+    states = reverse_any_again.room ∙ is.states ∙ sym reverse_one_again.room;
     shared = record {
-      ways = record { inside = inside.way ∙ is.shared.ways.inside; ahead = ahead.way ∙ is.shared.ways.ahead };
-      inside = inside.roomy;
-      ahead = ahead.roomy;
+      ways = record { reverse_one = reverse_one_again.way ∙ is.shared.ways.reverse_one; forward_one = forward_one_again.way ∙ is.shared.ways.forward_one };
+      reverse_one = reverse_one_again.roomy;
+      forward_one = forward_one_again.roomy;
     };
     few = (let e = same.edges in let h = is.few in omega (arith, h, e));
   },

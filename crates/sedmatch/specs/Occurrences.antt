@@ -13,20 +13,20 @@ use Rattle.sedpass.specs.declared.kept.Kept.{Kept}
 use Rattle.sedpass.specs.declared.nodes.Prepared.{Prepared}
 use Rattle.sedpass.specs.declared.search.Seeking.{Seeking}
 use Rattle.sedpass.specs.declared.table.Table.{Table}
-use Rattle.sedmatch.specs.Passes.{back_way}
+use Rattle.sedmatch.specs.Passes.{reverse_any_way}
 use Rattle.sedmatch.specs.declared.occurrences.Occurrences.{Occurrences}
 
 -- the table is for such passes over the expression, however that was made ready
-abbrev pub IsBack : WrittenExpression → Table → Type 0
-IsBack e t = (t.way ≡ back_way) × ((p : Prepared) → p.arena.expr ≡ e → IsTable p t)
+abbrev pub IsReverseAny : WrittenExpression → Table → Type 0
+IsReverseAny e t = (t.way ≡ reverse_any_way) × ((p : Prepared) → p.arena.expr ≡ e → IsTable p t)
 
 -- the table can be fitted to expressions of so many nodes, for texts of `text` bytes
 abbrev pub IsShared : ℕ → ℕ → Kept → Table → Type 0
-IsShared text nodes kept t = IsRoomy nodes t × (t.way ≡ back_way) × KeptRoom nodes text t kept
+IsShared text nodes kept t = IsRoomy nodes t × (t.way ≡ reverse_any_way) × KeptRoom nodes text t kept
 
 -- the table in the list for the expression e, of number x, is for it, where there is one
 abbrev pub HasOwn : ℕ → WrittenExpression → List (Option Table) → Type 0
-HasOwn x e own = (t : Table) → slice_get own x ≡ Some (Some t) → IsBack e t
+HasOwn x e own = (t : Table) → slice_get own x ≡ Some (Some t) → IsReverseAny e t
 
 -- so it is for each of these expressions
 abbrev pub HaveOwn : List WrittenExpression → List (Option Table) → Type 0

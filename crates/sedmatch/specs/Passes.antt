@@ -24,12 +24,12 @@ use Rattle.sedmatch.specs.declared.table_matcher.SearchMethod.{SearchMethod}
 use Rattle.sedmatch.specs.declared.table_matcher.SearchMethod.TheVariants.{Direct, Passes as ByPasses}
 
 -- the way of passes forwards in which every place is a start
-abbrev pub any_way : Way
-any_way = record { mirrored = false; all_starts = true; keeps = false }
+abbrev pub forward_any_way : Way
+forward_any_way = record { mirrored = false; all_starts = true; keeps = false }
 
 -- the way of passes from the text's end, of which each place's state is kept
-abbrev pub back_way : Way
-back_way = record { mirrored = true; all_starts = true; keeps = true }
+abbrev pub reverse_any_way : Way
+reverse_any_way = record { mirrored = true; all_starts = true; keeps = true }
 
 -- what was found out is right for the expression
 pub record IsSought (e : WrittenExpression) (s : Sought) : Type 0 where
@@ -40,7 +40,7 @@ pub record IsSought (e : WrittenExpression) (s : Sought) : Type 0 where
 -- the tables, where the expression has some of its own, are for it
 abbrev pub AreOwn : Prepared → Option OwnTables → Type 0
 AreOwn p None = Unit {0}
-AreOwn p (Some t) = IsTable p t.any × (t.any.way ≡ any_way) × AreGroupTables p t.groups
+AreOwn p (Some t) = IsTable p t.forward_any × (t.forward_any.way ≡ forward_any_way) × AreGroupTables p t.groups
 
 abbrev pub ArePasses : WrittenExpression → Passes → Type 0
 ArePasses e p = IsSought e p.sought × AreOwn p.sought.prepared p.own
@@ -65,10 +65,10 @@ IsRoomyWay way m t = IsRoomy m t × (t.way ≡ way)
 -- Passes can be made there over texts of at most `max_text` bytes, for expressions of at most `max_nodes` nodes, by the tables that
 -- serve all.
 pub record IsDesk (d : Desk) : Type 0 where
-  pub space : HasSpace d.max_text (d.max_text / (d.shared.inside.room - 1) + 1) d.max_nodes d.room
-  pub any : IsRoomyWay any_way d.max_nodes d.any
-  pub back : IsRoomyWay back_way d.max_nodes d.back
-  pub states : d.back.room ≡ d.shared.inside.room
+  pub space : HasSpace d.max_text (d.max_text / (d.shared.reverse_one.room - 1) + 1) d.max_nodes d.room
+  pub forward_any : IsRoomyWay forward_any_way d.max_nodes d.forward_any
+  pub reverse_any : IsRoomyWay reverse_any_way d.max_nodes d.reverse_any
+  pub states : d.reverse_any.room ≡ d.shared.reverse_one.room
   pub shared : AreRoomy d.max_nodes d.shared
   pub few : length d.room.kept.edges ≤ 65536
 

@@ -6,13 +6,13 @@ ghost use Rattle.sedtext.specs.Costs.{CostsWithin};
 ghost use Rattle.sedtext.specs.Following.{EndsWithin, Occurs, next_span};
 ghost use Rattle.sedtext.specs.Matching.{leftmost_longest};
 ghost use Rattle.sedpass.specs.Search.{MaySearch, Searched, owed_after_search, SearchTakes, owed_behind};
-ghost use Rattle.sedpass.specs.Table.{IsAhead, SameShape};
+ghost use Rattle.sedpass.specs.Table.{IsForwardOne, SameShape};
 ghost use Rattle.sedpass.specs.declared.table.Table.{Table};
-ghost use Rattle.sedmatch.specs.Occurrences.{HasTable, HaveOwn, IsBack, IsReady, RoomAt, RoomFor, Serves, TellsNext, owed_search};
+ghost use Rattle.sedmatch.specs.Occurrences.{HasTable, HaveOwn, IsReverseAny, IsReady, RoomAt, RoomFor, Serves, TellsNext, owed_search};
 ghost use Rattle.sedmatch.specs.Passes.{IsSought};
 
 use crate::Span;
-use crate::passes::{BACK, Sought, has_blocks};
+use crate::passes::{REVERSE_ANY, Sought, has_blocks};
 use crate::table_matcher::TableMatcher;
 use sedpass::kept::{Kept, Subject};
 use sedpass::nodes::Prepared;
@@ -57,10 +57,10 @@ pub struct Occurrences {
 
 /// A table of its own for passes from the text's end, where the expression has tables.
 fn own_table(alloc: Global, matcher: &TableMatcher) -> Result<Option<Table>, AllocError>
-    ensures { IfOk result (λ r. IfSome r (IsBack matcher.now)) }
+    ensures { IfOk result (λ r. IfSome r (IsReverseAny matcher.now)) }
 {
     match matcher.prepared() {
-        Some(prepared) => Ok(Some(Table::new(alloc, prepared, BACK, OWN_STATES)?)),
+        Some(prepared) => Ok(Some(Table::new(alloc, prepared, REVERSE_ANY, OWN_STATES)?)),
         None => Ok(None),
     }
 }
@@ -117,7 +117,7 @@ impl Occurrences {
     {
         let width = width_for(max_text);
         let kept = Kept::new(alloc, max_text, max_text / width + 1, max_nodes)?;
-        let Ok(shared) = Table::with_room(alloc, BACK, width + 1, max_nodes) else {
+        let Ok(shared) = Table::with_room(alloc, REVERSE_ANY, width + 1, max_nodes) else {
             drop(kept);
             return Err(AllocError);
         };
@@ -183,16 +183,16 @@ impl Occurrences {
 fn next_with(
     sought: &Sought,
     text: &Text,
-    ahead: &mut Table,
-    back: &mut Table,
+    forward_one: &mut Table,
+    reverse_any: &mut Table,
     seeking: &mut Seeking,
     last: Option<usize>,
     steps: &mut Steps,
 ) -> Option<Span>
     requires sought { IsSought sought.now.prepared.arena.expr sought.now }
     requires last { EndsWithin (length text.now) last }
-    requires ready { MaySearch sought.now.prepared text.now sought.now.begins ahead.old back.old seeking.old }
-    ensures searched { Searched sought.now.prepared text.now ahead.old ahead.new back.old back.new seeking.old seeking.new }
+    requires ready { MaySearch sought.now.prepared text.now sought.now.begins forward_one.old reverse_any.old seeking.old }
+    ensures searched { Searched sought.now.prepared text.now forward_one.old forward_one.new reverse_any.old reverse_any.new seeking.old seeking.new }
     ensures next { result ≡ next_span (leftmost_longest (expression_tree sought.now.prepared.arena.expr) text.now) (length text.now) last }
     ensures occurs { IfSome result (Occurs (expression_tree sought.now.prepared.arena.expr) text.now last) }
     ensures cost { let m = length sought.now.prepared.arena.expr.nodes in let n = length text.now in
@@ -204,9 +204,25 @@ fn next_with(
     match last {
         None => match skip_to_literal(&sought.required, text, 0, steps) {
             None => None,
-            Some(start) => next_match(subject, begins, ahead, back, seeking, start, steps),
+            Some(start) => next_match(
+                subject,
+                begins,
+                forward_one,
+                reverse_any,
+                seeking,
+                start,
+                steps,
+            ),
         },
-        Some(at) => next_after(subject, begins, ahead, back, seeking, at, steps),
+        Some(at) => next_after(
+            subject,
+            begins,
+            forward_one,
+            reverse_any,
+            seeking,
+            at,
+            steps,
+        ),
     }
 }
 
@@ -214,27 +230,35 @@ fn next_with(
 pub fn next_by(
     sought: &Sought,
     text: &Text,
-    ahead: &mut Table,
+    forward_one: &mut Table,
     occurrences: &mut Occurrences,
     last: Option<usize>,
     steps: &mut Steps,
 ) -> Option<Span>
     requires sought { IsSought sought.now.prepared.arena.expr sought.now }
-    requires ahead { IsAhead sought.now.prepared ahead.old }
+    requires forward_one { IsForwardOne sought.now.prepared forward_one.old }
     requires last { EndsWithin (length text.now) last }
     requires serves { Serves sought.now.prepared.arena.expr text.now last occurrences.old }
-    ensures ahead { IsAhead sought.now.prepared ahead.new }
-    ensures ahead_shape { SameShape ahead.old ahead.new }
+    ensures forward_one { IsForwardOne sought.now.prepared forward_one.new }
+    ensures forward_one_shape { SameShape forward_one.old forward_one.new }
     ensures told { TellsNext sought.now.prepared.arena.expr text.now last occurrences.old occurrences.new steps.old steps.new result }
 {
     occurrences.make_ready(&sought.prepared, text);
     let seeking = &mut occurrences.seeking;
     if !occurrences.by_own {
-        let back = &mut occurrences.shared;
-        return next_with(sought, text, ahead, back, seeking, last, steps);
+        let reverse_any = &mut occurrences.shared;
+        return next_with(sought, text, forward_one, reverse_any, seeking, last, steps);
     }
     match &mut occurrences.own[occurrences.number] {
-        Some(back) => next_with(sought, text, ahead, back, seeking, last, steps),
+        Some(reverse_any) => next_with(
+            sought,
+            text,
+            forward_one,
+            reverse_any,
+            seeking,
+            last,
+            steps,
+        ),
         None => unreachable!(),
     }
 }

@@ -6,7 +6,7 @@ ghost use Rattle.sedre.specs.Steps.{Takes, TakesAtLeast};
 ghost use Rattle.sedtext.specs.Beginnings.{AllBegin};
 ghost use Rattle.sedtext.specs.Following.{LooksPast};
 ghost use Rattle.sedtext.specs.Required.{IsRequired};
-ghost use Rattle.sedpass.specs.Table.{IsAhead, IsSweep, SameShape};
+ghost use Rattle.sedpass.specs.Table.{IsForwardOne, IsForwardAny, SameShape};
 ghost use Rattle.sedtext.specs.Spans.{SomeFound, Matches};
 ghost use Rattle.sedpass.specs.Decide.{HasDesk, SameTables};
 ghost use Rattle.sedpass.specs.Kept.{SameSpace};
@@ -44,7 +44,7 @@ pub struct Sought {
 #[derive(Drop)]
 pub struct OwnTables {
     /// Forwards, every place a start.
-    pub any: Table,
+    pub forward_any: Table,
     /// Forwards from one start, and those for groups.
     pub groups: GroupTables,
 }
@@ -59,20 +59,20 @@ pub struct Passes {
 }
 
 /// The way of passes forwards in which every place is a start.
-pub const ANY: Way = Way {
+pub const FORWARD_ANY: Way = Way {
     mirrored: false,
     all_starts: true,
     keeps: false,
 };
 
 /// The way of passes from the text's end, of which each place's state is kept.
-pub const BACK: Way = Way {
+pub const REVERSE_ANY: Way = Way {
     mirrored: true,
     all_starts: true,
     keeps: true,
 };
 
-/// How many tables an expression has: three here, and one for all occurrences in a text.
+/// How many tables an expression has: three here, and `reverse_any` for all occurrences in a text.
 const TABLES: usize = 4;
 
 /// How many bytes so many states take in all tables of an expression, at most.
@@ -94,9 +94,16 @@ fn own_tables(
     if size_of(prepared.nodes(), states) > room.bytes {
         return Ok(None);
     }
-    let any = Table::new(alloc, prepared, ANY, states)?;
-    let groups = GroupTables::new(alloc, prepared, states)?;
-    Ok(Some(OwnTables { any, groups }))
+    let forward_any = Table::new(alloc, prepared, FORWARD_ANY, states)?;
+    // What was made is let go of by a call: in place it is proved field by field.
+    let Ok(groups) = GroupTables::new(alloc, prepared, states) else {
+        drop(forward_any);
+        return Err(AllocError);
+    };
+    Ok(Some(OwnTables {
+        forward_any,
+        groups,
+    }))
 }
 
 /// An expression that is searched by passes, with its own tables if there is room for them.
@@ -124,7 +131,7 @@ impl Passes {
     /// How many bytes its own tables take at most.
     pub fn size_of_tables(&self) -> usize {
         match &self.own {
-            Some(own) => size_of(self.sought.prepared.nodes(), own.any.room),
+            Some(own) => size_of(self.sought.prepared.nodes(), own.forward_any.room),
             None => 0,
         }
     }
@@ -150,20 +157,20 @@ pub fn candidate_by(sought: &Sought, text: &Text, steps: &mut Steps) -> Option<u
 fn matches_with(
     sought: &Sought,
     text: &Text,
-    any: &mut Table,
-    ahead: &mut Table,
+    forward_any: &mut Table,
+    forward_one: &mut Table,
     from: usize,
     work: &mut Work,
     steps: &mut Steps,
 ) -> bool
     requires begins { AllBegin (expression_tree sought.now.prepared.arena.expr) sought.now.begins }
-    requires any { IsSweep sought.now.prepared any.old }
-    requires ahead { IsAhead sought.now.prepared ahead.old }
+    requires forward_any { IsForwardAny sought.now.prepared forward_any.old }
+    requires forward_one { IsForwardOne sought.now.prepared forward_one.old }
     requires from { from ≤ length text.now }
-    ensures any { IsSweep sought.now.prepared any.new }
-    ensures any_shape { SameShape any.old any.new }
-    ensures ahead { IsAhead sought.now.prepared ahead.new }
-    ensures ahead_shape { SameShape ahead.old ahead.new }
+    ensures forward_any { IsForwardAny sought.now.prepared forward_any.new }
+    ensures forward_any_shape { SameShape forward_any.old forward_any.new }
+    ensures forward_one { IsForwardOne sought.now.prepared forward_one.new }
+    ensures forward_one_shape { SameShape forward_one.old forward_one.new }
     ensures matches { IsTrue result ↔ SomeFound (expression_tree sought.now.prepared.arena.expr) text.now from }
     ensures passes { IsTrue result → LooksPast (expression_tree sought.now.prepared.arena.expr) text.now from steps.old steps.new }
     ensures cost { Takes steps.old steps.new (43 * length sought.now.prepared.arena.expr.nodes * (length text.now + 1)) }
@@ -171,8 +178,14 @@ fn matches_with(
     let prepared = &sought.prepared;
     let subject = Subject { prepared, text };
     match &sought.begins {
-        Begins::AtStart => { from == 0 && ahead.run(prepared, text, 0, work, steps).end.is_some() }
-        _ => is_match(subject, &sought.begins, any, from, work, steps),
+        Begins::AtStart => {
+            from == 0
+                && forward_one
+                    .run(prepared, text, 0, work, steps)
+                    .end
+                    .is_some()
+        }
+        _ => is_match(subject, &sought.begins, forward_any, from, work, steps),
     }
 }
 
@@ -198,13 +211,13 @@ pub fn matches_by(
     };
     let work = &mut desk.room.kept.work;
     if let Some(own) = &mut passes.own {
-        let ahead = &mut own.groups.ahead;
-        return matches_with(sought, text, &mut own.any, ahead, start, work, steps);
+        let (forward_any, forward_one) = (&mut own.forward_any, &mut own.groups.forward_one);
+        return matches_with(sought, text, forward_any, forward_one, start, work, steps);
     }
-    desk.any.fit(&sought.prepared);
-    desk.shared.ahead.fit(&sought.prepared);
-    let ahead = &mut desk.shared.ahead;
-    matches_with(sought, text, &mut desk.any, ahead, start, work, steps)
+    desk.forward_any.fit(&sought.prepared);
+    desk.shared.forward_one.fit(&sought.prepared);
+    let (forward_any, forward_one) = (&mut desk.forward_any, &mut desk.shared.forward_one);
+    matches_with(sought, text, forward_any, forward_one, start, work, steps)
 }
 
 /// The groups of a match of an expression without groups.
@@ -292,7 +305,7 @@ pub fn groups_by(
     let prepared = &passes.sought.prepared;
     let subject = Subject { prepared, text };
     if let Some(own) = &mut passes.own {
-        if has_blocks(&desk.room.kept, own.groups.inside.room, text.len()) {
+        if has_blocks(&desk.room.kept, own.groups.reverse_one.room, text.len()) {
             return groups_with(subject, &mut own.groups, span, &mut desk.room, steps);
         }
     }

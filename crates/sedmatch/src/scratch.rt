@@ -1,7 +1,7 @@
 //! The room that searches work in, made once.
 ghost use Rattle.std.specs.Prelude.{◌≡◌, ◌^◌, ◌≤◌, IfOk};
 
-use crate::passes::{ANY, BACK};
+use crate::passes::{FORWARD_ANY, REVERSE_ANY};
 use sedpass::groups::{GroupRoom, GroupTables};
 use sedpass::nodes::Prepared;
 use sedpass::table::Table;
@@ -15,9 +15,9 @@ pub struct Desk {
     /// The room.
     pub room: GroupRoom,
     /// The table of passes forwards in which every place is a start.
-    pub any: Table,
+    pub forward_any: Table,
     /// The table of passes from the text's end.
-    pub back: Table,
+    pub reverse_any: Table,
     /// The tables of passes forwards from one start, and for groups.
     pub shared: GroupTables,
     /// How many bytes a text has at most,
@@ -59,26 +59,26 @@ impl Scratch {
         let block = width_for(max_text);
         // What was made is let go of by calls: in place it is proved field by field.
         let room = GroupRoom::new(alloc, max_text, max_text / block + 1, max_nodes)?;
-        let Ok(any) = Table::with_room(alloc, ANY, block + 1, max_nodes) else {
+        let Ok(forward_any) = Table::with_room(alloc, FORWARD_ANY, block + 1, max_nodes) else {
             drop(room);
             return Err(AllocError);
         };
         let Ok(shared) = GroupTables::with_room(alloc, block + 1, max_nodes) else {
-            drop((room, any));
+            drop((room, forward_any));
             return Err(AllocError);
         };
         let Ok(prepared) = Prepared::with_room(alloc, max_nodes) else {
-            drop((room, any, shared));
+            drop((room, forward_any, shared));
             return Err(AllocError);
         };
-        let Ok(back) = Table::with_room(alloc, BACK, block + 1, max_nodes) else {
-            drop((room, any, shared, prepared));
+        let Ok(reverse_any) = Table::with_room(alloc, REVERSE_ANY, block + 1, max_nodes) else {
+            drop((room, forward_any, shared, prepared));
             return Err(AllocError);
         };
         let desk = Desk {
             room,
-            any,
-            back,
+            forward_any,
+            reverse_any,
             shared,
             max_text,
             max_nodes,

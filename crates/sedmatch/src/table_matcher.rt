@@ -124,12 +124,12 @@ fn next_by_passes(
 {
     let sought = &passes.sought;
     if let Some(own) = &mut passes.own {
-        let ahead = &mut own.groups.ahead;
-        return next_by(sought, text, ahead, occurrences, last, steps);
+        let forward_one = &mut own.groups.forward_one;
+        return next_by(sought, text, forward_one, occurrences, last, steps);
     }
-    let ahead = &mut desk.shared.ahead;
-    ahead.fit(&sought.prepared);
-    next_by(sought, text, ahead, occurrences, last, steps)
+    let forward_one = &mut desk.shared.forward_one;
+    forward_one.fit(&sought.prepared);
+    next_by(sought, text, forward_one, occurrences, last, steps)
 }
 
 impl TableMatcher {
@@ -143,11 +143,15 @@ impl TableMatcher {
     ) -> Result<TableMatcher, AllocError>
         ensures { IfOk result (λ m. m ≡ expr.now) }
     {
-        let engine = match direct_form_of(alloc, expr, steps)? {
-            Some(form) => SearchMethod::Direct(expr.copy(alloc)?, form),
-            None => SearchMethod::Passes(Box::new(alloc, new_passes(alloc, expr, room, steps)?)?),
+        let Some(form) = direct_form_of(alloc, expr, steps)? else {
+            let passes = Box::new(alloc, new_passes(alloc, expr, room, steps)?)?;
+            return Ok(TableMatcher {
+                engine: SearchMethod::Passes(passes),
+            });
         };
-        Ok(TableMatcher { engine })
+        Ok(TableMatcher {
+            engine: SearchMethod::Direct(expr.copy(alloc)?, form),
+        })
     }
 
     /// How many bytes its own tables take at most, with the one for all occurrences in a text.
@@ -215,7 +219,13 @@ impl TableMatcher {
     {
         match &mut self.engine {
             SearchMethod::Direct(_, form) => direct_matches(form, text, from, steps),
-            SearchMethod::Passes(passes) => matches_by(passes, text, from, &mut scratch.desk, steps),
+            SearchMethod::Passes(passes) => matches_by(
+                passes,
+                text,
+                from,
+                &mut scratch.desk,
+                steps,
+            ),
         }
     }
 

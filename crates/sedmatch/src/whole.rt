@@ -27,17 +27,17 @@ fn first_span(subject: Subject, from: usize, desk: &mut Desk, steps: &mut Steps)
         Takes steps.old steps.new (142 * m * length subject.entry.text.now + 42 * m) }
     ensures counts { IfSome result (λ f. TakesAtLeast steps.old steps.new (f.1 - f.0)) }
 {
-    desk.shared.ahead.fit(subject.prepared);
-    desk.back.fit(subject.prepared);
-    let ahead = &mut desk.shared.ahead;
+    desk.shared.forward_one.fit(subject.prepared);
+    desk.reverse_any.fit(subject.prepared);
+    let (forward_one, reverse_any) = (&mut desk.shared.forward_one, &mut desk.reverse_any);
     let kept = &mut desk.room.kept;
     kept.begin(
         subject,
-        &desk.back,
+        reverse_any,
         subject.prepared.root,
         subject.text.len(),
     );
-    next_kept(subject, ahead, &mut desk.back, kept, from, steps)
+    next_kept(subject, forward_one, reverse_any, kept, from, steps)
 }
 
 /// The leftmost-longest match that begins at `from` or later, with its groups. `None` exactly where there is no match.

@@ -17,7 +17,7 @@ use Rattle.sedpass.proofs.OneGroupLemmas.{copy_spans, deed, drop_as, left, same_
 use Rattle.sedpass.proofs.OwedLemmas.{owed_small}
 use Rattle.sedpass.proofs.TurnLemmas.{opened}
 use Rattle.sedpass.proofs.TableLemmas.{same_all}
-use Rattle.sedpass.proofs.ForwardLemmas.{ahead_still}
+use Rattle.sedpass.proofs.ForwardLemmas.{forward_one_still}
 
 -- an entry of the flags
 pub flags_at : (s : GroupSet) (k : ℕ) → slice_index_or (flags_of s) k false ≡ holds s k
@@ -200,12 +200,12 @@ run_told nodes groups x facts (Some c) expr inside is told = run_within (x + 1) 
 
 -- the match ends at the one end that a kept pass tells of
 pub ends_there : (s : Subject) (tables : GroupTables) (kept : Kept) (here : Matched) (node : Node) → IsAtEnd s tables kept here node →
-    ends_told tables.inside.way.all_starts (length (subject_text s)) kept.region.end ≡ one_start here.stop
+    ends_told tables.reverse_one.way.all_starts (length (subject_text s)) kept.region.end ≡ one_start here.stop
 ends_there s tables kept here node at = rw at.desk.one_end (ap one_start (sym at.ends.1))
 
 -- where a pass over the left part ceases to meet the kept one is the cut
 pub cut_ceases : (s : Subject) (tables : GroupTables) (kept : Kept) (here : Matched) (a b : NodeId) (p : ℕ) → IsAtEnd s tables kept here (Seq a b) →
-    CeasesAt (nodes_in s) (subject_text s) kept.region.root (ends_told tables.inside.way.all_starts (length (subject_text s)) kept.region.end) a.index here.start p →
+    CeasesAt (nodes_in s) (subject_text s) kept.region.root (ends_told tables.reverse_one.way.all_starts (length (subject_text s)) kept.region.end) a.index here.start p →
     LastCut (At (nodes_in s) (subject_text s) a.index) (At (nodes_in s) (subject_text s) b.index) here.start here.stop p
 cut_ceases s tables kept here a b p at ceases =
     let stands = at.stands in
@@ -214,8 +214,8 @@ cut_ceases s tables kept here a b p at ceases =
 
 -- so is the end of a run, where the left part is one
 pub cut_runs : (s : Subject) (tables : GroupTables) (kept : Kept) (here : Matched) (a b : NodeId) (leaf p : ℕ) → IsAtEnd s tables kept here (Seq a b) → IsRunOf (nodes_in s) leaf a.index → IsSetAt (nodes_in s) leaf →
-    here.start ≤ p → AllMarked (nodes_in s) (subject_text s) kept.region.root (ends_told tables.inside.way.all_starts (length (subject_text s)) kept.region.end) leaf true here.start p →
-    (p < kept.region.end → IsTrue false ↔ ReachesEnd (nodes_in s) (subject_text s) kept.region.root (ends_told tables.inside.way.all_starts (length (subject_text s)) kept.region.end) leaf p) →
+    here.start ≤ p → AllMarked (nodes_in s) (subject_text s) kept.region.root (ends_told tables.reverse_one.way.all_starts (length (subject_text s)) kept.region.end) leaf true here.start p →
+    (p < kept.region.end → IsTrue false ↔ ReachesEnd (nodes_in s) (subject_text s) kept.region.root (ends_told tables.reverse_one.way.all_starts (length (subject_text s)) kept.region.end) leaf p) →
     LastCut (At (nodes_in s) (subject_text s) a.index) (At (nodes_in s) (subject_text s) b.index) here.start here.stop p
 cut_runs s tables kept here a b leaf p at run a_set up passed found =
     let stands = at.stands in
@@ -233,7 +233,7 @@ cut_runs s tables kept here a b leaf p at run a_set up passed found =
 -- where a pass over the part of a repetition ceases to meet the kept one is the end of the next copy
 pub copy_ceases : (s : Subject) (tables : GroupTables) (kept : Kept) (here : Matched) (a : NodeId) (first : Bool) (i p : ℕ) → IsAtEnd s tables kept here (Star a first) →
     CopiesLead (At (nodes_in s) (subject_text s) a.index) here.stop i → i < here.stop →
-    CeasesAt (nodes_in s) (subject_text s) kept.region.root (ends_told tables.inside.way.all_starts (length (subject_text s)) kept.region.end) a.index i p →
+    CeasesAt (nodes_in s) (subject_text s) kept.region.root (ends_told tables.reverse_one.way.all_starts (length (subject_text s)) kept.region.end) a.index i p →
     NextCopy (At (nodes_in s) (subject_text s) a.index) i here.stop p
 copy_ceases s tables kept here a first i p at copies lt ceases =
     let stands = at.stands in
@@ -248,10 +248,10 @@ ends_still s old new here same ends = (subst (λ r. IsLastIn (nodes_in s) r here
 -- The desk.
 
 pub tables_same : (t : GroupTables) → SameTables t t
-tables_same t = record { inside = (refl, refl, refl, refl, refl); ahead = (refl, refl, refl, refl, refl) }
+tables_same t = record { reverse_one = (refl, refl, refl, refl, refl); forward_one = (refl, refl, refl, refl, refl) }
 
 pub tables_then : (a b c : GroupTables) → SameTables a b → SameTables b c → SameTables a c
-tables_then a b c one two = record { inside = same_shape a.inside b.inside c.inside one.inside two.inside; ahead = same_shape a.ahead b.ahead c.ahead one.ahead two.ahead }
+tables_then a b c one two = record { reverse_one = same_shape a.reverse_one b.reverse_one c.reverse_one one.reverse_one two.reverse_one; forward_one = same_shape a.forward_one b.forward_one c.forward_one one.forward_one two.forward_one }
 
 pub desk_same : (s : Subject) (t : GroupTables) (k : Kept) → IsGroupDesk s t k → KeepsGroupDesk s t t k k
 desk_same s t k desk = record { desk = desk; shape = tables_same t; space = space_same k }
@@ -260,16 +260,16 @@ pub desk_then : (s : Subject) (a b c : GroupTables) (k l m : Kept) → KeepsGrou
 desk_then s a b c k l m one two = record { desk = two.desk; shape = tables_then a b c one.shape two.shape; space = space_then k l m one.space two.space }
 
 -- after passes of both tables
-pub desk_ahead : (s : Subject) (t : GroupTables) (inside ahead : Table) (old new : Kept) → IsGroupDesk s t old → KeepsRegion s.prepared.now s.text.now t.inside inside old new → IsTable s.prepared.now ahead → SameShape t.ahead ahead →
-    KeepsGroupDesk s t (record { ahead = ahead; inside = inside }) old new
-desk_ahead s t inside ahead old new desk keeps table same = record {
-  desk = record { region = keeps.kept; one_end = ap (λ v. v.all_starts) keeps.shape.0 ∙ desk.one_end; ahead = ahead_still s.prepared.now t.ahead ahead desk.ahead table same };
-  shape = record { inside = keeps.shape; ahead = same };
+pub desk_forward_one : (s : Subject) (t : GroupTables) (reverse_one forward_one : Table) (old new : Kept) → IsGroupDesk s t old → KeepsRegion s.prepared.now s.text.now t.reverse_one reverse_one old new → IsTable s.prepared.now forward_one → SameShape t.forward_one forward_one →
+    KeepsGroupDesk s t (record { forward_one = forward_one; reverse_one = reverse_one }) old new
+desk_forward_one s t reverse_one forward_one old new desk keeps table same = record {
+  desk = record { region = keeps.kept; one_end = ap (λ v. v.all_starts) keeps.shape.0 ∙ desk.one_end; forward_one = forward_one_still s.prepared.now t.forward_one forward_one desk.forward_one table same };
+  shape = record { reverse_one = keeps.shape; forward_one = same };
   space = keeps.same.space;
 }
 
 -- passes for any node may begin
-pub may_begin : (s : Subject) (tables : GroupTables) (x : ℕ) → tables.inside.way.all_starts ≡ false → x < length (nodes_in s) → MayBegin s.prepared.now tables.inside.way x
+pub may_begin : (s : Subject) (tables : GroupTables) (x : ℕ) → tables.reverse_one.way.all_starts ≡ false → x < length (nodes_in s) → MayBegin s.prepared.now tables.reverse_one.way x
 may_begin s tables x one_end inside = (inside, λ all_starts. absurd (true≢false (sym all_starts ∙ one_end)))
 
 -- Costs.
@@ -279,7 +279,7 @@ pub owed_here : (s : Subject) (r : Region) (here : Matched) → EndsRegion s r h
 owed_here s r here ends =
     subst (λ v. owed_region (length (nodes_in s)) r here.start ≤ 100 * length (nodes_in s) * (v - here.start)) (sym ends.1) (owed_small (length (nodes_in s)) r here.start)
 
--- a pass ahead up to a place, from where a match of so many bytes begins
+-- a pass forwards up to a place, from where a match of so many bytes begins
 pub meet_paid : (m s t o o' i k long : ℕ) → 1 ≤ long → k ≤ i + long → o ≤ 100 * m * long → t + (o' + 36 * m * i) ≤ s + (o + 36 * m * (k + 1)) → t ≤ s + 172 * m * long
 meet_paid m s t o o' i k long some on owed_is pays =
     let far : k + 1 ≤ i + long + 1 = omega arith in
@@ -314,26 +314,26 @@ look_paid s r here before after left ends paid = (paid.0, look_long (length (nod
 
 -- where there is room, groups can be decided
 pub has_desk : (s : Subject) (t : GroupTables) (r : GroupRoom) (text blocks nodes : ℕ) → AreGroupTables s.prepared.now t → HasSpace text blocks nodes r →
-    length (subject_text s) ≤ text → length (subject_text s) < blocks * (t.inside.room - 1) → length (nodes_in s) ≤ nodes → HasDesk s t r.kept
+    length (subject_text s) ≤ text → length (subject_text s) < blocks * (t.reverse_one.room - 1) → length (nodes_in s) ≤ nodes → HasDesk s t r.kept
 has_desk s t r text blocks nodes tables space short cut few = record {
-  inside = tables.inside;
+  reverse_one = tables.reverse_one;
   places = record {
-    mirrored = ap (λ v. v.mirrored) tables.ways.inside;
-    keeps = ap (λ v. v.keeps) tables.ways.inside;
+    mirrored = ap (λ v. v.mirrored) tables.ways.reverse_one;
+    keeps = ap (λ v. v.keeps) tables.ways.reverse_one;
     places = (let h = space.places in omega (arith, h, short));
     blocks = λ b low.
         ⊎_elim
         (λ (lt : b < blocks). omega (arith, lt, space.edges))
-        (λ (ge : blocks ≤ b). let h : blocks * (t.inside.room - 1) ≤ b * (t.inside.room - 1) = mul-le-mul_right (t.inside.room - 1) ge in absurd (omega (arith, h, low, cut)))
+        (λ (ge : blocks ≤ b). let h : blocks * (t.reverse_one.room - 1) ≤ b * (t.reverse_one.room - 1) = mul-le-mul_right (t.reverse_one.room - 1) ge in absurd (omega (arith, h, low, cut)))
         (cases_lt b blocks);
     marks = λ q low. (let h = space.marks q low in omega (arith, h, few));
   };
-  one_end = ap (λ v. v.all_starts) tables.ways.inside;
-  ahead = record {
-    table = tables.ahead;
-    forwards = ap (λ v. v.mirrored) tables.ways.ahead;
-    single = ap (λ v. v.all_starts) tables.ways.ahead;
-    brief = ap (λ v. v.keeps) tables.ways.ahead;
+  one_end = ap (λ v. v.all_starts) tables.ways.reverse_one;
+  forward_one = record {
+    table = tables.forward_one;
+    forwards = ap (λ v. v.mirrored) tables.ways.forward_one;
+    single = ap (λ v. v.all_starts) tables.ways.forward_one;
+    brief = ap (λ v. v.keeps) tables.ways.forward_one;
   };
 }
 

@@ -3,7 +3,7 @@ use Rattle.std.proofs.Common.{inl, inr, ◌≡◌, ℕ, ◌+◌, ◌-◌, ◌*�
 use Rattle.std.specs.Bool.{then_some}
 use Rattle.sedpass.proofs.Words.{option_or, cases_lt, cases_Bool, both_ways, slice_get_within, IsArena, expression_tree, tree_at, Tree, seen, Node, Starts, TakesAtLeast, LooksPast, byte_is_in, At, IsStart, SomeSpan, IsLongestFrom, Matches, SomeFound, Matches-forward, Matches-within, IsPlace, StateFlags, PlaceKind, Prepared, Way, Table, Passed, seen-arena, seen-length, least_less, least_since, least_both}
 use Rattle.sedpass.specs.Rows.{nodes_of, at_begin, at_edge, RowOfPlace}
-use Rattle.sedpass.specs.Table.{PassState, state_of, FlagsShow, StateAt, LeadsOn, BeginsIn, NamesState, IsTable, IsAhead, IsSweep, SameShape, stops, code_of}
+use Rattle.sedpass.specs.Table.{PassState, state_of, FlagsShow, StateAt, LeadsOn, BeginsIn, NamesState, IsTable, IsForwardOne, IsForwardAny, SameShape, stops, code_of}
 use Rattle.sedpass.specs.Forwards.{starts_of, LastBelow, IsPassEnd, Arrives, EndsBelow, PassIs}
 use Rattle.sedpass.proofs.RowLemmas.{dead, row_root, row_empty}
 use Rattle.sedpass.proofs.TableLemmas.{names_state, names_offset, names_code, names_small, names_map}
@@ -272,18 +272,18 @@ module _ (p : Prepared) (way : Way) (t : Table) (w : List ℕ) (from : ℕ) (at 
   pub run_passes : (s u : ℕ) → TakesAtLeast s u (2 * (at.place - from) + 1) → IfSome at.end (λ j. LooksPast (expression_tree p.arena.expr) w from s u)
   run_passes s u looks = end_passes p w from way.all_starts s u at.place low at.end seen_end (end_below (nodes_of t.way p.arena.expr) w p.root (starts_of t.way.all_starts from w) at.place at.end pass.last) looks
 
--- a table of passes ahead is one still
-pub ahead_still : (p : Prepared) (a b : Table) → IsAhead p a → IsTable p b → SameShape a b → IsAhead p b
-ahead_still p a b is table shape = record {
+-- a table of passes forwards from one start is one still
+pub forward_one_still : (p : Prepared) (a b : Table) → IsForwardOne p a → IsTable p b → SameShape a b → IsForwardOne p b
+forward_one_still p a b is table shape = record {
   table = table;
   forwards = ap (λ v. v.mirrored) shape.0 ∙ is.forwards;
   single = ap (λ v. v.all_starts) shape.0 ∙ is.single;
   brief = ap (λ v. v.keeps) shape.0 ∙ is.brief;
 }
 
--- and one of sweeps
-pub ahead_any : (p : Prepared) (a b : Table) → IsSweep p a → IsTable p b → SameShape a b → IsSweep p b
-ahead_any p a b is table shape = record {
+-- and so is one in which every place is a start
+pub forward_any_still : (p : Prepared) (a b : Table) → IsForwardAny p a → IsTable p b → SameShape a b → IsForwardAny p b
+forward_any_still p a b is table shape = record {
   table = table;
   forwards = ap (λ v. v.mirrored) shape.0 ∙ is.forwards;
   all_starts = ap (λ v. v.all_starts) shape.0 ∙ is.all_starts;

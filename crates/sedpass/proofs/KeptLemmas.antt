@@ -27,15 +27,15 @@ kept_reaches e w true all_starts true r end q x entered ended arena _ _ there wi
 kept_reaches e w false all_starts keeps r end q x entered ended arena mirror _ there within row = absurd (true≢false (sym mirror))
 kept_reaches e w true all_starts false r end q x entered ended arena _ keep there within row = absurd (true≢false (sym keep))
 
--- and with a row of a pass ahead whether the two meet
+-- and with a row of a pass forwards whether the two meet
 pub kept_meets : (e : WrittenExpression) (w : List ℕ) (mirrored all_starts keeps other : Bool) (r a i end q : ℕ) (front front_ended entered ended : ℕ → Bool) → IsArena e.nodes → IsTrue mirrored → IsTrue keeps → q ≤ length w → end ≤ length w →
     RowOfPlace e.nodes w a (one_start i) other q front front_ended →
     RowOfPlace (seen mirrored e).nodes (reverse w) r (starts_told all_starts (length w) end) keeps (length w - q) entered ended →
     ((c : ℕ) × IsTrue (front c) × IsTrue (ended c)) ↔ MeetsAt e.nodes w r (ends_told all_starts (length w) end) a (one_start i) q
-kept_meets e w true all_starts true other r a i end q front front_ended entered ended arena _ _ there within ahead row =
-    meet_rows e w r a q (length w - q) (one_start i) (starts_told all_starts (length w) end) (ends_told all_starts (length w) end) other front front_ended entered ended arena (told_opposite all_starts (length w) end within) (told_last all_starts (length w) end within) (omega arith) ahead row
-kept_meets e w false all_starts keeps other r a i end q front front_ended entered ended arena mirror _ there within ahead row = absurd (true≢false (sym mirror))
-kept_meets e w true all_starts false other r a i end q front front_ended entered ended arena _ keep there within ahead row = absurd (true≢false (sym keep))
+kept_meets e w true all_starts true other r a i end q front front_ended entered ended arena _ _ there within forward_one row =
+    meet_rows e w r a q (length w - q) (one_start i) (starts_told all_starts (length w) end) (ends_told all_starts (length w) end) other front front_ended entered ended arena (told_opposite all_starts (length w) end within) (told_last all_starts (length w) end within) (omega arith) forward_one row
+kept_meets e w false all_starts keeps other r a i end q front front_ended entered ended arena mirror _ there within forward_one row = absurd (true≢false (sym mirror))
+kept_meets e w true all_starts false other r a i end q front front_ended entered ended arena _ keep there within forward_one row = absurd (true≢false (sym keep))
 
 -- whether a place after the first of the pass is one of its starts
 told_start : (all_starts : Bool) (n end d : ℕ) → n < d + 1 + end → d < n → IsTrue all_starts ↔ IsStart (starts_told all_starts n end) (d + 1)
@@ -476,7 +476,7 @@ keeps_same p w t k other region states edges kept =
       same = same_by k other root end states edges;
     }
 
--- A pass ahead beside the kept one.
+-- A pass forwards beside the kept one.
 
 -- Where they meet.
 
@@ -492,23 +492,23 @@ bits_meet m front behind met tells = (
 )
 
 -- and so whether the passes meet at the place, as its state is read
-pub meet_read : (p : Prepared) (w : List ℕ) (t ahead : Table) (k : Kept) (a i place offset n front_state s : ℕ) (met : Bool) → IsKept p w t k → k.region.from ≤ place → place < k.region.to → Follows p w ahead a i place offset →
-    n ≡ length p.arena.expr.nodes → front_state ≡ offset / 2 ^ ahead.layout.shift → s ≡ slice_index_or k.states.items place s →
-    (IsTrue met ↔ ((c : ℕ) × (c < n) × IsTrue (slice_index_or (row_of ahead.leaves front_state) c false) × IsTrue (slice_index_or (row_of t.ends s) c false))) →
+pub meet_read : (p : Prepared) (w : List ℕ) (t forward_one : Table) (k : Kept) (a i place offset n front_state s : ℕ) (met : Bool) → IsKept p w t k → k.region.from ≤ place → place < k.region.to → Follows p w forward_one a i place offset →
+    n ≡ length p.arena.expr.nodes → front_state ≡ offset / 2 ^ forward_one.layout.shift → s ≡ slice_index_or k.states.items place s →
+    (IsTrue met ↔ ((c : ℕ) × (c < n) × IsTrue (slice_index_or (row_of forward_one.leaves front_state) c false) × IsTrue (slice_index_or (row_of t.ends s) c false))) →
     IsTrue met ↔ MeetsAt p.arena.expr.nodes w k.region.root (ends_told t.way.all_starts (length w) k.region.end) a (one_start i) place
-meet_read p w t ahead k a i place offset n front_state s met kept above before follows count front_is read tells =
+meet_read p w t forward_one k a i place offset n front_state s met kept above before follows count front_is read tells =
     let m = length p.arena.expr.nodes in
     let region : IsRegion p w t k = kept.region in
-    let front = state_of m ahead (offset / 2 ^ ahead.layout.shift) in
+    let front = state_of m forward_one (offset / 2 ^ forward_one.layout.shift) in
     let behind = state_of m t s in
     let live : IsLive p w t k.region.root k.region.end k.states.items place = kept.live place above before in
     let at : KeptAt p w t.way k.region.root k.region.end place behind = subst (λ v. KeptAt p w t.way k.region.root k.region.end place (state_of m t v)) (sym (kept_read p w t k place s kept before read)) live.1 in
     let there : place ≤ length w = (let h = region.within in let g = region.inside in omega (arith, h, g, before)) in
-    let one : IsTrue met ↔ ((c : ℕ) × IsTrue (front.entered c) × IsTrue (behind.ended c)) = bits_meet m (row_of ahead.leaves (offset / 2 ^ ahead.layout.shift)) (row_of t.ends s) met
-    (subst (λ v. IsTrue met ↔ ((c : ℕ) × (c < m) × IsTrue (slice_index_or (row_of ahead.leaves v) c false) × IsTrue (slice_index_or (row_of t.ends s) c false))) front_is
-    (subst (λ v. IsTrue met ↔ ((c : ℕ) × (c < v) × IsTrue (slice_index_or (row_of ahead.leaves front_state) c false) × IsTrue (slice_index_or (row_of t.ends s) c false))) count tells)) in
-    let row : RowOfPlace p.arena.expr.nodes w a (one_start i) ahead.way.keeps place front.entered front.ended = subst (λ r. RowOfPlace p.arena.expr.nodes w r (one_start i) ahead.way.keeps place front.entered front.ended) follows.0 follows.1 in
-    let two = kept_meets p.arena.expr w t.way.mirrored t.way.all_starts t.way.keeps ahead.way.keeps k.region.root a i k.region.end place front.entered front.ended behind.entered behind.ended
+    let one : IsTrue met ↔ ((c : ℕ) × IsTrue (front.entered c) × IsTrue (behind.ended c)) = bits_meet m (row_of forward_one.leaves (offset / 2 ^ forward_one.layout.shift)) (row_of t.ends s) met
+    (subst (λ v. IsTrue met ↔ ((c : ℕ) × (c < m) × IsTrue (slice_index_or (row_of forward_one.leaves v) c false) × IsTrue (slice_index_or (row_of t.ends s) c false))) front_is
+    (subst (λ v. IsTrue met ↔ ((c : ℕ) × (c < v) × IsTrue (slice_index_or (row_of forward_one.leaves front_state) c false) × IsTrue (slice_index_or (row_of t.ends s) c false))) count tells)) in
+    let row : RowOfPlace p.arena.expr.nodes w a (one_start i) forward_one.way.keeps place front.entered front.ended = subst (λ r. RowOfPlace p.arena.expr.nodes w r (one_start i) forward_one.way.keeps place front.entered front.ended) follows.0 follows.1 in
+    let two = kept_meets p.arena.expr w t.way.mirrored t.way.all_starts t.way.keeps forward_one.way.keeps k.region.root a i k.region.end place front.entered front.ended behind.entered behind.ended
     region.table.expr.arena region.room.mirrored region.room.keeps there region.inside row at.1 in
     (λ h. two.0 (one.0 h), λ h. one.1 (two.1 h))
 
@@ -530,7 +530,7 @@ meet_end p w t k a i kept met =
     last_told true n end whole before = let e : end ≡ n = whole refl in omega arith
     last_told false n end whole before = omega arith
 
--- How the pass ahead goes on.
+-- How the pass forwards goes on.
 
 next_row : (e : WrittenExpression) (w : List ℕ) (mirrored all_starts keeps edge : Bool) (a i place byte : ℕ) (entered ended after after_ended : ℕ → Bool) → mirrored ≡ false → all_starts ≡ false → i ≤ place → slice_get w place ≡ Some byte →
     (IsTrue edge ↔ (place + 1 ≡ length w)) → RowLeadsTo (seen mirrored e).nodes a keeps entered ended (Some byte) edge all_starts after after_ended → RowOfPlace e.nodes w a (one_start i) keeps place entered ended →

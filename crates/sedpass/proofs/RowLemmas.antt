@@ -427,10 +427,10 @@ behind_reaches e w r x p d u t entered ended arena opposite inside sum row =
 pub meet_rows : (e : WrittenExpression) (w : List ℕ) (r a p d : ℕ) (s u t : Starts) (keeps : Bool) (front front_ended entered behind : ℕ → Bool) → IsArena e.nodes → Opposite (length w) u t → t.last ≤ length w → p + d ≡ length w →
     RowOfPlace e.nodes w a s keeps p front front_ended → RowOfPlace (seen true e).nodes (reverse w) r u true d entered behind →
     ((c : ℕ) × IsTrue (front c) × IsTrue (behind c)) ↔ MeetsAt e.nodes w r t a s p
-meet_rows e w r a p d s u t keeps front front_ended entered behind arena opposite inside sum ahead back = (
-  λ h. let leaf = (ahead.leaves h.0).0 h.1 in
-      (h.0, leaf.0, leaf.1, leaf.2, (behind_reaches e w r h.0 p d u t entered behind arena opposite inside sum back).0 h.2),
-  λ h. (h.0, (ahead.leaves h.0).1 (h.1, h.2, h.3), (behind_reaches e w r h.0 p d u t entered behind arena opposite inside sum back).1 h.4),
+meet_rows e w r a p d s u t keeps front front_ended entered behind arena opposite inside sum forward_one reverse_any = (
+  λ h. let leaf = (forward_one.leaves h.0).0 h.1 in
+      (h.0, leaf.0, leaf.1, leaf.2, (behind_reaches e w r h.0 p d u t entered behind arena opposite inside sum reverse_any).0 h.2),
+  λ h. (h.0, (forward_one.leaves h.0).1 (h.1, h.2, h.3), (behind_reaches e w r h.0 p d u t entered behind arena opposite inside sum reverse_any).1 h.4),
 )
 
 -- The bits of a row.

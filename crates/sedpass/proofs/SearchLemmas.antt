@@ -2,7 +2,7 @@
 use Rattle.std.proofs.Common.{inl, inr, ◌≡◌, ℕ, zero, suc, ◌+◌, ◌-◌, ◌*◌, ◌/◌, ◌<◌, ◌≤◌, ◌↔◌, Bool, true, false, max, List, length, Option, Some, None, IsTrue, refl, sym, ap, ◌∙◌, subst, ⊎_elim, true≢false, arith, mul-le-mul_left, IfSome, if◌then◌else◌}
 use Rattle.sedpass.proofs.Words.{cases_lt, IsArena, WrittenExpression, expression_tree, Tree, TakesAtLeast, SpanAnswer, Starts, At, one_start, IsLongestFrom, starts_to, AllBegin, NextStart, NoneIn, Table, Matches, IsLeftmostLongest, NotFound, SomeFound, Matches-forward, Matches-within, Region, Seeking, Prepared, least_less, least_none, least_both, least_since, Kept, Work, Way}
 use Rattle.sedtext.specs.declared.beginnings.Begins.{Begins}
-use Rattle.sedpass.specs.Table.{IsTable, SameShape, PassState, state_of, LeadsOn, NamesState, cell_of, MayBegin, IsColumn, IsAhead}
+use Rattle.sedpass.specs.Table.{IsTable, SameShape, PassState, state_of, LeadsOn, NamesState, cell_of, MayBegin, IsColumn, IsForwardOne}
 use Rattle.sedpass.specs.Kept.{AllMarked, SameSpace, ends_told, IsKept, IsRegion}
 use Rattle.sedpass.specs.Regions.{CeasesAt, all_of, ReachesEnd}
 use Rattle.sedpass.specs.Search.{LooksFrom, TrialsMade, owed_after_search, owed_kept, owed_seeking, search_cost, SearchServes, MaySearch, Searched}
@@ -353,12 +353,12 @@ comes_tired p w a a' old mid from place before after shape space is is' few made
       counts = made.counts;
     }
 
--- a search by trials leaves all as it was but for the table ahead
-pub searched_by : (p : Prepared) (w : List ℕ) (first : Begins) (a a' b : Table) (s : Seeking) (work : Work) (tried : ℕ) → MaySearch p w first a b s → IsAhead p a' → SameShape a a' →
+-- a search by trials leaves all as it was but for the table of passes forwards
+pub searched_by : (p : Prepared) (w : List ℕ) (first : Begins) (a a' b : Table) (s : Seeking) (work : Work) (tried : ℕ) → MaySearch p w first a b s → IsForwardOne p a' → SameShape a a' →
     Searched p w a a' b b s (record s { kept = record s.kept { work = work }; tried = tried })
-searched_by p w first a a' b s work tried ready ahead shape =
+searched_by p w first a a' b s work tried ready forward_one shape =
     record {
-      tables = record { ahead = ahead; ahead_shape = shape; back_shape = (refl, refl, refl, refl, refl); space = record { places = refl; edges = refl; marks = λ q. refl } };
+      tables = record { forward_one = forward_one; forward_one_shape = shape; reverse_any_shape = (refl, refl, refl, refl, refl); space = record { places = refl; edges = refl; marks = λ q. refl } };
       serves = record {
         table = ready.serves.table;
         room = (let room = ready.serves.room in record { mirrored = room.mirrored; keeps = room.keeps; places = room.places; blocks = room.blocks; marks = room.marks });
@@ -369,14 +369,14 @@ searched_by p w first a a' b s work tried ready ahead shape =
 
 -- another one may follow
 pub may_search : (p : Prepared) (w : List ℕ) (first : Begins) (a a' b b' : Table) (s s' : Seeking) → MaySearch p w first a b s → Searched p w a a' b b' s s' → MaySearch p w first a' b' s'
-may_search p w first a a' b b' s s' ready searched = record { begins = ready.begins; ahead = searched.tables.ahead; serves = searched.serves }
+may_search p w first a a' b b' s s' ready searched = record { begins = ready.begins; forward_one = searched.tables.forward_one; serves = searched.serves }
 
 pub searched_then : (p : Prepared) (w : List ℕ) (a1 a2 a3 b1 b2 b3 : Table) (s1 s2 s3 : Seeking) → Searched p w a1 a2 b1 b2 s1 s2 → Searched p w a2 a3 b2 b3 s2 s3 → Searched p w a1 a3 b1 b3 s1 s3
 searched_then p w a1 a2 a3 b1 b2 b3 s1 s2 s3 one two = record {
   tables = record {
-    ahead = two.tables.ahead;
-    ahead_shape = same_shape a1 a2 a3 one.tables.ahead_shape two.tables.ahead_shape;
-    back_shape = same_shape b1 b2 b3 one.tables.back_shape two.tables.back_shape;
+    forward_one = two.tables.forward_one;
+    forward_one_shape = same_shape a1 a2 a3 one.tables.forward_one_shape two.tables.forward_one_shape;
+    reverse_any_shape = same_shape b1 b2 b3 one.tables.reverse_any_shape two.tables.reverse_any_shape;
     space = space_then s1.kept s2.kept s3.kept one.tables.space two.tables.space;
   };
   serves = two.serves;
@@ -452,10 +452,10 @@ module _ (p q : Prepared) (same : p.arena.expr ≡ q.arena.expr) where
     edges = λ b after before. rw (← same) (kept.edges b after before);
   }
 
-  pub serves_for : (w : List ℕ) (back : Table) (s : Seeking) → SearchServes p w back s → SearchServes q w back s
-  serves_for w back s serves = record {
-    table = table_for back serves.table;
+  pub serves_for : (w : List ℕ) (reverse_any : Table) (s : Seeking) → SearchServes p w reverse_any s → SearchServes q w reverse_any s
+  serves_for w reverse_any s serves = record {
+    table = table_for reverse_any serves.table;
     room = rw (← same) serves.room;
     all_starts = serves.all_starts;
-    kept = λ begun. kept_for w back s.kept (serves.kept begun);
+    kept = λ begun. kept_for w reverse_any s.kept (serves.kept begun);
   }

@@ -1,9 +1,9 @@
 -- Tables of states.
-use Rattle.std.proofs.Common.{Result, Ok, Err, IfOk, ◌≡◌, ◌≢◌, ℕ, zero, suc, ◌+◌, ◌*◌, ◌/◌, ◌%◌, ◌^◌, ◌<◌, ◌≤◌, ◌↔◌, Bool, true, false, List, length, length-set, Option, Some, None, IsTrue, refl, sym, ap, ◌∙◌, subst, ⊎_elim, arith, mul-le-mul_left, slice_index_or, slice_set, replicate}
+use Rattle.std.proofs.Common.{Result, Ok, Err, IfOk, ◌≡◌, ◌≢◌, ℕ, zero, suc, ◌+◌, ◌*◌, ◌/◌, ◌%◌, ◌^◌, ◌<◌, ◌≤◌, ◌↔◌, Bool, true, false, List, length, length-set, Option, Some, None, IsTrue, refl, sym, ap, ◌∙◌, subst, ⊎_elim, arith, mul-le-mul_left, slice_index_or, slice_set, replicate, vec_capacity}
 use Rattle.sedpass.proofs.Words.{same_from_place, shl-shr, shl_whole, shl_below, from_bool, with_item, pow-le-pow_right, cases_eq, get_or-set_same, get_or-set_other, get_or_default, IsExpr, WrittenExpression, mirror_node, seen, old_node, Node, Set, AgreeBelow, row_of, StateFlags, PlaceKind, Prepared, Way, Work, Beginning, Table}
 use Rattle.sedpass.specs.Prepared.{SameNulls}
 use Rattle.sedpass.specs.Rows.{nodes_of, at_begin, at_edge, bits, SameBytes, RowLeadsTo, IsFirstRow}
-use Rattle.sedpass.specs.Table.{PassState, state_of, FlagsShow, HasRow, HasMarks, LeadsOn, BeginsIn, NamesState, IsNext, IsOffset, cell_of, LeadsBy, kind_number, beginning_at, beginning_of, MayBegin, HasRoom, IsRoomy, IsTable, SameRoom, SameShape, AddsStates, Codes, stops, code_of, ColumnAt, EdgeApart, EdgeFits, IsLayout, IsColumn}
+use Rattle.sedpass.specs.Table.{PassState, state_of, FlagsShow, HasRow, HasMarks, LeadsOn, BeginsIn, NamesState, IsNext, IsOffset, cell_of, LeadsBy, kind_number, beginning_at, beginning_of, MayBegin, HasRoom, HasRows, IsRoomy, IsTable, SameRoom, SameShape, AddsStates, Codes, stops, code_of, ColumnAt, EdgeApart, EdgeFits, IsLayout, IsColumn}
 use Rattle.sedpass.specs.declared.cells.Layout.{Layout}
 use Rattle.sedpass.proofs.LeaveLemmas.{twice}
 use Rattle.sedpass.proofs.RowLemmas.{bits_agree, bits_clear, bits_here, class_row}
@@ -442,18 +442,18 @@ module _ (p : Prepared) (t : Table) (table : IsTable p t) (P : PassState → Typ
   offset_is : o ≡ n.to * 2 ^ t.layout.shift
   offset_is = tells (stops t.way (state_of (length p.arena.expr.nodes) t n.to).flags) (n.to * 2 ^ t.layout.shift) small_offset n.code
 
-  back : o / 2 ^ t.layout.shift ≡ n.to
-  back = ap (λ x. x / 2 ^ t.layout.shift) offset_is ∙ shl-shr n.to t.layout.shift
+  reverse_any : o / 2 ^ t.layout.shift ≡ n.to
+  reverse_any = ap (λ x. x / 2 ^ t.layout.shift) offset_is ∙ shl-shr n.to t.layout.shift
 
   pub names_offset : IsOffset t o
-  names_offset = (subst (λ x. x < t.count) (sym back) n.there, offset_is ∙ ap (λ x. x * 2 ^ t.layout.shift) (sym back))
+  names_offset = (subst (λ x. x < t.count) (sym reverse_any) n.there, offset_is ∙ ap (λ x. x * 2 ^ t.layout.shift) (sym reverse_any))
 
   pub names_state : P (state_of (length p.arena.expr.nodes) t (o / 2 ^ t.layout.shift))
-  names_state = subst (λ x. P (state_of (length p.arena.expr.nodes) t x)) (sym back) n.is
+  names_state = subst (λ x. P (state_of (length p.arena.expr.nodes) t x)) (sym reverse_any) n.is
 
   pub names_code : v ≡ code_of (stops t.way (state_of (length p.arena.expr.nodes) t (o / 2 ^ t.layout.shift)).flags) o
   names_code = n.code
-      ∙ ap (λ x. code_of (stops t.way (state_of (length p.arena.expr.nodes) t x).flags) (n.to * 2 ^ t.layout.shift)) (sym back)
+      ∙ ap (λ x. code_of (stops t.way (state_of (length p.arena.expr.nodes) t x).flags) (n.to * 2 ^ t.layout.shift)) (sym reverse_any)
       ∙ ap (λ x. code_of (stops t.way (state_of (length p.arena.expr.nodes) t (o / 2 ^ t.layout.shift)).flags) x) (sym offset_is)
 
   pub names_small : o < 2147483647
@@ -493,6 +493,23 @@ none_noted items n is i =
 pub made_so : {E : Type 0} → (P Q : Table → Type 0) (r : Result Table E) → ((t : Table) → P t → Q t) → IfOk r P → IfOk r Q
 made_so P Q (Ok t) so made = so t made
 made_so P Q (Err e) so made = tt
+
+-- an empty table that has all its parts, with so many beginnings, has all its room
+pub has_parts : (t : Table) (kinds : ℕ) → t.count ≡ 0 → HasRows t.room t.marks t.leaves t.ends t.roots.items t.flags.items → t.reserved ≡ t.room * 2 ^ t.layout.shift → t.reserved ≤ vec_capacity t.cells →
+    2 ≤ length t.index.items → length t.beginnings.items ≡ kinds → ((root : ℕ) (kind : PlaceKind) → root < t.marks → beginning_at t.way.all_starts root kind < kinds) → ((i : ℕ) → (beginning_of t i).epoch ≡ 0) →
+    HasRoom t.marks t
+has_parts t kinds none rows reserved capacity index long begins noted = record {
+  count = omega (arith, none);
+  marks = omega arith;
+  rows = rows;
+  cells = rw none (omega arith);
+  reserved = omega (arith, reserved);
+  capacity = capacity;
+  index = index;
+  begins = λ root kind low. let below = begins root kind low in omega (arith, long, below);
+  past = λ i. let zero = noted i in omega (arith, zero);
+  early = λ i. let zero = noted i in omega (arith, zero);
+}
 
 -- Room for other expressions.
 

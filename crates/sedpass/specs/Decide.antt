@@ -16,7 +16,7 @@ use Rattle.sedtext.specs.Words.{row_of}
 use Rattle.sedpass.specs.Prepared.{holds, length_of}
 use Rattle.sedpass.specs.Kept.{IsKept, KeptRoom, SameSpace}
 use Rattle.sedpass.specs.Regions.{IsLastIn}
-use Rattle.sedpass.specs.Table.{IsAhead, IsRoomy, IsTable, SameRoom, SameShape}
+use Rattle.sedpass.specs.Table.{IsForwardOne, IsRoomy, IsTable, SameRoom, SameShape}
 use Rattle.sedpass.specs.Walks.{GroupState, is_due, drop_groups, GroupStandsIn, NoneDue, Walk}
 use Rattle.sedpass.specs.declared.group_set.GroupSet.{GroupSet}
 use Rattle.sedpass.specs.declared.groups.GroupRoom.{GroupRoom}
@@ -155,18 +155,18 @@ entered_at node = min 1 (length (parts_of node))
 abbrev pub EndsRegion : Subject → Region → Matched → Type 0
 EndsRegion s r here = IsLastIn (nodes_in s) r.root here.node × (here.stop ≡ r.end)
 
--- both tables serve the expression: the kept one for passes back from one end, the other for passes forwards from one start
+-- both tables serve the expression: the kept one for passes backwards from one end, the other for passes forwards from one start
 pub record HasDesk (s : Subject) (tables : GroupTables) (kept : Kept) : Type 0 where
-  pub inside : IsTable s.prepared.now tables.inside
-  pub places : KeptRoom (length s.prepared.now.arena.expr.nodes) (length s.text.now) tables.inside kept
-  pub one_end : tables.inside.way.all_starts ≡ false
-  pub ahead : IsAhead s.prepared.now tables.ahead
+  pub reverse_one : IsTable s.prepared.now tables.reverse_one
+  pub places : KeptRoom (length s.prepared.now.arena.expr.nodes) (length s.text.now) tables.reverse_one kept
+  pub one_end : tables.reverse_one.way.all_starts ≡ false
+  pub forward_one : IsForwardOne s.prepared.now tables.forward_one
 
 -- and the region is kept
 pub record IsGroupDesk (s : Subject) (tables : GroupTables) (kept : Kept) : Type 0 where
-  pub region : IsKept s.prepared.now s.text.now tables.inside kept
-  pub one_end : tables.inside.way.all_starts ≡ false
-  pub ahead : IsAhead s.prepared.now tables.ahead
+  pub region : IsKept s.prepared.now s.text.now tables.reverse_one kept
+  pub one_end : tables.reverse_one.way.all_starts ≡ false
+  pub forward_one : IsForwardOne s.prepared.now tables.forward_one
 
 -- the match of the node is there, and ends where the region does that is kept
 pub record IsAtEnd (s : Subject) (tables : GroupTables) (kept : Kept) (here : Matched) (node : Node) : Type 0 where
@@ -176,20 +176,20 @@ pub record IsAtEnd (s : Subject) (tables : GroupTables) (kept : Kept) (here : Ma
 
 -- the way of each of the tables
 pub record HaveWays (t : GroupTables) : Type 0 where
-  pub inside : t.inside.way ≡ record { mirrored = true; all_starts = false; keeps = true }
-  pub ahead : t.ahead.way ≡ record { mirrored = false; all_starts = false; keeps = false }
+  pub reverse_one : t.reverse_one.way ≡ record { mirrored = true; all_starts = false; keeps = true }
+  pub forward_one : t.forward_one.way ≡ record { mirrored = false; all_starts = false; keeps = false }
 
 -- the tables serve the expression
 pub record AreGroupTables (p : Prepared) (t : GroupTables) : Type 0 where
   pub ways : HaveWays t
-  pub inside : IsTable p t.inside
-  pub ahead : IsTable p t.ahead
+  pub reverse_one : IsTable p t.reverse_one
+  pub forward_one : IsTable p t.forward_one
 
 -- they have all their room for expressions of at most m nodes
 pub record AreRoomy (m : ℕ) (t : GroupTables) : Type 0 where
   pub ways : HaveWays t
-  pub inside : IsRoomy m t.inside
-  pub ahead : IsRoomy m t.ahead
+  pub reverse_one : IsRoomy m t.reverse_one
+  pub forward_one : IsRoomy m t.forward_one
 
 -- there is room for texts of so many bytes, cut into so many blocks, and for expressions of so many nodes, and no task waits
 pub record HasSpace (text blocks nodes : ℕ) (r : GroupRoom) : Type 0 where
@@ -201,13 +201,13 @@ pub record HasSpace (text blocks nodes : ℕ) (r : GroupRoom) : Type 0 where
 
 -- each of the tables has the room that it had, whatever it serves
 pub record SameRooms (old new : GroupTables) : Type 0 where
-  pub inside : SameRoom old.inside new.inside
-  pub ahead : SameRoom old.ahead new.ahead
+  pub reverse_one : SameRoom old.reverse_one new.reverse_one
+  pub forward_one : SameRoom old.forward_one new.forward_one
 
 -- each of the tables has the room that it had
 pub record SameTables (old new : GroupTables) : Type 0 where
-  pub inside : SameShape old.inside new.inside
-  pub ahead : SameShape old.ahead new.ahead
+  pub reverse_one : SameShape old.reverse_one new.reverse_one
+  pub forward_one : SameShape old.forward_one new.forward_one
 
 -- a region is kept again, in the same room
 pub record KeepsGroupDesk (s : Subject) (old new : GroupTables) (before after : Kept) : Type 0 where
@@ -260,7 +260,7 @@ waiting (Some here) stack = Apart here ∷ reverse stack
 abbrev pub IsSetAt : List Node → ℕ → Type 0
 IsSetAt nodes x = (members : List Bool) × (slice_get nodes x ≡ Some (Set members))
 
--- the steps to go on from a node to a part of it, in a match of so many bytes: looks into one region, and passes ahead over the parts
+-- the steps to go on from a node to a part of it, in a match of so many bytes: looks into one region, and passes forwards over the parts
 abbrev pub part_cost : ℕ → ℕ → ℕ
 part_cost m long = 172 * m * long
 

@@ -11,7 +11,7 @@ use Rattle.sedpass.specs.declared.rows.Way.{Way}
 use Rattle.sedpass.specs.declared.table.Table.{Table}
 use Rattle.sedpass.specs.declared.forwards.Passed.{Passed}
 
--- the starts of a pass from a place: this place, or in a sweep each from it on
+-- the starts of a pass from a place: this place, or with all starts each from it on
 abbrev pub starts_of : Bool → ℕ → List ℕ → Starts
 starts_of all_starts from w = record { first = from; last = cond all_starts (length w) from }
 
@@ -20,7 +20,7 @@ abbrev pub LastBelow : List Node → List ℕ → ℕ → Starts → ℕ → Opt
 LastBelow nodes w r s n None = (k : ℕ) → k < n → SomeSpan nodes w r s k → ⊥
 LastBelow nodes w r s n (Some j) = (j < n) × SomeSpan nodes w r s j × ((k : ℕ) → k < n → SomeSpan nodes w r s k → k ≤ j)
 
--- the last place of all, or in a sweep some place
+-- the last place of all, or with all starts some place
 abbrev pub IsPassEnd : Bool → List Node → List ℕ → ℕ → Starts → Option ℕ → Type 0
 IsPassEnd all_starts nodes w r s None = (k : ℕ) → SomeSpan nodes w r s k → ⊥
 IsPassEnd all_starts nodes w r s (Some j) = SomeSpan nodes w r s j × (all_starts ≡ false → (k : ℕ) → SomeSpan nodes w r s k → k ≤ j)

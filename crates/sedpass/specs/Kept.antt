@@ -16,7 +16,7 @@ use Rattle.sedpass.specs.declared.kept.Kept.{Kept}
 
 -- What it shows.
 
--- the places where matches end that a kept pass shows: in a sweep all up to the end n of the text, else the region's end alone
+-- the places where matches end that a kept pass shows: with all starts all up to the end n of the text, else the region's end alone
 abbrev pub ends_told : Bool → ℕ → ℕ → Starts
 ends_told true n end = starts_to 0 n
 ends_told false n end = one_start end
@@ -123,7 +123,7 @@ pub record KeepsRegion (p : Prepared) (w : List ℕ) (t t' : Table) (k k' : Kept
   pub shape : SameShape t t'
   pub same : SameKept k k'
 
--- What a pass ahead over a node a from the place i is beside it: in the state whose cells begin at the offset.
+-- What a pass forwards over a node a from the place i is beside it: in the state whose cells begin at the offset.
 abbrev pub Follows : Prepared → List ℕ → Table → ℕ → ℕ → ℕ → ℕ → Type 0
 Follows p w t a i place offset =
     let q = state_of (length p.arena.expr.nodes) t (offset / 2 ^ t.layout.shift) in

@@ -8,7 +8,7 @@ use Rattle.sedtext.specs.Costs.{CostsWithin}
 use Rattle.sedtext.specs.Beginnings.{AllBegin, NoneIn}
 use Rattle.sedtext.specs.Spans.{IsLeftmostLongest, NotFound}
 use Rattle.sedtext.specs.declared.beginnings.Begins.{Begins}
-use Rattle.sedpass.specs.Table.{IsAhead, IsTable, SameShape}
+use Rattle.sedpass.specs.Table.{IsForwardOne, IsTable, SameShape}
 use Rattle.sedpass.specs.Kept.{IsKept, KeptRoom, SameSpace, owed_region}
 use Rattle.sedpass.specs.declared.nodes.Prepared.{Prepared}
 use Rattle.sedpass.specs.declared.table.Table.{Table}
@@ -19,24 +19,24 @@ use Rattle.sedpass.specs.declared.search.Trials.{Trials}
 use Rattle.sedpass.specs.declared.search.Trials.TheVariants.{Hit, Nothing, Tired}
 
 -- there is room for a pass from the text's end, and what is kept of it is right if it was begun
-pub record SearchServes (p : Prepared) (w : List ℕ) (back : Table) (s : Seeking) : Type 0 where
-  pub table : IsTable p back
-  pub room : KeptRoom (length p.arena.expr.nodes) (length w) back s.kept
-  pub all_starts : IsTrue back.way.all_starts
-  pub kept : IsTrue s.begun → IsKept p w back s.kept
+pub record SearchServes (p : Prepared) (w : List ℕ) (reverse_any : Table) (s : Seeking) : Type 0 where
+  pub table : IsTable p reverse_any
+  pub room : KeptRoom (length p.arena.expr.nodes) (length w) reverse_any s.kept
+  pub all_starts : IsTrue reverse_any.way.all_starts
+  pub kept : IsTrue s.begun → IsKept p w reverse_any s.kept
 
--- a search may be made: it is right where matches can begin, the table ahead is right, and what is kept serves
+-- a search may be made: it is right where matches can begin, the table of passes forwards is right, and what is kept serves
 pub record MaySearch (p : Prepared) (w : List ℕ) (first : Begins) (a b : Table) (s : Seeking) : Type 0 where
   pub begins : AllBegin (expression_tree p.arena.expr) first
-  pub ahead : IsAhead p a
+  pub forward_one : IsForwardOne p a
   pub serves : SearchServes p w b s
 
--- from a and b, ahead and back, the tables came to be a' and b', of the same shapes, the one ahead is right, and there is as much room
--- for what is kept
+-- from a and b, forward_one and reverse_any, the tables came to be a' and b', of the same shapes, the first is right, and there is as
+-- much room for what is kept
 pub record TablesStay (p : Prepared) (a a' b b' : Table) (k k' : Kept) : Type 0 where
-  pub ahead : IsAhead p a'
-  pub ahead_shape : SameShape a a'
-  pub back_shape : SameShape b b'
+  pub forward_one : IsForwardOne p a'
+  pub forward_one_shape : SameShape a a'
+  pub reverse_any_shape : SameShape b b'
   pub space : SameSpace k k'
 
 -- a search was made, which leaves all as the next one in the text needs it
@@ -61,8 +61,8 @@ LooksInTrials from before after (Tired k) = TakesAtLeast before after (k - from)
 LooksInTrials from before after Nothing = Unit {0}
 
 -- what is kept is right, and the answer is the match from the place on, up to whose end each byte was looked at
-pub record IsNextMatch (p : Prepared) (w : List ℕ) (from : ℕ) (back : Table) (k : Kept) (before after : ℕ) (r : Option (ℕ × ℕ)) : Type 0 where
-  pub kept : IsKept p w back k
+pub record IsNextMatch (p : Prepared) (w : List ℕ) (from : ℕ) (reverse_any : Table) (k : Kept) (before after : ℕ) (r : Option (ℕ × ℕ)) : Type 0 where
+  pub kept : IsKept p w reverse_any k
   pub answer : SpanAnswer (expression_tree p.arena.expr) w from r
   pub counts : LooksFrom from before after r
 

@@ -135,7 +135,7 @@ LeadsBy p t q k b = (byte : ℕ) (edge : Bool) → byte < 256 → IsColumn t.lay
 abbrev pub kind_number : Bool → Bool → ℕ
 kind_number begin end = from_bool begin + 2 * from_bool end
 
--- where a beginning is noted; in a sweep it is always one of the whole expression
+-- where a beginning is noted; with all starts it is always one of the whole expression
 abbrev pub beginning_at : Bool → ℕ → PlaceKind → ℕ
 beginning_at true root kind = kind_number kind.begin kind.end
 beginning_at false root kind = 4 * root + kind_number kind.begin kind.end
@@ -143,7 +143,7 @@ beginning_at false root kind = 4 * root + kind_number kind.begin kind.end
 abbrev pub beginning_of : Table → ℕ → Beginning
 beginning_of t i = slice_index_or t.beginnings.items i (record { epoch = 0; code = 0 })
 
--- passes for the node may begin: for any, but in a sweep for the root of the expression alone
+-- passes for the node may begin: for any, but with all starts for the root of the expression alone
 abbrev pub MayBegin : Prepared → Way → ℕ → Type 0
 MayBegin p way root = (root < length p.arena.expr.nodes) × (IsTrue way.all_starts → root ≡ p.root)
 
@@ -205,14 +205,14 @@ abbrev pub SameShape : Table → Table → Type 0
 SameShape old new = (new.way ≡ old.way) × (new.room ≡ old.room) × (new.layout ≡ old.layout) × (new.marks ≡ old.marks) × (new.reserved ≡ old.reserved)
 
 -- a table of passes forwards, each from one start, which keeps the ends of the root alone
-pub record IsAhead (p : Prepared) (t : Table) : Type 0 where
+pub record IsForwardOne (p : Prepared) (t : Table) : Type 0 where
   pub table : IsTable p t
   pub forwards : t.way.mirrored ≡ false
   pub single : t.way.all_starts ≡ false
   pub brief : t.way.keeps ≡ false
 
 -- one in which every place is a start
-pub record IsSweep (p : Prepared) (t : Table) : Type 0 where
+pub record IsForwardAny (p : Prepared) (t : Table) : Type 0 where
   pub table : IsTable p t
   pub forwards : t.way.mirrored ≡ false
   pub all_starts : IsTrue t.way.all_starts

@@ -139,7 +139,7 @@ impl Table {
         self.arrive(prepared, text, code, at.place + 1, at.end)
     }
 
-    /// Passes from a place until no match that began there can end later; in a sweep, over all places from there on, until
+    /// Passes from a place until no match that began there can end later; with all starts, over all places from there on, until
     /// some match ends. `end` of the result is the longest match, or says whether there is one, wherever the pass stopped.
     pub fn run(
         &mut self,

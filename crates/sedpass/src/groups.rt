@@ -65,9 +65,9 @@ pub enum Then {
 #[derive(Drop)]
 pub struct GroupTables {
     /// Forwards from one start.
-    pub ahead: Table,
+    pub forward_one: Table,
     /// Backwards from a region's end, the states of its places kept.
-    pub inside: Table,
+    pub reverse_one: Table,
 }
 
 /// What is known of the groups so far.
@@ -88,15 +88,15 @@ pub struct GroupRoom {
     pub tasks: Vec<GroupTask>,
 }
 
-/// The way of passes ahead, each from one start.
-const AHEAD: Way = Way {
+/// The way of passes forwards, each from one start.
+const FORWARD_ONE: Way = Way {
     mirrored: false,
     all_starts: false,
     keeps: false,
 };
 
-/// The way of passes back from a region's end.
-const INSIDE: Way = Way {
+/// The way of passes backwards from a region's end.
+const REVERSE_ONE: Way = Way {
     mirrored: true,
     all_starts: false,
     keeps: true,
@@ -108,11 +108,14 @@ impl GroupTables {
         requires some { 2 ≤ room }
         requires few { room ≤ 65535 }
         ensures tables { IfOk result (λ t. AreGroupTables prepared.now t) }
-        ensures room { IfOk result (λ t. (t.inside.room ≡ room) × (t.ahead.room ≡ room)) }
+        ensures room { IfOk result (λ t. (t.reverse_one.room ≡ room) × (t.forward_one.room ≡ room)) }
     {
-        let ahead = Table::new(alloc, prepared, AHEAD, room)?;
-        let inside = Table::new(alloc, prepared, INSIDE, room)?;
-        Ok(GroupTables { ahead, inside })
+        let forward_one = Table::new(alloc, prepared, FORWARD_ONE, room)?;
+        let reverse_one = Table::new(alloc, prepared, REVERSE_ONE, room)?;
+        Ok(GroupTables {
+            forward_one,
+            reverse_one,
+        })
     }
 
     /// Empty tables with room for so many states each of any expression of at most so many nodes, which serve none yet. Fails
@@ -123,11 +126,14 @@ impl GroupTables {
         requires nodes { 1 ≤ nodes }
         requires short { nodes ≤ 65536 }
         ensures tables { IfOk result (λ t. AreRoomy nodes t) }
-        ensures room { IfOk result (λ t. (t.inside.room ≡ room) × (t.ahead.room ≡ room)) }
+        ensures room { IfOk result (λ t. (t.reverse_one.room ≡ room) × (t.forward_one.room ≡ room)) }
     {
-        let ahead = Table::with_room(alloc, AHEAD, room, nodes)?;
-        let inside = Table::with_room(alloc, INSIDE, room, nodes)?;
-        Ok(GroupTables { ahead, inside })
+        let forward_one = Table::with_room(alloc, FORWARD_ONE, room, nodes)?;
+        let reverse_one = Table::with_room(alloc, REVERSE_ONE, room, nodes)?;
+        Ok(GroupTables {
+            forward_one,
+            reverse_one,
+        })
     }
 
     /// Begins to serve an expression, and forgets what was of another one.
@@ -136,8 +142,8 @@ impl GroupTables {
         ensures tables { AreGroupTables prepared.now self.new }
         ensures room { SameRooms self.old self.new }
     {
-        self.ahead.fit(prepared);
-        self.inside.fit(prepared);
+        self.forward_one.fit(prepared);
+        self.reverse_one.fit(prepared);
     }
 }
 
@@ -238,8 +244,8 @@ fn last_copy(
     let mut end = here.start;
     'copies: while end < here.stop {
         copy = end;
-        let (inside, ahead) = (&mut tables.inside, &mut tables.ahead);
-        end = kept.cut(subject, inside, ahead, part, copy, steps);
+        let (reverse_one, forward_one) = (&mut tables.reverse_one, &mut tables.forward_one);
+        end = kept.cut(subject, reverse_one, forward_one, part, copy, steps);
     }
     Some(copy)
 }
@@ -284,11 +290,11 @@ fn last_cut(
         return cut;
     }
     let left = a.index();
-    let (inside, ahead) = (&mut tables.inside, &mut tables.ahead);
+    let (reverse_one, forward_one) = (&mut tables.reverse_one, &mut tables.forward_one);
     if let Some(leaf) = facts_at(subject.prepared, left).run {
-        return kept.seek(subject, inside, leaf, here.start, false, steps);
+        return kept.seek(subject, reverse_one, leaf, here.start, false, steps);
     }
-    kept.cut(subject, inside, ahead, left, here.start, steps)
+    kept.cut(subject, reverse_one, forward_one, left, here.start, steps)
 }
 
 /// What comes in place of a concatenation: its right part, and then the left one.
@@ -334,7 +340,7 @@ fn turn_alt(
     ensures desk { KeepsGroupDesk subject.entry tables.old tables.new kept.old kept.new }
 {
     let left = a.index();
-    let spans = kept.spans(subject, &mut tables.inside, left, here.start, steps);
+    let spans = kept.spans(subject, &mut tables.reverse_one, left, here.start, steps);
     let node = if spans { left } else { b.index() };
     Then::One(Matched { node, ..here })
 }
@@ -357,7 +363,7 @@ fn turn_star(
         None => Then::Done,
         Some(start) => {
             let (node, stop) = (a.index(), here.stop);
-            kept.begin(subject, &tables.inside, node, stop);
+            kept.begin(subject, &tables.reverse_one, node, stop);
             Then::Two(Matched { node, start, stop }, GroupTask::Forget(node))
         }
     }
@@ -465,7 +471,7 @@ fn spine(
     ensures works { Works subject.entry (Apart here ∷ reverse room.old.tasks.items) told.old (reverse room.new.tasks.items) told.new 1 steps.old steps.new }
 {
     room.kept
-        .begin(subject, &tables.inside, here.node, here.stop);
+        .begin(subject, &tables.reverse_one, here.node, here.stop);
     let mut at = Some(here);
     'nodes: while let Some(next) = at {
         let then = turn(subject, tables, &mut room.kept, told, next, steps);

@@ -44,7 +44,7 @@ impl<'a> Subject<'a> {
 }
 
 /// The places from which a node is matched up to an end, and of which of them the states are known.
-#[derive(Clone, Copy, Default)]
+#[derive(Clone, Copy)]
 pub struct Region {
     /// The node.
     pub root: usize,
@@ -100,7 +100,13 @@ impl Kept {
         ensures marks { IfOk result (λ k. (q : ℕ) → q < length k.edges → length (row_of k.edges q) ≡ nodes) }
     {
         Ok(Kept {
-            region: Region::default(),
+            region: Region {
+                root: 0,
+                end: 0,
+                low: 0,
+                from: 0,
+                to: 0,
+            },
             states: Vec::with_capacity(alloc, max_text + 1)?,
             edges: Rows::new(alloc, 2 * blocks, nodes)?,
             work: Work::new(alloc)?,
@@ -414,19 +420,19 @@ impl Kept {
         &mut self,
         subject: Subject,
         table: &mut Table,
-        ahead: &mut Table,
+        forward_one: &mut Table,
         a: usize,
         from: usize,
         steps: &mut Steps,
     ) -> usize
         requires kept { IsKept subject.prepared.now subject.text.now table.old self.old }
-        requires ahead { IsTable subject.prepared.now ahead.old }
-        requires forwards { (ahead.old.way.mirrored ≡ false) × (ahead.old.way.all_starts ≡ false) }
+        requires forward_one { IsTable subject.prepared.now forward_one.old }
+        requires forwards { (forward_one.old.way.mirrored ≡ false) × (forward_one.old.way.all_starts ≡ false) }
         requires a { a ≤ self.old.region.root }
         requires from { from ≤ self.old.region.end }
         ensures keeps { KeepsRegion subject.entry.prepared.now subject.entry.text.now table.old table.new self.old self.new }
-        ensures ahead { IsTable subject.entry.prepared.now ahead.new }
-        ensures shape { SameShape ahead.old ahead.new }
+        ensures forward_one { IsTable subject.entry.prepared.now forward_one.new }
+        ensures shape { SameShape forward_one.old forward_one.new }
         ensures within { result ≤ self.old.region.end }
         ensures ceases { CeasesAt subject.entry.prepared.now.arena.expr.nodes subject.entry.text.now self.old.region.root
             (ends_told table.old.way.all_starts (length subject.entry.text.now) self.old.region.end) a from result }
@@ -435,12 +441,12 @@ impl Kept {
         ensures counts { TakesAtLeast steps.old steps.new (2 * (result - from) + 1) }
     {
         let kind = kind_of(from, subject.text.len());
-        let code = ahead.first(subject.prepared, a, kind, &mut self.work, steps);
+        let code = forward_one.first(subject.prepared, a, kind, &mut self.work, steps);
         let mut offset = offset_of(code);
         let mut place = from;
         while place < self.region.end {
             let to = self.ready(subject, table, place, steps);
-            let (reached, next) = self.meet(subject, table, ahead, offset, place, steps);
+            let (reached, next) = self.meet(subject, table, forward_one, offset, place, steps);
             place = reached;
             offset = next;
             if place < to {
@@ -450,32 +456,32 @@ impl Kept {
         place
     }
 
-    /// Follows the pass ahead from a place, in the state whose cells begin at the offset, as long as it meets the kept one, among
+    /// Follows the pass forwards from a place, in the state whose cells begin at the offset, as long as it meets the kept one, among
     /// the places whose states are in the table; gives where it stopped, and where its state's cells begin.
     fn meet(
         &mut self,
         subject: Subject,
         table: &Table,
-        ahead: &mut Table,
+        forward_one: &mut Table,
         offset: usize,
         from: usize,
         steps: &mut Steps,
     ) -> (usize, usize)
         requires kept { IsKept subject.prepared.now subject.text.now table.now self.old }
-        requires ahead { IsTable subject.prepared.now ahead.old }
-        requires forwards { (ahead.old.way.mirrored ≡ false) × (ahead.old.way.all_starts ≡ false) }
-        requires offset { IsOffset ahead.old offset }
+        requires forward_one { IsTable subject.prepared.now forward_one.old }
+        requires forwards { (forward_one.old.way.mirrored ≡ false) × (forward_one.old.way.all_starts ≡ false) }
+        requires offset { IsOffset forward_one.old offset }
         requires from { self.old.region.from ≤ from }
         requires to { from < self.old.region.to }
         ensures keeps { KeepsRegion subject.entry.prepared.now subject.entry.text.now table.now table.now self.old self.new }
-        ensures ahead { IsTable subject.entry.prepared.now ahead.new }
-        ensures shape { SameShape ahead.old ahead.new }
+        ensures forward_one { IsTable subject.entry.prepared.now forward_one.new }
+        ensures shape { SameShape forward_one.old forward_one.new }
         ensures region { self.new.region ≡ self.old.region }
-        ensures offset { IsOffset ahead.new result.1 }
+        ensures offset { IsOffset forward_one.new result.1 }
         ensures after { from ≤ result.0 }
         ensures within { result.0 ≤ self.old.region.to }
-        ensures meets { (a i : ℕ) → a ≤ self.old.region.root → i ≤ from → Follows subject.entry.prepared.now subject.entry.text.now ahead.old a i from offset →
-            Follows subject.entry.prepared.now subject.entry.text.now ahead.new a i result.0 result.1
+        ensures meets { (a i : ℕ) → a ≤ self.old.region.root → i ≤ from → Follows subject.entry.prepared.now subject.entry.text.now forward_one.old a i from offset →
+            Follows subject.entry.prepared.now subject.entry.text.now forward_one.new a i result.0 result.1
             × Meet subject.entry.prepared.now subject.entry.text.now table.now self.old a i from result.0
             × (result.0 < self.old.region.to → MeetsAt subject.entry.prepared.now.arena.expr.nodes subject.entry.text.now self.old.region.root
             (ends_told table.now.way.all_starts (length subject.entry.text.now) self.old.region.end) a (one_start i) result.0 → ⊥) }
@@ -488,15 +494,25 @@ impl Kept {
         let mut offset = offset;
         for place in from..self.region.to {
             let behind = self.states[place] as usize;
-            if !ahead
-                .leaves
-                .meets(ahead.state_at(offset), &table.ends, behind, nodes, steps)
-            {
+            if !forward_one.leaves.meets(
+                forward_one.state_at(offset),
+                &table.ends,
+                behind,
+                nodes,
+                steps,
+            ) {
                 return (place, offset);
             }
             let byte = subject.text.byte(place, steps);
             let edge = place + 1 == length;
-            let code = ahead.next(subject.prepared, offset, byte, edge, &mut self.work, steps);
+            let code = forward_one.next(
+                subject.prepared,
+                offset,
+                byte,
+                edge,
+                &mut self.work,
+                steps,
+            );
             offset = offset_of(code);
         }
         (self.region.to, offset)

@@ -17,14 +17,14 @@ use sedre::Steps;
 use sedtext::beginnings::Begins;
 
 /// Begins anew for a text: nothing was searched in it yet.
-pub fn begin_text(subject: Subject, back: &Table, seeking: &mut Seeking)
-    requires table { IsTable subject.prepared.now back.now }
-    requires room { KeptRoom (length subject.prepared.now.arena.expr.nodes) (length subject.text.now) back.now seeking.old.kept }
-    requires all_starts { IsTrue back.now.way.all_starts }
+pub fn begin_text(subject: Subject, reverse_any: &Table, seeking: &mut Seeking)
+    requires table { IsTable subject.prepared.now reverse_any.now }
+    requires room { KeptRoom (length subject.prepared.now.arena.expr.nodes) (length subject.text.now) reverse_any.now seeking.old.kept }
+    requires all_starts { IsTrue reverse_any.now.way.all_starts }
     ensures kept { seeking.new.kept ≡ seeking.old.kept }
     ensures begun { seeking.new.begun ≡ false }
     ensures tried { seeking.new.tried ≡ if seeking.old.begun then length subject.entry.text.now else 0 }
-    ensures serves { SearchServes subject.entry.prepared.now subject.entry.text.now back.now seeking.new }
+    ensures serves { SearchServes subject.entry.prepared.now subject.entry.text.now reverse_any.now seeking.new }
     ensures owed { let m = length subject.entry.prepared.now.arena.expr.nodes in let n = length subject.entry.text.now in
         owed_behind m n seeking.new 0 + 43 * m ≤ 308 * m * (n + 1) }
 {
@@ -54,27 +54,43 @@ pub fn is_null_at(span: Option<(usize, usize)>, at: usize) -> bool
 pub fn next_after(
     subject: Subject,
     begins: &Begins,
-    ahead: &mut Table,
-    back: &mut Table,
+    forward_one: &mut Table,
+    reverse_any: &mut Table,
     seeking: &mut Seeking,
     at: usize,
     steps: &mut Steps,
 ) -> Option<(usize, usize)>
     requires at { at ≤ length subject.text.now }
-    requires ready { MaySearch subject.prepared.now subject.text.now begins.now ahead.old back.old seeking.old }
-    ensures searched { Searched subject.entry.prepared.now subject.entry.text.now ahead.old ahead.new back.old back.new seeking.old seeking.new }
+    requires ready { MaySearch subject.prepared.now subject.text.now begins.now forward_one.old reverse_any.old seeking.old }
+    ensures searched { Searched subject.entry.prepared.now subject.entry.text.now forward_one.old forward_one.new reverse_any.old reverse_any.new seeking.old seeking.new }
     ensures next { result ≡ next_span (leftmost_longest (expression_tree subject.entry.prepared.now.arena.expr) subject.entry.text.now) (length subject.entry.text.now) (Some at) }
     ensures lies { IfSome result (LiesOn (length subject.entry.text.now) (Some at)) }
     ensures cost { let m = length subject.entry.prepared.now.arena.expr.nodes in let n = length subject.entry.text.now in
         CostsWithin steps.old steps.new (owed_behind m n seeking.old at) (owed_after_search (owed_behind m n seeking.new) result) }
     ensures looks { SearchTakes (length subject.entry.prepared.now.arena.expr.nodes) (length subject.entry.text.now) at steps.old steps.new result }
 {
-    let first = next_match(subject, begins, ahead, back, seeking, at, steps);
+    let first = next_match(
+        subject,
+        begins,
+        forward_one,
+        reverse_any,
+        seeking,
+        at,
+        steps,
+    );
     if !is_null_at(first, at) {
         return first;
     }
     if at >= subject.text.len() {
         return None;
     }
-    next_match(subject, begins, ahead, back, seeking, at + 1, steps)
+    next_match(
+        subject,
+        begins,
+        forward_one,
+        reverse_any,
+        seeking,
+        at + 1,
+        steps,
+    )
 }

@@ -115,10 +115,10 @@ fn enter(
     let entered = &mut work.entered;
     match node {
         Node::Seq(a, b) => {
-            entered.set(a.index(), here, steps);
-            let next = ended.get(a.index(), steps)
-                || (here && prepared.null_at(a.index(), kind, steps));
-            entered.set(b.index(), next, steps);
+            let (a, b) = (a.index(), b.index());
+            entered.set(a, here, steps);
+            let next = ended.get(a, steps) || (here && prepared.null_at(a, kind, steps));
+            entered.set(b, next, steps);
         }
         Node::Alt(a, b) => {
             entered.set(a.index(), here, steps);
@@ -126,8 +126,9 @@ fn enter(
         }
         Node::Group(_, a) | Node::Opt(a, _) => entered.set(a.index(), here, steps),
         Node::Star(a, _) => {
-            let next = here || ended.get(a.index(), steps);
-            entered.set(a.index(), next, steps);
+            let a = a.index();
+            let next = here || ended.get(a, steps);
+            entered.set(a, next, steps);
         }
         _ => {}
     }
@@ -222,8 +223,8 @@ fn edge_kind(mirrored: bool, edge: bool) -> PlaceKind
     ensures end { at_edge mirrored result ≡ edge }
 {
     PlaceKind {
-        begin: edge && mirrored,
-        end: edge && !mirrored,
+        begin: edge & mirrored,
+        end: edge & !mirrored,
     }
 }
 

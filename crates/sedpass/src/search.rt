@@ -9,7 +9,7 @@ ghost use Rattle.sedtext.specs.Costs.{CostsWithin};
 ghost use Rattle.sedtext.specs.Reach.{At};
 ghost use Rattle.sedre.specs.Tree.{expression_tree};
 ghost use Rattle.sedre.specs.Steps.{Takes};
-ghost use Rattle.sedpass.specs.Table.{IsAhead, SameShape};
+ghost use Rattle.sedpass.specs.Table.{IsForwardOne, SameShape};
 ghost use Rattle.sedpass.specs.Kept.{IsKept, SameSpace};
 ghost use Rattle.sedpass.specs.Search.{IsNextMatch, LooksFrom, MaySearch, Searched, SearchServes, TablesStay, TrialsMade, owed_kept, owed_seeking, owed_after_search, search_cost};
 
@@ -45,7 +45,7 @@ pub enum Trials {
 fn try_all(
     subject: Subject,
     begins: &Begins,
-    ahead: &mut Table,
+    forward_one: &mut Table,
     from: usize,
     work: &mut Work,
     tried: &mut usize,
@@ -53,10 +53,10 @@ fn try_all(
 ) -> Trials
     requires from { from ≤ length subject.text.now }
     requires begins { AllBegin (expression_tree subject.prepared.now.arena.expr) begins.now }
-    requires ahead { IsAhead subject.prepared.now ahead.old }
+    requires forward_one { IsForwardOne subject.prepared.now forward_one.old }
     requires tried { tried.old ≤ length subject.text.now }
-    ensures ahead { IsAhead subject.entry.prepared.now ahead.new }
-    ensures ahead_shape { SameShape ahead.old ahead.new }
+    ensures forward_one { IsForwardOne subject.entry.prepared.now forward_one.new }
+    ensures forward_one_shape { SameShape forward_one.old forward_one.new }
     ensures made { TrialsMade (expression_tree subject.entry.prepared.now.arena.expr) subject.entry.text.now (length subject.entry.prepared.now.arena.expr.nodes) from tried.old tried.new steps.old steps.new result }
 {
     let length = subject.text.len();
@@ -65,7 +65,7 @@ fn try_all(
         let Some(first) = next_start(begins, subject.text, start, steps) else {
             return Trials::Nothing;
         };
-        let passed = ahead.run(subject.prepared, subject.text, first, work, steps);
+        let passed = forward_one.run(subject.prepared, subject.text, first, work, steps);
         if let Some(end) = passed.end {
             *tried += passed.place.saturating_sub(end);
             return Trials::Hit(first, end);
@@ -93,37 +93,37 @@ fn begins_there(subject: Subject, start: usize, steps: &mut Steps) -> bool
 /// The match from a place on, by the pass from the text's end, which was begun.
 pub fn next_kept(
     subject: Subject,
-    ahead: &mut Table,
-    back: &mut Table,
+    forward_one: &mut Table,
+    reverse_any: &mut Table,
     kept: &mut Kept,
     from: usize,
     steps: &mut Steps,
 ) -> Option<(usize, usize)>
     requires from { from ≤ length subject.text.now }
-    requires ahead { IsAhead subject.prepared.now ahead.old }
-    requires kept { IsKept subject.prepared.now subject.text.now back.old kept.old }
-    requires all_starts { IsTrue back.old.way.all_starts }
-    ensures tables { TablesStay subject.entry.prepared.now ahead.old ahead.new back.old back.new kept.old kept.new }
-    ensures next { IsNextMatch subject.entry.prepared.now subject.entry.text.now from back.new kept.new steps.old steps.new result }
+    requires forward_one { IsForwardOne subject.prepared.now forward_one.old }
+    requires kept { IsKept subject.prepared.now subject.text.now reverse_any.old kept.old }
+    requires all_starts { IsTrue reverse_any.old.way.all_starts }
+    ensures tables { TablesStay subject.entry.prepared.now forward_one.old forward_one.new reverse_any.old reverse_any.new kept.old kept.new }
+    ensures next { IsNextMatch subject.entry.prepared.now subject.entry.text.now from reverse_any.new kept.new steps.old steps.new result }
     ensures cost { let m = length subject.entry.prepared.now.arena.expr.nodes in let n = length subject.entry.text.now in
         CostsWithin steps.old steps.new (owed_kept m n kept.old.region from + 42 * m) (owed_after_search (λ q. owed_kept m n kept.new.region q) result) }
     ensures each { let m = length subject.entry.prepared.now.arena.expr.nodes in
         Takes steps.old steps.new (142 * m * (length subject.entry.text.now - from) + 42 * m) }
 {
     let root = subject.prepared.root;
-    let start = kept.seek(subject, back, root, from, true, steps);
+    let start = kept.seek(subject, reverse_any, root, from, true, steps);
     if !begins_there(subject, start, steps) {
         return None;
     }
-    let end = kept.cut(subject, back, ahead, root, start, steps);
+    let end = kept.cut(subject, reverse_any, forward_one, root, start, steps);
     Some((start, end))
 }
 
 /// Begins the pass from the text's end, unless it was begun.
-fn begin_kept(subject: Subject, back: &Table, seeking: &mut Seeking)
-    requires { SearchServes subject.prepared.now subject.text.now back.now seeking.old }
+fn begin_kept(subject: Subject, reverse_any: &Table, seeking: &mut Seeking)
+    requires { SearchServes subject.prepared.now subject.text.now reverse_any.now seeking.old }
     ensures begun { IsTrue seeking.new.begun }
-    ensures kept { IsKept subject.entry.prepared.now subject.entry.text.now back.now seeking.new.kept }
+    ensures kept { IsKept subject.entry.prepared.now subject.entry.text.now reverse_any.now seeking.new.kept }
     ensures space { SameSpace seeking.old.kept seeking.new.kept }
     ensures owed { let m = length subject.entry.prepared.now.arena.expr.nodes in let n = length subject.entry.text.now in
         (place : ℕ) → place ≤ n → owed_seeking m n seeking.new place ≤ owed_seeking m n seeking.old place }
@@ -133,7 +133,7 @@ fn begin_kept(subject: Subject, back: &Table, seeking: &mut Seeking)
         seeking.begun = true;
         seeking
             .kept
-            .begin(subject, back, subject.prepared.root, length);
+            .begin(subject, reverse_any, subject.prepared.root, length);
     }
 }
 
@@ -141,15 +141,15 @@ fn begin_kept(subject: Subject, back: &Table, seeking: &mut Seeking)
 pub fn next_match(
     subject: Subject,
     begins: &Begins,
-    ahead: &mut Table,
-    back: &mut Table,
+    forward_one: &mut Table,
+    reverse_any: &mut Table,
     seeking: &mut Seeking,
     from: usize,
     steps: &mut Steps,
 ) -> Option<(usize, usize)>
     requires from { from ≤ length subject.text.now }
-    requires ready { MaySearch subject.prepared.now subject.text.now begins.now ahead.old back.old seeking.old }
-    ensures searched { Searched subject.entry.prepared.now subject.entry.text.now ahead.old ahead.new back.old back.new seeking.old seeking.new }
+    requires ready { MaySearch subject.prepared.now subject.text.now begins.now forward_one.old reverse_any.old seeking.old }
+    ensures searched { Searched subject.entry.prepared.now subject.entry.text.now forward_one.old forward_one.new reverse_any.old reverse_any.new seeking.old seeking.new }
     ensures answer { SpanAnswer (expression_tree subject.entry.prepared.now.arena.expr) subject.entry.text.now from result }
     ensures cost { let m = length subject.entry.prepared.now.arena.expr.nodes in let n = length subject.entry.text.now in
         CostsWithin steps.old steps.new (owed_seeking m n seeking.old from + 43 * m) (owed_after_search (owed_seeking m n seeking.new) result) }
@@ -159,12 +159,19 @@ pub fn next_match(
     let mut start = from;
     if !seeking.begun && seeking.tried <= subject.text.len() {
         let (work, tried) = (&mut seeking.kept.work, &mut seeking.tried);
-        match try_all(subject, begins, ahead, from, work, tried, steps) {
+        match try_all(subject, begins, forward_one, from, work, tried, steps) {
             Trials::Hit(first, end) => return Some((first, end)),
             Trials::Nothing => return None,
             Trials::Tired(later) => start = later,
         }
     }
-    begin_kept(subject, back, seeking);
-    next_kept(subject, ahead, back, &mut seeking.kept, start, steps)
+    begin_kept(subject, reverse_any, seeking);
+    next_kept(
+        subject,
+        forward_one,
+        reverse_any,
+        &mut seeking.kept,
+        start,
+        steps,
+    )
 }

@@ -11,7 +11,7 @@ ghost use Rattle.sedpass.specs.declared.nodes.PlaceKind.{PlaceKind};
 ghost use Rattle.sedpass.specs.declared.nodes.Prepared.{Prepared};
 ghost use Rattle.sedpass.specs.Table.{state_of, HasRow, HasMarks, BeginsIn, NamesState, IsNext, IsOffset, beginning_at, MayBegin, IsRoomy, IsTable, SameRoom, SameShape, Codes, IsMade};
 
-use crate::cells::{StateFlags, Layout, code_of, empty_cells, stops};
+use crate::cells::{Layout, StateFlags, code_of, empty_cells, stops};
 use crate::nodes::{PlaceKind, Prepared};
 use crate::rows::{Way, Work, first, step};
 use sedre::Steps;
@@ -90,7 +90,7 @@ fn next_epoch(epoch: u32) -> u32
     }
 }
 
-/// How many beginnings are noted: for each node those at each kind of place, in a sweep for the whole expression alone.
+/// How many beginnings are noted: for each node those at each kind of place, with all starts for the whole expression alone.
 fn count_beginnings(all_starts: bool, nodes: usize) -> usize
     requires some { 0 < nodes }
     requires few { nodes ≤ 65536 }
@@ -430,7 +430,7 @@ impl Table {
         code
     }
 
-    /// The code of the state in which a pass for a root begins, at a place of a kind. In a sweep the root is that of the
+    /// The code of the state in which a pass for a root begins, at a place of a kind. With all starts the root is that of the
     /// expression.
     pub fn first(
         &mut self,

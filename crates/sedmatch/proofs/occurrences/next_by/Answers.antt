@@ -11,8 +11,8 @@ index_mut-requires c =
 pub next_with-requires-in-Some-clause-ready : goal.next_with-requires-in-Some-clause-ready
 next_with-requires-in-Some-clause-ready c = record {
   begins = c.requires.sought.begins;
-  ahead = c.requires.ahead;
-  serves = own_serves c.args.sought.now.prepared c.args.text.now c.make_ready.new.self c.in-Some.back c.make_ready.ensures.ready.table c.if-not-occurrences.false
+  forward_one = c.requires.forward_one;
+  serves = own_serves c.args.sought.now.prepared c.args.text.now c.make_ready.new.self c.in-Some.reverse_any c.make_ready.ensures.ready.table c.if-not-occurrences.false
       (own_is c.args.sought.now.prepared.arena.expr c.args.text.now c.make_ready.new.self c.make_ready.ensures.ready.table c.if-not-occurrences.false _ _ c.index_mut.ensures.value c.in-Some.is);
 }
 
@@ -29,9 +29,9 @@ returns-then-not-occurrences-clause-told c =
     let first = c.make_ready.ensures in
     let new = c.next_with.new in
     let done = c.next_with.ensures in
-    let next = shared_searched p w c.args.ahead.now new.ahead mid.shared new.back mid new.seeking first.ready.room done.searched c.if-not-occurrences.true refl in
+    let next = shared_searched p w c.args.forward_one.now new.forward_one mid.shared new.reverse_any mid new.seeking first.ready.room done.searched c.if-not-occurrences.true refl in
     let last = p.is_prepared.last in
-    tells p.arena.expr w c.args.last c.args.occurrences.now mid (record mid { seeking = new.seeking; shared = new.back }) c.next_with.result c.args.steps.now new.steps (omega (arith, last)) c.requires.serves first.ready next
+    tells p.arena.expr w c.args.last c.args.occurrences.now mid (record mid { seeking = new.seeking; shared = new.reverse_any }) c.next_with.result c.args.steps.now new.steps (omega (arith, last)) c.requires.serves first.ready next
     first.same first.owed first.used done.next done.occurs done.cost done.looks
 
 pub returns-clause-told : goal.returns-clause-told
@@ -43,7 +43,7 @@ returns-clause-told c =
     let new = c.next_with-in-Some.new in
     let done = c.next_with-in-Some.ensures in
     let is = own_is p.arena.expr w mid first.ready.table c.if-not-occurrences.false _ _ c.index_mut.ensures.value c.in-Some.is in
-    let next = own_searched p w c.args.ahead.now new.ahead c.in-Some.back new.back mid new.seeking first.ready.room done.searched c.if-not-occurrences.false is in
+    let next = own_searched p w c.args.forward_one.now new.forward_one c.in-Some.reverse_any new.reverse_any mid new.seeking first.ready.room done.searched c.if-not-occurrences.false is in
     let last = p.is_prepared.last in
-    tells p.arena.expr w c.args.last c.args.occurrences.now mid (record mid { seeking = new.seeking; own = with_item mid.own mid.number (Some new.back) }) c.next_with-in-Some.result c.args.steps.now new.steps (omega (arith, last))
+    tells p.arena.expr w c.args.last c.args.occurrences.now mid (record mid { seeking = new.seeking; own = with_item mid.own mid.number (Some new.reverse_any) }) c.next_with-in-Some.result c.args.steps.now new.steps (omega (arith, last))
     c.requires.serves first.ready next first.same first.owed first.used done.next done.occurs done.cost done.looks

@@ -1,4 +1,4 @@
-use Rattle.std.proofs.Common.{Some, None, length, arith}
+use Rattle.std.proofs.Common.{Some, None, length, refl, arith}
 use Rattle.sedre.specs.Tree.{expression_tree}
 use Rattle.sedtext.specs.Answer.{SpanAnswer}
 use Rattle.sedtext.proofs.FollowingLemmas.{if_occurs}
@@ -80,3 +80,35 @@ returns-in-Some-skip_to_literal-clause-looks c =
 
 pub returns-in-Some-clause-looks : goal.returns-in-Some-clause-looks
 returns-in-Some-clause-looks c = rw c.in-Some.is c.next_after.ensures.looks
+
+pub next_match-requires-clause-ready : goal.next_match-requires-clause-ready
+next_match-requires-clause-ready c = c.requires.ready
+
+pub next_after-requires-clause-at : goal.next_after-requires-clause-at
+next_after-requires-clause-at c = rw c.in-Some.is at c.requires.last
+
+pub next_after-requires-clause-ready : goal.next_after-requires-clause-ready
+next_after-requires-clause-ready c = c.requires.ready
+
+pub returns-in-None-skip_to_literal-clause-searched : goal.returns-in-None-skip_to_literal-clause-searched
+returns-in-None-skip_to_literal-clause-searched c = record {
+  tables = record {
+    forward_one = c.requires.ready.forward_one;
+    forward_one_shape = (refl, refl, refl, refl, refl);
+    reverse_any_shape = (refl, refl, refl, refl, refl);
+    space = record { places = refl; edges = refl; marks = λ q. refl };
+  };
+  serves = c.requires.ready.serves;
+}
+
+pub returns-in-Some-skip_to_literal-clause-searched : goal.returns-in-Some-skip_to_literal-clause-searched
+returns-in-Some-skip_to_literal-clause-searched c = c.next_match.ensures.searched
+
+pub returns-in-Some-clause-searched : goal.returns-in-Some-clause-searched
+returns-in-Some-clause-searched c = c.next_after.ensures.searched
+
+pub returns-in-Some-clause-next : goal.returns-in-Some-clause-next
+returns-in-Some-clause-next c = rw c.in-Some.is c.next_after.ensures.next
+
+pub returns-in-Some-clause-cost : goal.returns-in-Some-clause-cost
+returns-in-Some-clause-cost c = rw c.in-Some.is c.next_after.ensures.cost

@@ -1,7 +1,7 @@
-use Rattle.sedmatch.proofs.OccurrenceLemmas.{back_made}
+use Rattle.sedmatch.proofs.OccurrenceLemmas.{reverse_any_made}
 use Rattle.sedmatch.proofs.occurrences.own_table.Goals as goal
 
 pub returns-in_ok-new-in-Some : goal.returns-in_ok-new-in-Some
 returns-in_ok-new-in-Some c =
     let made = c.in_ok-new-in-Some.ensures in
-    back_made c.in-Some.prepared.now c.args.matcher.now c.in_ok-new-in-Some.field-0 c.in-Some.ensures made.table made.way
+    reverse_any_made c.in-Some.prepared.now c.args.matcher.now c.in_ok-new-in-Some.field-0 c.in-Some.ensures made.table made.way

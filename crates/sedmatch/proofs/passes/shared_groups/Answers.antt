@@ -16,6 +16,6 @@ returns-clause-desk c =
     let fit = c.fit.ensures.room in
     let after = c.groups_with.new.tables in
     let done = c.groups_with.ensures in
-    desk_again d c.groups_with.new.room d.any d.back after is done.space done.none done.tasks (untouched d.max_nodes d.any is.any.0) (untouched d.max_nodes d.back is.back.0)
-    (used_again d.max_nodes p d.shared.inside c.fit.new.self.inside after.inside is.shared.inside fit.inside done.shape.inside done.desk.inside)
-    (used_again d.max_nodes p d.shared.ahead c.fit.new.self.ahead after.ahead is.shared.ahead fit.ahead done.shape.ahead done.desk.ahead.table)
+    desk_again d c.groups_with.new.room d.forward_any d.reverse_any after is done.space done.none done.tasks (untouched d.max_nodes d.forward_any is.forward_any.0) (untouched d.max_nodes d.reverse_any is.reverse_any.0)
+    (used_again d.max_nodes p d.shared.reverse_one c.fit.new.self.reverse_one after.reverse_one is.shared.reverse_one fit.reverse_one done.shape.reverse_one done.desk.reverse_one)
+    (used_again d.max_nodes p d.shared.forward_one c.fit.new.self.forward_one after.forward_one is.shared.forward_one fit.forward_one done.shape.forward_one done.desk.forward_one.table)

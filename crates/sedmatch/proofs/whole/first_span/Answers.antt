@@ -1,4 +1,4 @@
-use Rattle.std.proofs.Common.{◌-◌, ◌*◌, ◌≤◌, length, arith, mul-le-mul_left}
+use Rattle.std.proofs.Common.{◌-◌, ◌*◌, ◌≤◌, length, ap, refl, ◌∙◌, arith, mul-le-mul_left}
 use Rattle.sedre.specs.Tree.{expression_tree}
 use Rattle.sedpass.proofs.KeptLemmas.{space_then}
 use Rattle.sedpass.proofs.TableLemmas.{roomy_fewer}
@@ -7,10 +7,30 @@ use Rattle.sedmatch.proofs.OnceLemmas.{looks_at_span}
 use Rattle.sedmatch.proofs.whole.first_span.Goals as goal
 
 pub fit-requires : goal.fit-requires
-fit-requires c = record { roomy = (shared_serves (length c.args.subject.prepared.now.arena.expr.nodes) c.args.desk.now c.requires.desk c.requires.few).ahead }
+fit-requires c = record { roomy = (shared_serves (length c.args.subject.prepared.now.arena.expr.nodes) c.args.desk.now c.requires.desk c.requires.few).forward_one }
 
 pub fit-requires-2 : goal.fit-requires-2
-fit-requires-2 c = record { roomy = roomy_fewer (length c.args.subject.prepared.now.arena.expr.nodes) c.args.desk.now.max_nodes c.args.desk.now.back c.requires.few c.requires.desk.back.0 }
+fit-requires-2 c = record { roomy = roomy_fewer (length c.args.subject.prepared.now.arena.expr.nodes) c.args.desk.now.max_nodes c.args.desk.now.reverse_any c.requires.few c.requires.desk.reverse_any.0 }
+
+pub begin-requires-clause-table : goal.begin-requires-clause-table
+begin-requires-clause-table c = c.fit-2.ensures.table
+
+pub begin-requires-clause-root : goal.begin-requires-clause-root
+begin-requires-clause-root c = (let last = c.args.subject.prepared.now.is_prepared.last in omega (arith, last), λ _. refl)
+
+pub begin-requires-clause-whole : goal.begin-requires-clause-whole
+begin-requires-clause-whole c = λ _. c.len.ensures.is
+
+pub next_kept-requires-clause-forward_one : goal.next_kept-requires-clause-forward_one
+next_kept-requires-clause-forward_one c =
+    let way = c.fit.ensures.room.0 ∙ c.requires.desk.shared.ways.forward_one in
+    record { table = c.fit.ensures.table; forwards = ap (λ v. v.mirrored) way; single = ap (λ v. v.all_starts) way; brief = ap (λ v. v.keeps) way }
+
+pub next_kept-requires-clause-kept : goal.next_kept-requires-clause-kept
+next_kept-requires-clause-kept c = c.begin.ensures.kept
+
+pub next_kept-requires-clause-all_starts : goal.next_kept-requires-clause-all_starts
+next_kept-requires-clause-all_starts c = ap (λ v. v.all_starts) (c.fit-2.ensures.room.0 ∙ c.requires.desk.reverse_any.1)
 
 pub begin-requires-clause-room : goal.begin-requires-clause-room
 begin-requires-clause-room c =
@@ -25,9 +45,9 @@ returns-clause-desk c =
     let new = c.next_kept.new in
     let tables = c.next_kept.ensures.tables in
     let space = space_then d.room.kept c.begin.new.self new.kept c.begin.ensures.space tables.space in
-    desk_again d (record d.room { kept = new.kept }) d.any new.back (record d.shared { ahead = new.ahead }) is space is.space.none (omega arith) (untouched d.max_nodes d.any is.any.0)
-    (used_again d.max_nodes p d.back c.fit-2.new.self new.back is.back.0 c.fit-2.ensures.room tables.back_shape c.next_kept.ensures.next.kept.region.table) (untouched d.max_nodes d.shared.inside is.shared.inside)
-    (used_again d.max_nodes p d.shared.ahead c.fit.new.self new.ahead is.shared.ahead c.fit.ensures.room tables.ahead_shape tables.ahead.table)
+    desk_again d (record d.room { kept = new.kept }) d.forward_any new.reverse_any (record d.shared { forward_one = new.forward_one }) is space is.space.none (omega arith) (untouched d.max_nodes d.forward_any is.forward_any.0)
+    (used_again d.max_nodes p d.reverse_any c.fit-2.new.self new.reverse_any is.reverse_any.0 c.fit-2.ensures.room tables.reverse_any_shape c.next_kept.ensures.next.kept.region.table) (untouched d.max_nodes d.shared.reverse_one is.shared.reverse_one)
+    (used_again d.max_nodes p d.shared.forward_one c.fit.new.self new.forward_one is.shared.forward_one c.fit.ensures.room tables.forward_one_shape tables.forward_one.table)
 
 pub returns-clause-cost : goal.returns-clause-cost
 returns-clause-cost c =

@@ -1,7 +1,7 @@
 use Rattle.std.proofs.Common.{rules, ◌-◌, ◌<◌, length, inl, inr, refl, arith}
 use Rattle.sedpass.proofs.Words.{both_ways, Star, At, least_less, least_none, least_both, least_up}
 use Rattle.sedpass.specs.Decide.{nodes_in, subject_text}
-use Rattle.sedpass.proofs.DecideLemmas.{copy_fixed, copy_ceases, copy_pays, desk_ahead, desk_same, desk_then, ends_still, owed_here, part_low}
+use Rattle.sedpass.proofs.DecideLemmas.{copy_fixed, copy_ceases, copy_pays, desk_forward_one, desk_same, desk_then, ends_still, owed_here, part_low}
 use Rattle.sedpass.proofs.MeetingLemmas.{copy_walk}
 use Rattle.sedpass.proofs.TurnLemmas.{opened, part_inside}
 use Rattle.sedpass.proofs.groups.last_copy.Goals as goal
@@ -67,8 +67,8 @@ cut-end-requires c =
     let desk = inv.desk.desk in
     record {
       kept = desk.region;
-      ahead = desk.ahead.table;
-      forwards = (desk.ahead.forwards, desk.ahead.single);
+      forward_one = desk.forward_one.table;
+      forwards = (desk.forward_one.forwards, desk.forward_one.single);
       a = rw c.index-part.ensures (part_low c.args.subject c.copies.kept.region c.args.here (Star c.args.a c.args.first) c.args.a.index c.requires.stands inv.ends refl);
       from = omega (arith, c.copies-test.true, inv.ends.1);
     }
@@ -89,7 +89,7 @@ copies-preserved c =
     let cut = c.cut-end in
     let ceases = rw c.index-part.ensures at cut.ensures.ceases in
     let next = copy_ceases s c.copies.tables c.copies.kept here c.args.a c.args.first c.copies.end cut.result (record { stands = c.requires.stands; ends = inv.ends; desk = inv.desk.desk }) inv.rest c.copies-test.true ceases in
-    let desk = desk_ahead s c.copies.tables cut.new.table cut.new.ahead c.copies.kept cut.new.self inv.desk.desk cut.ensures.keeps cut.ensures.ahead cut.ensures.shape in
+    let desk = desk_forward_one s c.copies.tables cut.new.table cut.new.forward_one c.copies.kept cut.new.self inv.desk.desk cut.ensures.keeps cut.ensures.forward_one cut.ensures.shape in
     record {
       desk = desk_then s c.args.tables.now c.copies.tables _ c.args.kept.now c.copies.kept cut.new.self inv.desk desk;
       ends = ends_still s c.copies.kept cut.new.self here cut.ensures.keeps.same inv.ends;

@@ -1,7 +1,7 @@
 use Rattle.std.proofs.Common.{◌+◌, ◌-◌, ◌*◌, ◌<◌, length, refl, inl, arith}
 use Rattle.sedpass.proofs.Words.{slice_get_within, Seq, least_less, least_none}
 use Rattle.sedpass.specs.Decide.{nodes_in}
-use Rattle.sedpass.proofs.DecideLemmas.{desk_ahead, desk_same, part_low, owed_here, run_paid, meet_paid, cut_ceases, cut_runs}
+use Rattle.sedpass.proofs.DecideLemmas.{desk_forward_one, desk_same, part_low, owed_here, run_paid, meet_paid, cut_ceases, cut_runs}
 use Rattle.sedpass.proofs.KeptLemmas.{space_same}
 use Rattle.sedpass.proofs.TurnLemmas.{part_inside}
 use Rattle.sedpass.proofs.groups.last_cut.Goals as goal
@@ -39,7 +39,7 @@ returns-in-Some-run c =
     record {
       cut = cut_runs c.args.subject c.args.tables.now c.args.kept.now here c.args.a c.args.b c.in-Some-run.leaf c.seek.result c.requires left run.1 seek.after seek.passed seek.found;
       same = seek.keeps.same;
-      desk = desk_ahead c.args.subject c.args.tables.now c.seek.new.table c.args.tables.now.ahead c.args.kept.now c.seek.new.self c.requires.desk seek.keeps c.requires.desk.ahead.table (refl, refl, refl, refl, refl);
+      desk = desk_forward_one c.args.subject c.args.tables.now c.seek.new.table c.args.tables.now.forward_one c.args.kept.now c.seek.new.self c.requires.desk seek.keeps c.requires.desk.forward_one.table (refl, refl, refl, refl, refl);
       cost = (
         seek.cost.0,
         run_paid (length (nodes_in c.args.subject)) c.args.steps.now c.seek.new.steps _ _ here.start c.seek.result (here.stop - here.start) (omega (arith, there.inside)) (omega (arith, some))
@@ -53,8 +53,8 @@ cut-requires c =
     let desk = c.requires.desk in
     record {
       kept = desk.region;
-      ahead = desk.ahead.table;
-      forwards = (desk.ahead.forwards, desk.ahead.single);
+      forward_one = desk.forward_one.table;
+      forwards = (desk.forward_one.forwards, desk.forward_one.single);
       a = rw c.index-left.ensures (part_low c.args.subject c.args.kept.now.region c.args.here (Seq c.args.a c.args.b) c.args.a.index c.requires.stands c.requires.ends (inl refl));
       from = omega (arith, c.requires.stands.there.up, c.requires.ends.1);
     }
@@ -68,7 +68,7 @@ returns c =
     record {
       cut = cut_ceases c.args.subject c.args.tables.now c.args.kept.now here c.args.a c.args.b c.cut.result c.requires ceases;
       same = cut.keeps.same;
-      desk = desk_ahead c.args.subject c.args.tables.now c.cut.new.table c.cut.new.ahead c.args.kept.now c.cut.new.self c.requires.desk cut.keeps cut.ahead cut.shape;
+      desk = desk_forward_one c.args.subject c.args.tables.now c.cut.new.table c.cut.new.forward_one c.args.kept.now c.cut.new.self c.requires.desk cut.keeps cut.forward_one cut.shape;
       cost = (
         cut.cost.0,
         meet_paid (length (nodes_in c.args.subject)) c.args.steps.now c.cut.new.steps _ _ here.start c.cut.result (here.stop - here.start) (omega (arith, some))

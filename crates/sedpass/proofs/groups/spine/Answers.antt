@@ -12,7 +12,7 @@ begin-requires c =
     let desk = c.requires.desk in
     let there = c.requires.ready.0 in
     record {
-      table = desk.inside;
+      table = desk.reverse_one;
       room = desk.places;
       root = may_begin c.args.subject c.args.tables.now c.args.here.node desk.one_end there.inside;
       whole = λ all. absurd (true≢false (sym all ∙ desk.one_end));
@@ -23,7 +23,7 @@ pub nodes-init : goal.nodes-init
 nodes-init c =
     let desk = c.requires.desk in
     record {
-      keeps = record { desk = record { region = c.begin.ensures.kept; one_end = desk.one_end; ahead = desk.ahead }; shape = tables_same c.args.tables.now; space = space_same c.begin.new.self };
+      keeps = record { desk = record { region = c.begin.ensures.kept; one_end = desk.one_end; forward_one = desk.forward_one }; shape = tables_same c.args.tables.now; space = space_same c.begin.new.self };
       goes = (all_of c.args.here.node (sym c.begin.ensures.root), sym c.begin.ensures.end);
       room = omega arith;
       works = works_none c.args.subject (Apart c.args.here ∷ reverse c.args.room.now.tasks.items) c.args.told.now c.args.steps.now c.requires.is_told c.requires.ready;
@@ -76,7 +76,7 @@ returns c =
     let desk = inv.keeps.desk in
     record {
       room = record {
-        desk = record { inside = desk.region.region.table; places = desk.region.region.room; one_end = desk.one_end; ahead = desk.ahead };
+        desk = record { reverse_one = desk.region.region.table; places = desk.region.region.room; one_end = desk.one_end; forward_one = desk.forward_one };
         shape = inv.keeps.shape;
         space = space_then c.args.room.now.kept c.begin.new.self c.nodes.room.kept c.begin.ensures.space inv.keeps.space;
         tasks = inv.room;

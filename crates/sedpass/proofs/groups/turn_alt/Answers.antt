@@ -2,7 +2,7 @@ use Rattle.std.proofs.Common.{refl, sym, inl, inr, arith}
 use Rattle.sedpass.proofs.Words.{both_ways, Alt}
 use Rattle.sedpass.specs.Decide.{KeepsGroupDesk}
 use Rattle.sedpass.specs.Regions.{last_of}
-use Rattle.sedpass.proofs.DecideLemmas.{desk_ahead, ends_still, look_paid}
+use Rattle.sedpass.proofs.DecideLemmas.{desk_forward_one, ends_still, look_paid}
 use Rattle.sedpass.proofs.TurnLemmas.{alt_turned}
 use Rattle.sedpass.proofs.groups.turn_alt.Goals.{After-spans-spans}
 use Rattle.sedpass.proofs.groups.turn_alt.Goals as goal
@@ -18,10 +18,10 @@ spans-spans-requires c =
     }
 
 -- where the left alternative was looked at, the region is as it was
-looked : (c : After-spans-spans) → KeepsGroupDesk c.args.subject c.args.tables.now (record c.args.tables.now { inside = c.spans-spans.new.table }) c.args.kept.now c.spans-spans.new.self
+looked : (c : After-spans-spans) → KeepsGroupDesk c.args.subject c.args.tables.now (record c.args.tables.now { reverse_one = c.spans-spans.new.table }) c.args.kept.now c.spans-spans.new.self
 looked c =
     let desk = c.requires.desk in
-    desk_ahead c.args.subject c.args.tables.now c.spans-spans.new.table c.args.tables.now.ahead c.args.kept.now c.spans-spans.new.self desk c.spans-spans.ensures.keeps desk.ahead.table (refl, refl, refl, refl, refl)
+    desk_forward_one c.args.subject c.args.tables.now c.spans-spans.new.table c.args.tables.now.forward_one c.args.kept.now c.spans-spans.new.self desk c.spans-spans.ensures.keeps desk.forward_one.table (refl, refl, refl, refl, refl)
 
 pub returns-then-spans-clause-desk : goal.returns-then-spans-clause-desk
 returns-then-spans-clause-desk c = looked (goal.at.returns-then-spans-clause-desk c).After-spans-spans

@@ -35,7 +35,7 @@ returns-in-Some c =
           (star_turned c.args.subject c.args.here c.args.a c.args.first c.in-Some.start state c.begin.new.self.region c.args.steps.now c.last_copy.new.steps c.requires.stands copy
           (c.begin.ensures.root ∙ c.index-node.ensures) c.begin.ensures.end c.last_copy.ensures.cost c.last_copy.ensures.counts);
       desk = record {
-        desk = record { region = c.begin.ensures.kept; one_end = last.desk.one_end; ahead = last.desk.ahead };
+        desk = record { region = c.begin.ensures.kept; one_end = last.desk.one_end; forward_one = last.desk.forward_one };
         shape = last.shape;
         space = space_then c.args.kept.now c.last_copy.new.kept c.begin.new.self last.space c.begin.ensures.space;
       };

@@ -48,7 +48,7 @@ returns-then-at-len c =
 pub next_match-requires : goal.next_match-requires
 next_match-requires c = record {
   from = (let on = c.if-at-len.false in let is = c.len.ensures.is in omega (arith, on, is));
-  ready = may_search c.args.subject.prepared.now c.args.subject.text.now c.args.begins.now c.args.ahead.now c.next_match-first.new.ahead c.args.back.now c.next_match-first.new.back c.args.seeking.now c.next_match-first.new.seeking
+  ready = may_search c.args.subject.prepared.now c.args.subject.text.now c.args.begins.now c.args.forward_one.now c.next_match-first.new.forward_one c.args.reverse_any.now c.next_match-first.new.reverse_any c.args.seeking.now c.next_match-first.new.seeking
       c.requires.ready c.next_match-first.ensures.searched;
 }
 
@@ -71,7 +71,7 @@ returns c =
     first c.next_match.result (c.is_null_at.ensures.null c.if-not-is_null_at.false) (search_falls m n mid at (at + 1) (omega arith)) one.cost.1 two.cost.1 in
     let most = both_square m n at (omega (arith, c.args.subject.prepared.now.is_prepared.last)) on in
     record {
-      searched = searched_then c.args.subject.prepared.now w c.args.ahead.now c.next_match-first.new.ahead c.next_match.new.ahead c.args.back.now c.next_match-first.new.back c.next_match.new.back old mid c.next_match.new.seeking one.searched two.searched;
+      searched = searched_then c.args.subject.prepared.now w c.args.forward_one.now c.next_match-first.new.forward_one c.next_match.new.forward_one c.args.reverse_any.now c.next_match-first.new.reverse_any c.next_match.new.reverse_any old mid c.next_match.new.seeking one.searched two.searched;
       next = passed_by at first (leftmost_longest e w at) other c.next_match.result c.is_null_at.result true (answer_found e w at first c.requires.at one.answer) (c.is_null_at.ensures.passed other) c.if-not-is_null_at.false
           (answer_found e w (at + 1) c.next_match.result (omega (arith, on)) two.answer ∙ further_found n at (leftmost_longest e w (at + 1)) on);
       lies = lies;

@@ -2,7 +2,7 @@ use Rattle.std.proofs.Common.{◌+◌, ◌-◌, ◌*◌, ◌≤◌, length, ap, 
 use Rattle.sedpass.proofs.KeptLemmas.{keeps_then}
 use Rattle.sedpass.proofs.SearchLemmas.{begins_some, kept_cost, kept_each, kept_found, kept_none, none_cost}
 use Rattle.sedpass.proofs.Words.{least_both, least_up}
-use Rattle.sedpass.proofs.ForwardLemmas.{ahead_still}
+use Rattle.sedpass.proofs.ForwardLemmas.{forward_one_still}
 use Rattle.sedpass.proofs.search.next_kept.Goals as goal
 
 pub seek-start-requires : goal.seek-start-requires
@@ -17,8 +17,8 @@ cut-end-requires c =
     let seek = c.seek-start.ensures in
     record {
       kept = seek.keeps.kept;
-      ahead = c.requires.ahead.table;
-      forwards = (c.requires.ahead.forwards, c.requires.ahead.single);
+      forward_one = c.requires.forward_one.table;
+      forwards = (c.requires.forward_one.forwards, c.requires.forward_one.single);
       a = omega (arith, seek.keeps.same.root, c.requires.kept.region.root.1 c.requires.all_starts);
       from = omega (arith, seek.within, seek.keeps.same.end);
     }
@@ -32,12 +32,12 @@ returns-then-not-begins_there c =
     let seek = c.seek-start.ensures in
     let null = c.begins_there.ensures in
     let low : c.seek-start.result ≤ n = (let within = seek.within in omega (arith, within, region.inside)) in
-    let none = kept_none c.args.subject.prepared.now c.args.subject.text.now c.args.back.now.way.all_starts k.region.root k.region.end c.args.from c.seek-start.result c.begins_there.result
+    let none = kept_none c.args.subject.prepared.now c.args.subject.text.now c.args.reverse_any.now.way.all_starts k.region.root k.region.end c.args.from c.seek-start.result c.begins_there.result
     region.table.expr.arena c.requires.all_starts (region.root.1 c.requires.all_starts) low seek.passed null.inside null.null c.if-not-begins_there.true in
     let grows : c.args.steps.now ≤ c.begins_there.new.steps = omega (arith, seek.cost.0, null.cost.0) in
     let cost = none_cost m n c.args.from c.seek-start.result c.args.steps.now c.seek-start.new.steps c.begins_there.new.steps _ _ (omega (arith, c.args.subject.prepared.now.is_prepared.last)) seek.after low seek.cost.1 null.cost.1 in
     record {
-      tables = record { ahead = c.requires.ahead; ahead_shape = (refl, refl, refl, refl, refl); back_shape = seek.keeps.shape; space = seek.keeps.same.space };
+      tables = record { forward_one = c.requires.forward_one; forward_one_shape = (refl, refl, refl, refl, refl); reverse_any_shape = seek.keeps.shape; space = seek.keeps.same.space };
       next = record { kept = seek.keeps.kept; answer = (tt, none, tt); counts = tt };
       cost = (grows, cost);
       each = (grows, kept_each _ _ k.region c.args.from c.args.steps.now c.begins_there.new.steps _ region.inside cost);
@@ -59,14 +59,14 @@ returns c =
     let high : stop ≤ length w = (let within = cut.within in omega (arith, within, seek.keeps.same.end, region.inside)) in
     let on = cut.ceases.0 in
     let root = region.root.1 c.requires.all_starts in
-    let begins = begins_some p w c.args.back.now.way.all_starts k.region.root k.region.end start c.begins_there.result region.table.expr.arena c.requires.all_starts root (region.whole c.requires.all_starts) low seek.found null.null c.if-not-begins_there.false in
-    let found = kept_found p w c.args.back.now.way.all_starts k.region.root k.region.end c.seek-start.new.table.way.all_starts c.seek-start.new.self.region.root c.seek-start.new.self.region.end c.args.from start stop
+    let begins = begins_some p w c.args.reverse_any.now.way.all_starts k.region.root k.region.end start c.begins_there.result region.table.expr.arena c.requires.all_starts root (region.whole c.requires.all_starts) low seek.found null.null c.if-not-begins_there.false in
+    let found = kept_found p w c.args.reverse_any.now.way.all_starts k.region.root k.region.end c.seek-start.new.table.way.all_starts c.seek-start.new.self.region.root c.seek-start.new.self.region.end c.args.from start stop
     region.table.expr.arena c.requires.all_starts root (ap (λ v. v.all_starts) seek.keeps.shape.0 ∙ c.requires.all_starts) (seek.keeps.same.root ∙ root) seek.after low seek.passed begins cut.ceases in
-    let keeps = keeps_then _ _ c.args.back.now c.seek-start.new.table c.cut-end.new.table k c.seek-start.new.self c.cut-end.new.self seek.keeps cut.keeps in
+    let keeps = keeps_then _ _ c.args.reverse_any.now c.seek-start.new.table c.cut-end.new.table k c.seek-start.new.self c.cut-end.new.self seek.keeps cut.keeps in
     let grows : c.args.steps.now ≤ c.cut-end.new.steps = omega (arith, seek.cost.0, null.cost.0, cut.cost.0) in
     let cost = kept_cost m (length w) c.args.from start stop c.args.steps.now c.seek-start.new.steps c.begins_there.new.steps c.cut-end.new.steps _ _ _ (omega (arith, p.is_prepared.last)) seek.after on high seek.cost.1 null.cost.1 cut.cost.1 in
     record {
-      tables = record { ahead = ahead_still p c.args.ahead.now c.cut-end.new.ahead c.requires.ahead cut.ahead cut.shape; ahead_shape = cut.shape; back_shape = keeps.shape; space = keeps.same.space };
+      tables = record { forward_one = forward_one_still p c.args.forward_one.now c.cut-end.new.forward_one c.requires.forward_one cut.forward_one cut.shape; forward_one_shape = cut.shape; reverse_any_shape = keeps.shape; space = keeps.same.space };
       next = record {
         kept = cut.keeps.kept;
         answer = (found, tt, (on, high));

@@ -6,14 +6,14 @@ use Rattle.sedpass.proofs.search.next_match.Goals.{After-begin_kept, After-try_a
 use Rattle.sedpass.specs.Search.{Searched}
 use Rattle.sedpass.proofs.search.next_match.Goals as goal
 
-searched : (c : After-try_all) → Searched c.args.subject.prepared.now c.args.subject.text.now c.args.ahead.now c.try_all.new.ahead c.args.back.now c.args.back.now c.args.seeking.now
+searched : (c : After-try_all) → Searched c.args.subject.prepared.now c.args.subject.text.now c.args.forward_one.now c.try_all.new.forward_one c.args.reverse_any.now c.args.reverse_any.now c.args.seeking.now
     (record c.args.seeking.now { kept = record c.args.seeking.now.kept { work = c.try_all.new.work }; tried = c.try_all.new.tried })
 searched c =
-    searched_by c.args.subject.prepared.now c.args.subject.text.now c.args.begins.now c.args.ahead.now c.try_all.new.ahead c.args.back.now c.args.seeking.now c.try_all.new.work c.try_all.new.tried c.requires.ready
-    c.try_all.ensures.ahead c.try_all.ensures.ahead_shape
+    searched_by c.args.subject.prepared.now c.args.subject.text.now c.args.begins.now c.args.forward_one.now c.try_all.new.forward_one c.args.reverse_any.now c.args.seeking.now c.try_all.new.work c.try_all.new.tried c.requires.ready
+    c.try_all.ensures.forward_one c.try_all.ensures.forward_one_shape
 
 pub try_all-requires : goal.try_all-requires
-try_all-requires c = record { from = c.requires.from; begins = c.requires.ready.begins; ahead = c.requires.ready.ahead; tried = omega (arith, c.if-seeking-len.true, c.len.ensures.is) }
+try_all-requires c = record { from = c.requires.from; begins = c.requires.ready.begins; forward_one = c.requires.ready.forward_one; tried = omega (arith, c.if-seeking-len.true, c.len.ensures.is) }
 
 pub returns-in-Hit : goal.returns-in-Hit
 returns-in-Hit c =
@@ -56,19 +56,19 @@ returns-in-Nothing c =
     }
 
 -- where the pass from the text's end goes on
-comes : (c : After-begin_kept) → ComesTo c.args.subject.prepared.now c.args.subject.text.now c.args.ahead.now c.if-not-seeking.ahead c.args.seeking.now c.if-not-seeking.seeking c.args.from c.if-not-seeking.start c.args.steps.now c.if-not-seeking.steps
+comes : (c : After-begin_kept) → ComesTo c.args.subject.prepared.now c.args.subject.text.now c.args.forward_one.now c.if-not-seeking.forward_one c.args.seeking.now c.if-not-seeking.seeking c.args.from c.if-not-seeking.start c.args.steps.now c.if-not-seeking.steps
 comes c = elim c.if-not-seeking.branch [
-  | then-not-seeking+then-seeking-len+in-Tired w ↦ rw (w.ahead-is, w.seeking-is, w.steps-is, w.start-is)
-      (comes_tired c.args.subject.prepared.now c.args.subject.text.now c.args.ahead.now _ c.args.seeking.now _ c.args.from _ c.args.steps.now _ w.in-Tired.ensures.ahead_shape
+  | then-not-seeking+then-seeking-len+in-Tired w ↦ rw (w.forward_one-is, w.seeking-is, w.steps-is, w.start-is)
+      (comes_tired c.args.subject.prepared.now c.args.subject.text.now c.args.forward_one.now _ c.args.seeking.now _ c.args.from _ c.args.steps.now _ w.in-Tired.ensures.forward_one_shape
       (record { places = refl; edges = refl; marks = λ q. refl }) w.if-not-seeking.true w.if-not-seeking.true (omega (arith, w.if-seeking-len.true, w.len.ensures.is)) w.in-Tired.ensures.made)
-  | else-not-seeking w ↦ rw (w.ahead-is, w.seeking-is, w.steps-is, w.start-is)
-      (comes_at_once c.args.subject.prepared.now c.args.subject.text.now c.args.ahead.now c.args.seeking.now c.args.from c.args.steps.now c.requires.from)
+  | else-not-seeking w ↦ rw (w.forward_one-is, w.seeking-is, w.steps-is, w.start-is)
+      (comes_at_once c.args.subject.prepared.now c.args.subject.text.now c.args.forward_one.now c.args.seeking.now c.args.from c.args.steps.now c.requires.from)
 ]
 
 pub begin_kept-requires : goal.begin_kept-requires
 begin_kept-requires c = elim c.if-not-seeking.branch [
-  | then-not-seeking+then-seeking-len+in-Tired w ↦ rw w.seeking-is (searched_by c.args.subject.prepared.now c.args.subject.text.now c.args.begins.now c.args.ahead.now w.try_all.new.ahead c.args.back.now c.args.seeking.now w.try_all.new.work w.try_all.new.tried c.requires.ready
-      w.in-Tired.ensures.ahead w.in-Tired.ensures.ahead_shape).serves
+  | then-not-seeking+then-seeking-len+in-Tired w ↦ rw w.seeking-is (searched_by c.args.subject.prepared.now c.args.subject.text.now c.args.begins.now c.args.forward_one.now w.try_all.new.forward_one c.args.reverse_any.now c.args.seeking.now w.try_all.new.work w.try_all.new.tried c.requires.ready
+      w.in-Tired.ensures.forward_one w.in-Tired.ensures.forward_one_shape).serves
   | else-not-seeking w ↦ rw w.seeking-is c.requires.ready.serves
 ]
 
@@ -76,7 +76,7 @@ pub next_kept-requires : goal.next_kept-requires
 next_kept-requires c =
     let ready = c.requires.ready in
     let came = comes (goal.at.next_kept-requires c).After-begin_kept in
-    record { from = came.within; ahead = elim c.if-not-seeking.branch [ then-not-seeking+then-seeking-len+in-Tired w ↦ rw w.ahead-is w.in-Tired.ensures.ahead | else-not-seeking w ↦ rw w.ahead-is ready.ahead ]; kept = c.begin_kept.ensures.kept; all_starts = ready.serves.all_starts }
+    record { from = came.within; forward_one = elim c.if-not-seeking.branch [ then-not-seeking+then-seeking-len+in-Tired w ↦ rw w.forward_one-is w.in-Tired.ensures.forward_one | else-not-seeking w ↦ rw w.forward_one-is ready.forward_one ]; kept = c.begin_kept.ensures.kept; all_starts = ready.serves.all_starts }
 
 pub returns : goal.returns
 returns c =
@@ -94,12 +94,12 @@ returns c =
     record {
       searched = record {
         tables = record {
-          ahead = tables.ahead;
-          ahead_shape = same_shape c.args.ahead.now c.if-not-seeking.ahead next.new.ahead came.shape tables.ahead_shape;
-          back_shape = tables.back_shape;
+          forward_one = tables.forward_one;
+          forward_one_shape = same_shape c.args.forward_one.now c.if-not-seeking.forward_one next.new.forward_one came.shape tables.forward_one_shape;
+          reverse_any_shape = tables.reverse_any_shape;
           space = space_then c.args.seeking.now.kept seeking.kept next.new.kept came.space (space_then seeking.kept begun.kept next.new.kept c.begin_kept.ensures.space tables.space);
         };
-        serves = record { table = kept.region.table; room = kept.region.room; all_starts = ap (λ v. v.all_starts) tables.back_shape.0 ∙ c.requires.ready.serves.all_starts; kept = λ _. kept };
+        serves = record { table = kept.region.table; room = kept.region.room; all_starts = ap (λ v. v.all_starts) tables.reverse_any_shape.0 ∙ c.requires.ready.serves.all_starts; kept = λ _. kept };
       };
       answer = later_answer (expression_tree p.arena.expr) c.args.subject.text.now c.args.from start next.result came.up came.none next.ensures.next.answer;
       cost = (omega (arith, came.grows, next.ensures.cost.0), omega (arith, came.cost, paid));

@@ -2,7 +2,7 @@ use Rattle.std.proofs.Common.{◌≡◌, ◌+◌, ◌-◌, ◌≤◌, ℕ, lengt
 use Rattle.sedpass.proofs.Words.{expression_tree, IsLongestFrom, Matches-forward, Matches-within, least_none}
 use Rattle.sedpass.proofs.KeptLemmas.{same_shape}
 use Rattle.sedpass.proofs.SearchLemmas.{found_at, hit_paid, hit_room, none_further, none_more, none_on, looks_tried, trial_cost, trial_is}
-use Rattle.sedpass.proofs.ForwardLemmas.{ahead_still}
+use Rattle.sedpass.proofs.ForwardLemmas.{forward_one_still}
 use Rattle.sedpass.proofs.search.try_all.Goals.{else-start-length-via-then-start-length+else-tried-length, else-start-length-via-else-start-length}
 use Rattle.sedpass.proofs.search.try_all.Goals as goal
 
@@ -10,7 +10,7 @@ pub next_start-requires : goal.next_start-requires
 next_start-requires c = record { from = omega (arith, c.loop-start-test.true, c.len-length.ensures.is) }
 
 pub run-passed-requires : goal.run-passed-requires
-run-passed-requires c = let ahead = c.loop-start.invariant.ahead in record { table = ahead.table; forwards = ahead.forwards; keeps = ahead.brief; from = c.in-Some.ensures.next.1 }
+run-passed-requires c = let forward_one = c.loop-start.invariant.forward_one in record { table = forward_one.table; forwards = forward_one.forwards; keeps = forward_one.brief; from = c.in-Some.ensures.next.1 }
 
 pub overflow_add-tried : goal.overflow_add-tried
 overflow_add-tried c = omega (arith, c.loop-start.invariant.room, c.saturating_sub.ensures, c.run-passed.ensures.within, c.requires.tried, c.len-length.ensures.short, c.len-length.ensures.is)
@@ -23,8 +23,8 @@ returns-in_default c =
     let next = c.in_default.ensures in
     let i = c.loop-start.invariant in
     record {
-      ahead = i.ahead;
-      ahead_shape = i.ahead_shape;
+      forward_one = i.forward_one;
+      forward_one_shape = i.forward_one_shape;
       made = record {
         answer = none_further (expression_tree c.args.subject.prepared.now.arena.expr) c.args.subject.text.now c.args.begins.now c.args.from c.loop-start.start c.requires.begins i.none next.next;
         few = i.room;
@@ -43,7 +43,7 @@ returns-in-Some-end c =
     let place = c.run-passed.result.place in
     let i = c.loop-start.invariant in
     let is = trial_is (expression_tree e) w c.args.begins.now c.loop-start.start first c.run-passed.result.place c.run-passed.result.end c.requires.begins c.in-Some.ensures.next run.after run.within run.reached
-    (run.longest i.ahead.single) in
+    (run.longest i.forward_one.single) in
     let end = c.in-Some-end.end in
     let long : IsLongestFrom (expression_tree e) w first (Some end) = subst (IsLongestFrom (expression_tree e) w first) c.in-Some-end.is is.longest in
     let reached : end ≤ place = subst (λ (o : Option ℕ). IfSome o (λ j. j ≤ place)) c.in-Some-end.is is.reached in
@@ -52,8 +52,8 @@ returns-in-Some-end c =
     let few = i.few (let h = c.loop-start-test.true in let g = c.len-length.ensures.is in omega (arith, h, g)) in
     let paid = trial_cost (length e.nodes) c.loop-start.start first place c.loop-start.steps c.next_start.new.steps c.run-passed.new.steps is.passed next.cost.1 run.cost.1 in
     record {
-      ahead = ahead_still c.args.subject.prepared.now c.loop-start.ahead c.run-passed.new.self i.ahead run.table run.shape;
-      ahead_shape = same_shape c.args.ahead.now c.loop-start.ahead c.run-passed.new.self i.ahead_shape run.shape;
+      forward_one = forward_one_still c.args.subject.prepared.now c.loop-start.forward_one c.run-passed.new.self i.forward_one run.table run.shape;
+      forward_one_shape = same_shape c.args.forward_one.now c.loop-start.forward_one c.run-passed.new.self i.forward_one_shape run.shape;
       made = record {
         answer = (found_at e w c.args.from first end (omega (arith, i.after, is.after)) (none_on e w c.args.from c.loop-start.start first i.none is.none) long, within);
         few = rw c.saturating_sub.ensures (hit_room c.loop-start.tried place end c.args.from first (length w) _ (omega (arith, i.after, is.after)) is.passed is.within on within few);
@@ -75,13 +75,13 @@ returns-then-tried-length c =
     let run = c.run-passed.ensures in
     let i = c.loop-start.invariant in
     let is = trial_is (expression_tree e) w c.args.begins.now c.loop-start.start first c.run-passed.result.place c.run-passed.result.end c.requires.begins c.in-Some.ensures.next run.after run.within run.reached
-    (run.longest i.ahead.single) in
+    (run.longest i.forward_one.single) in
     let none : c.run-passed.result.end ≡ None = cc in
     let few = i.few (let h = c.loop-start-test.true in let g = c.len-length.ensures.is in omega (arith, h, g)) in
     let paid = trial_cost (length e.nodes) c.loop-start.start first c.run-passed.result.place c.loop-start.steps c.next_start.new.steps c.run-passed.new.steps is.passed next.cost.1 run.cost.1 in
     record {
-      ahead = ahead_still c.args.subject.prepared.now c.loop-start.ahead c.run-passed.new.self i.ahead run.table run.shape;
-      ahead_shape = same_shape c.args.ahead.now c.loop-start.ahead c.run-passed.new.self i.ahead_shape run.shape;
+      forward_one = forward_one_still c.args.subject.prepared.now c.loop-start.forward_one c.run-passed.new.self i.forward_one run.table run.shape;
+      forward_one_shape = same_shape c.args.forward_one.now c.loop-start.forward_one c.run-passed.new.self i.forward_one_shape run.shape;
       made = record {
         answer = (
           omega (arith, i.after, is.after),
@@ -98,8 +98,8 @@ pub returns : goal.returns
 returns c =
     let i = c.loop-start.invariant in
     record {
-      ahead = i.ahead;
-      ahead_shape = i.ahead_shape;
+      forward_one = i.forward_one;
+      forward_one_shape = i.forward_one_shape;
       made = record {
         answer = λ h k low high. i.none h k low (omega (arith, high, c.loop-start-test.false, c.len-length.ensures.is));
         few = i.room;
@@ -110,8 +110,8 @@ returns c =
 
 pub loop-start-init : goal.loop-start-init
 loop-start-init c = record {
-  ahead = c.requires.ahead;
-  ahead_shape = (refl, refl, refl, refl, refl);
+  forward_one = c.requires.forward_one;
+  forward_one_shape = (refl, refl, refl, refl, refl);
   none = λ h k low high. absurd (omega arith);
   after = omega arith;
   within = omega arith;
@@ -129,14 +129,14 @@ loop-start-preserved c =
     let run = c.run-passed.ensures in
     let i = c.loop-start.invariant in
     let is = trial_is (expression_tree e) w c.args.begins.now c.loop-start.start first c.run-passed.result.place c.run-passed.result.end c.requires.begins c.in-Some.ensures.next run.after run.within run.reached
-    (run.longest i.ahead.single) in
+    (run.longest i.forward_one.single) in
     let none : c.run-passed.result.end ≡ None = cc in
     let next = c.in-Some.ensures.cost in
     let few = i.few (let h = c.loop-start-test.true in let g = c.len-length.ensures.is in omega (arith, h, g)) in
     let paid = trial_cost (length e.nodes) c.loop-start.start first c.run-passed.result.place c.loop-start.steps c.next_start.new.steps c.run-passed.new.steps is.passed next.1 run.cost.1 in
     record {
-      ahead = ahead_still c.args.subject.prepared.now c.loop-start.ahead c.run-passed.new.self i.ahead run.table run.shape;
-      ahead_shape = same_shape c.args.ahead.now c.loop-start.ahead c.run-passed.new.self i.ahead_shape run.shape;
+      forward_one = forward_one_still c.args.subject.prepared.now c.loop-start.forward_one c.run-passed.new.self i.forward_one run.table run.shape;
+      forward_one_shape = same_shape c.args.forward_one.now c.loop-start.forward_one c.run-passed.new.self i.forward_one_shape run.shape;
       none = none_more e w c.args.from first (none_on e w c.args.from c.loop-start.start first i.none is.none) (subst (IsLongestFrom (expression_tree e) w first) none is.longest);
       after = omega (arith, i.after, is.after);
       within = omega (arith, is.passed, is.within);

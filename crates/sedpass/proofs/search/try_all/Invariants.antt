@@ -1,12 +1,12 @@
 use Rattle.std.proofs.Common.{◌+◌, ◌-◌, ◌*◌, ◌/◌, ◌≤◌, max, length}
 use Rattle.sedpass.proofs.Words.{NoneIn, expression_tree, TakesAtLeast, CostsWithin}
-use Rattle.sedpass.specs.Table.{IsAhead, SameShape}
+use Rattle.sedpass.specs.Table.{IsForwardOne, SameShape}
 use Rattle.sedpass.proofs.search.try_all.Given as goal
 
 abbrev pub invariant-loop-start : goal.invariant-loop-start
 invariant-loop-start l = record {
-  ahead : IsAhead l.subject.prepared.now l.ahead;
-  ahead_shape : SameShape l.initial.ahead l.ahead;
+  forward_one : IsForwardOne l.subject.prepared.now l.forward_one;
+  forward_one_shape : SameShape l.initial.forward_one l.forward_one;
   none : NoneIn (expression_tree l.subject.prepared.now.arena.expr) l.subject.text.now l.from l.start;
   after : l.from ≤ l.start;
   within : l.start ≤ length l.subject.text.now + 1;

@@ -40,10 +40,10 @@ loop-place-init c =
       above = omega arith;
       below = c.requires.from;
       keeps = keeps_same p w c.args.table.now c.args.self.now _ refl refl refl c.requires.kept;
-      ahead = first.codes.table;
-      ahead_shape = (refl, refl, refl, refl, refl);
+      forward_one = first.codes.table;
+      forward_one_shape = (refl, refl, refl, refl, refl);
       offset = names_offset p c.first-code.new.self first.codes.table _ _ _ first.codes.names c.offset_of-offset.ensures;
-      follows = follows_first p w c.args.ahead.now c.first-code.new.self c.args.a c.args.from c.offset_of-offset.result c.kind_of-kind.result c.requires.forwards.0 first.codes.adds.shape.0
+      follows = follows_first p w c.args.forward_one.now c.first-code.new.self c.args.a c.args.from c.offset_of-offset.result c.kind_of-kind.result c.requires.forwards.0 first.codes.adds.shape.0
           c.kind_of-kind.ensures.begin (subst (λ n. IsTrue c.kind_of-kind.result.end ↔ (c.args.from ≡ n)) c.len.ensures.is c.kind_of-kind.ensures.end)
           (names_state p c.first-code.new.self first.codes.table _ _ _ first.codes.names c.offset_of-offset.ensures);
       meets = λ q after before. absurd (omega arith);
@@ -52,7 +52,7 @@ loop-place-init c =
     }
 
 pub first-code-requires : goal.first-code-requires
-first-code-requires c = record { table = c.requires.ahead; root = (let a = c.requires.a in let root = c.requires.kept.region.root.0 in omega (arith, a, root), λ all. absurd (true≢false (sym all ∙ c.requires.forwards.1))) }
+first-code-requires c = record { table = c.requires.forward_one; root = (let a = c.requires.a in let root = c.requires.kept.region.root.0 in omega (arith, a, root), λ all. absurd (true≢false (sym all ∙ c.requires.forwards.1))) }
 
 pub ready-to-requires : goal.ready-to-requires
 ready-to-requires c = record { kept = c.loop-place.invariant.keeps.kept; place = c.loop-place-test.true }
@@ -64,8 +64,8 @@ meet-reached-requires c =
     let first = c.first-code.ensures.codes.adds.shape.0 in
     record {
       kept = ready.keeps.kept;
-      ahead = before.ahead;
-      forwards = (ap (λ v. v.mirrored) (before.ahead_shape.0 ∙ first) ∙ c.requires.forwards.0, ap (λ v. v.all_starts) (before.ahead_shape.0 ∙ first) ∙ c.requires.forwards.1);
+      forward_one = before.forward_one;
+      forwards = (ap (λ v. v.mirrored) (before.forward_one_shape.0 ∙ first) ∙ c.requires.forwards.0, ap (λ v. v.all_starts) (before.forward_one_shape.0 ∙ first) ∙ c.requires.forwards.1);
       offset = before.offset;
       from = ready.from;
       to = (let is = ready.to.0 in let on = ready.to.1 in omega (arith, is, on));
@@ -88,8 +88,8 @@ loop-place-preserved c =
       above = (let h = before.above in omega (arith, h, up));
       below = (let h = ready.keeps.kept.region.within in let g = meet.keeps.same.end in omega (arith, h, g, at));
       keeps = keeps_then _ _ c.args.table.now c.ready-to.new.table c.ready-to.new.table c.args.self.now c.ready-to.new.self c.meet-reached.new.self (keeps here) meet.keeps;
-      ahead = meet.ahead;
-      ahead_shape = same_shape c.first-code.new.self c.loop-place.ahead c.meet-reached.new.ahead before.ahead_shape meet.shape;
+      forward_one = meet.forward_one;
+      forward_one_shape = same_shape c.first-code.new.self c.loop-place.forward_one c.meet-reached.new.forward_one before.forward_one_shape meet.shape;
       offset = meet.offset;
       follows = (meet.meets c.args.a c.args.from (low here) before.above before.follows).0;
       meets = meets here;
@@ -116,8 +116,8 @@ returns-then-place-to c =
     let still = keeps here in
     record {
       keeps = keeps_then _ _ c.args.table.now c.ready-to.new.table c.ready-to.new.table c.args.self.now c.ready-to.new.self c.meet-reached.new.self still meet.keeps;
-      ahead = meet.ahead;
-      shape = same_shape c.args.ahead.now c.first-code.new.self c.meet-reached.new.ahead first.codes.adds.shape (same_shape c.first-code.new.self c.loop-place.ahead c.meet-reached.new.ahead before.ahead_shape meet.shape);
+      forward_one = meet.forward_one;
+      shape = same_shape c.args.forward_one.now c.first-code.new.self c.meet-reached.new.forward_one first.codes.adds.shape (same_shape c.first-code.new.self c.loop-place.forward_one c.meet-reached.new.forward_one before.forward_one_shape meet.shape);
       within = (let h = ready.keeps.kept.region.within in let g = still.same.end in omega (arith, under, h, g));
       ceases = (
         (let h = before.above in let g = meet.after in omega (arith, h, g)),
@@ -144,8 +144,8 @@ returns c =
     let end = meet_end p w c.args.table.now c.args.self.now c.args.a c.args.from c.requires.kept in
     record {
       keeps = last.keeps;
-      ahead = last.ahead;
-      shape = same_shape c.args.ahead.now c.first-code.new.self c.loop-place.ahead first.codes.adds.shape last.ahead_shape;
+      forward_one = last.forward_one;
+      shape = same_shape c.args.forward_one.now c.first-code.new.self c.loop-place.forward_one first.codes.adds.shape last.forward_one_shape;
       within = omega (arith, at);
       ceases = (
         last.above,

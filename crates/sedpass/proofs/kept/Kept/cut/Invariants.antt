@@ -9,10 +9,10 @@ invariant-loop-place l = record {
   above : l.from ≤ l.place;
   below : l.place ≤ l.self.region.end;
   keeps : KeepsRegion l.subject.prepared.now l.subject.text.now l.initial.table l.table l.fn.self l.self;
-  ahead : IsTable l.subject.prepared.now l.ahead;
-  ahead_shape : SameShape l.initial.ahead l.ahead;
-  offset : IsOffset l.ahead l.offset;
-  follows : Follows l.subject.prepared.now l.subject.text.now l.ahead l.a l.from l.place l.offset;
+  forward_one : IsTable l.subject.prepared.now l.forward_one;
+  forward_one_shape : SameShape l.initial.forward_one l.forward_one;
+  offset : IsOffset l.forward_one l.offset;
+  follows : Follows l.subject.prepared.now l.subject.text.now l.forward_one l.a l.from l.place l.offset;
   meets : Meet l.subject.prepared.now l.subject.text.now l.initial.table l.initial.self l.a l.from l.from l.place;
   cost : CostsWithin l.initial.steps l.steps (owed_region (length l.subject.prepared.now.arena.expr.nodes) l.initial.self.region l.from + 36 * length l.subject.prepared.now.arena.expr.nodes * l.place) (owed_region (length l.subject.prepared.now.arena.expr.nodes) l.self.region l.place + 36 * length l.subject.prepared.now.arena.expr.nodes * l.from);
   counts : TakesAtLeast l.initial.steps l.steps (2 * (l.place - l.from));

@@ -13,7 +13,7 @@ loop-place-init c = record {
   region = refl;
   states = refl;
   edges = refl;
-  ahead = c.requires.ahead;
+  forward_one = c.requires.forward_one;
   shape = (refl, refl, refl, refl, refl);
   offset = c.requires.offset;
   meets = λ a i low start follows. (follows, λ q after before. absurd (omega (arith, after, before)));
@@ -28,7 +28,7 @@ index-requires c =
     omega (arith, c.loop-place-test.true, ap (λ r. r.to) old.region, ap (λ v. length v.items) old.states, region.within, region.inside, region.long)
 
 pub state_at-requires : goal.state_at-requires
-state_at-requires c = c.loop-place.invariant.ahead.layout.small
+state_at-requires c = c.loop-place.invariant.forward_one.layout.small
 
 -- the state of the place is in the table, and its number was read
 here : (c : After-index) → (c.args.self.now.region.from ≤ c.loop-place.place) × (c.loop-place.place < c.args.self.now.region.to) × (c.index.result.now ≡ slice_index_or c.args.self.now.states.items c.loop-place.place c.index.result.now)
@@ -61,7 +61,7 @@ returns-then-not-meets c =
     (omega (arith, old.cost.0, looked.0), omega (arith, old.cost.1, looked.1, c.nodes-nodes.ensures.value)) in
     record {
       keeps = keeps_same p w t k c.loop-place.self old.region old.states old.edges c.requires.kept;
-      ahead = old.ahead;
+      forward_one = old.forward_one;
       shape = old.shape;
       region = old.region;
       offset = old.offset;
@@ -69,7 +69,7 @@ returns-then-not-meets c =
       within = omega (arith, there.1);
       meets = λ a i low start follows.
           let on = old.meets a i low start follows in
-          let tells = meet_read p w t c.loop-place.ahead k a i place c.loop-place.offset c.nodes-nodes.result c.state_at.result c.index.result.now c.meets.result c.requires.kept there.0 there.1 on.0
+          let tells = meet_read p w t c.loop-place.forward_one k a i place c.loop-place.offset c.nodes-nodes.result c.state_at.result c.index.result.now c.meets.result c.requires.kept there.0 there.1 on.0
           c.nodes-nodes.ensures.value c.state_at.ensures there.2 c.meets.ensures.meets in
           (on.0, on.1, λ under met. true≢false (sym (tells.1 met) ∙ c.if-not-meets.true));
       cost = cost;
@@ -84,7 +84,7 @@ byte-byte-requires c =
     record { inside = omega (arith, there.1, region.within, region.inside) }
 
 pub next-code-requires : goal.next-code-requires
-next-code-requires c = record { table = c.loop-place.invariant.ahead; offset = c.loop-place.invariant.offset }
+next-code-requires c = record { table = c.loop-place.invariant.forward_one; offset = c.loop-place.invariant.offset }
 
 pub offset_of-offset-requires : goal.offset_of-offset-requires
 offset_of-offset-requires c = names_some c.args.subject.prepared.now c.next-code.new.self _ c.next-code.result c.next-code.ensures.codes.names
@@ -111,14 +111,14 @@ loop-place-preserved c =
       region = old.region;
       states = old.states;
       edges = old.edges;
-      ahead = next.codes.table;
-      shape = same_shape c.args.ahead.now c.loop-place.ahead c.next-code.new.self old.shape next.codes.adds.shape;
+      forward_one = next.codes.table;
+      shape = same_shape c.args.forward_one.now c.loop-place.forward_one c.next-code.new.self old.shape next.codes.adds.shape;
       offset = names_offset p c.next-code.new.self next.codes.table _ _ _ next.codes.names c.offset_of-offset.ensures;
       meets = λ a i low start follows.
           let on = old.meets a i low start follows in
-          let tells = meet_read p w t c.loop-place.ahead k a i place c.loop-place.offset c.nodes-nodes.result c.state_at.result c.index.result.now c.meets.result c.requires.kept there.0 there.1 on.0
+          let tells = meet_read p w t c.loop-place.forward_one k a i place c.loop-place.offset c.nodes-nodes.result c.state_at.result c.index.result.now c.meets.result c.requires.kept there.0 there.1 on.0
           c.nodes-nodes.ensures.value c.state_at.ensures there.2 c.meets.ensures.meets in (
-            follows_next p w c.loop-place.ahead c.next-code.new.self a i place c.byte-byte.result c.loop-place.offset c.offset_of-offset.result _ front one next.codes.adds.shape (let h = old.above in omega (arith, h, start)) c.byte-byte.ensures.byte
+            follows_next p w c.loop-place.forward_one c.next-code.new.self a i place c.byte-byte.result c.loop-place.offset c.offset_of-offset.result _ front one next.codes.adds.shape (let h = old.above in omega (arith, h, start)) c.byte-byte.ensures.byte
                 (λ h. eqb-true (place + 1) c.len-length.result h ∙ last, λ e. eq-eqb (place + 1) c.len-length.result (e ∙ sym last))
                 (names_state p c.next-code.new.self next.codes.table _ _ _ next.codes.names c.offset_of-offset.ensures) on.0,
             meet_on p w t k a i c.args.from place on.1 (tells.0 c.if-not-meets.false),
@@ -137,7 +137,7 @@ returns c =
     let at : c.loop-place.place ≡ c.loop-place.self.region.to = (let h = old.below in let g = c.loop-place-test.false in omega (arith, h, g, to)) in
     record {
       keeps = keeps_same p w c.args.table.now c.args.self.now c.loop-place.self old.region old.states old.edges c.requires.kept;
-      ahead = old.ahead;
+      forward_one = old.forward_one;
       shape = old.shape;
       region = old.region;
       offset = old.offset;
@@ -145,7 +145,7 @@ returns c =
       within = omega (arith, to);
       meets = λ a i low start follows.
           let on = old.meets a i low start follows in
-          (subst (λ y. Follows p w c.loop-place.ahead a i y c.loop-place.offset) at on.0, subst (λ y. Meet p w c.args.table.now c.args.self.now a i c.args.from y) at on.1, λ under met. absurd (omega (arith, under, to)));
+          (subst (λ y. Follows p w c.loop-place.forward_one a i y c.loop-place.offset) at on.0, subst (λ y. Meet p w c.args.table.now c.args.self.now a i c.args.from y) at on.1, λ under met. absurd (omega (arith, under, to)));
       cost = (old.cost.0, rw (← at) (omega (arith, old.cost.1)));
       whole = λ _. rw (← at) old.cost;
       counts = rw (← at) old.counts;

@@ -1,7 +1,7 @@
 use Rattle.std.proofs.Common.{◌≡◌, ◌*◌, ◌^◌, ◌≤◌, ◌%◌, length, refl, ap, subst, arith}
 use Rattle.sedpass.proofs.Words.{shl_whole, Table}
 use Rattle.sedpass.specs.Table.{HasRoom}
-use Rattle.sedpass.proofs.TableLemmas.{made_roomy, no_states, none_noted}
+use Rattle.sedpass.proofs.TableLemmas.{has_parts, made_roomy, no_states, none_noted}
 use Rattle.sedpass.proofs.table.Table.made.Goals as goal
 
 pub returns : goal.returns
@@ -27,27 +27,18 @@ returns c =
     let index : 2 ≤ length T.index.items = omega (arith, c.in_ok-vec-3.ensures.len, T.index.ok) in
     let begins : length T.beginnings.items ≡ c.count_beginnings.result = omega (arith, c.in_ok-vec-4.ensures.len, T.beginnings.ok) in
     let noted = none_noted T.beginnings.items c.count_beginnings.result (c.in_ok-vec-4.ensures.items_if_clones_equal (λ y h. h)) in
-    let has : HasRoom c.args.nodes T = record {
-      count = omega arith;
-      marks = omega arith;
-      rows = record {
-        some = c.requires.some;
-        few = c.requires.few;
-        leaves = c.in_ok-new.ensures.count;
-        ends = c.in_ok-new-2.ensures.count;
-        leaf_marks = λ q lt. c.in_ok-new.ensures.marks q lt;
-        end_marks = λ q lt. c.in_ok-new-2.ensures.marks q lt;
-        roots = omega (arith, c.in_ok-vec.ensures.len, T.roots.ok);
-        flags = omega (arith, c.in_ok-vec-2.ensures.len, T.flags.ok);
-      };
-      cells = omega arith;
-      reserved = omega (arith, shifted);
-      capacity = c.in_ok-with_capacity.ensures.capacity;
-      index = index;
-      begins = λ root kind low. omega (arith, begins, c.count_beginnings.ensures.begins root kind low);
-      past = λ i. let zero = noted i in omega (arith, zero);
-      early = λ i. let zero = noted i in omega (arith, zero);
-    } in
+    let has = has_parts T c.count_beginnings.result refl
+    (record {
+      some = c.requires.some;
+      few = c.requires.few;
+      leaves = c.in_ok-new.ensures.count;
+      ends = c.in_ok-new-2.ensures.count;
+      leaf_marks = c.in_ok-new.ensures.marks;
+      end_marks = c.in_ok-new-2.ensures.marks;
+      roots = omega (arith, c.in_ok-vec.ensures.len, T.roots.ok);
+      flags = omega (arith, c.in_ok-vec-2.ensures.len, T.flags.ok);
+    })
+    shifted c.in_ok-with_capacity.ensures.capacity index begins c.count_beginnings.ensures.begins noted in
     record {
       way = refl;
       room = refl;
