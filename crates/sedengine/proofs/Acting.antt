@@ -5,7 +5,7 @@ use Rattle.sedengine.specs.State.{Entry, Task, do_at, State, Move, Setting}
 use Rattle.sedengine.specs.Move.{writing, quietly, then_do, in_table}
 use Rattle.sedengine.specs.Ends.{WithinLimits}
 use Rattle.sedengine.specs.Meters.{SinkView}
-use Rattle.sedengine.specs.Calls.{Delivers, NamesNone, Puts}
+use Rattle.sedengine.specs.Calls.{NamesNone, WritesAll}
 use Rattle.sedengine.specs.Run.{RunState, at_lines, run_setting}
 use Rattle.sedengine.specs.Holding.{BecomesOrFull}
 use Rattle.sedengine.specs.Queueing.{queueing, QueuesOrFull}
@@ -38,11 +38,11 @@ module _ {O T : Type 0} {tally : O → SinkView} {count : O → ℕ} {text : T �
   -- A command of an engine within its limits, which makes the move `made`.
   module _ {made : Setting → State → Option Move} {o : O} {t : T} (e : RunState) (within : (ls : List (List ℕ)) → WithinLimits e.limits (at_lines e ls)) where
     -- one that writes alone
-    pub acts_writing : (o' : O) (out : List (ℕ × ℕ)) (r : Result Unit Ended) → IsMove made e (λ ls. writing out (at_lines e ls)) → Puts (tally o) (tally o') out r → Delivers tally count o o' r → ActsHere tally count text made e e o o' t t r
-    acts_writing o' out r is put delivers = record {
-      acts = λ files told ls s c first. moves_writing e.limits (run_setting e files) s (at_lines e ls) (tally o) (tally o') out r c.fits (first ∙ is files ls) (within ls) c.lines put;
+    pub acts_writing : {o' : O} {out : List (ℕ × ℕ)} {r : Result Unit Ended} → IsMove made e (λ ls. writing out (at_lines e ls)) → WritesAll tally count o o' out r → ActsHere tally count text made e e o o' t t r
+    acts_writing {o'} {out} {r} is h = record {
+      acts = λ files told ls s c first. moves_writing e.limits (run_setting e files) s (at_lines e ls) (tally o) (tally o') out r c.fits (first ∙ is files ls) (within ls) c.lines h.puts;
       falls = omega arith;
-      leaves = leaves_written e o o' t out r put delivers;
+      leaves = leaves_written h;
     }
 
     -- one that leads to another state and writes nothing

@@ -12,7 +12,7 @@ use Rattle.sedengine.specs.State.{begin, rebegin, flush, State, Move, Setting, T
 use Rattle.sedengine.specs.Move.{acts, line_to, quietly, then_do, writing}
 use Rattle.sedengine.specs.Ends.{WithinLimits}
 use Rattle.sedengine.specs.Meters.{Sent, SinkView}
-use Rattle.sedengine.specs.Calls.{Delivers, Puts}
+use Rattle.sedengine.specs.Calls.{Puts, WritesAll}
 use Rattle.sedengine.specs.Run.{RunState, at_lines, run_setting}
 use Rattle.sedengine.specs.Steps.{ActsHere, LeavesGiven, Moves, MakesMove, weight}
 use Rattle.sedengine.specs.Inside.{run_state_of, tasks_of, IsConsistent, IsEmptied}
@@ -53,13 +53,13 @@ deletes a e e2 files ls o next_step c1 old mid new out r seen is gained h =
 -- The same with what the call that ends the cycle says of its weight, and of how it leaves what it was given.
 pub acts_deleting : {O T : Type 0} {tally : O → SinkView} {count : O → ℕ} {text : T → ℕ → Option (List ℕ)} {made : Setting → State → Option Move} {o o1 o2 : O} {t t2 : T} (a : Inside) (e e2 : RunState) (next_step : NextStep) (c1 : Contents) (out : List (ℕ × ℕ)) (r : Result Unit Ended) →
     run_state_of a ≡ e → ((files : ℕ → List ℕ) (ls : List (List ℕ)) → made (run_setting e files) (at_lines e ls) ≡ writing out (then_do (flush ∷ tasks_of next_step) (at_lines (with_pattern e c1.bytes) ls))) →
-    Sent (tally o) (tally o1) out → Delivers tally count o o1 (Ok tt) →
+    WritesAll tally count o o1 out (Ok tt) →
     ((files : ℕ → List ℕ) → TellsFiles (text t) files → (ls : List (List ℕ)) → Moves a.limits (run_setting (run_state_of a) files) (then_do (flush ∷ tasks_of next_step) (at_lines (run_state_of (record a { pattern = c1 })) ls)) (at_lines e2 ls) (tally o1) (tally o2) r) →
     weight e2 ≤ weight (run_state_of (record a { pattern = c1 })) + 8 → LeavesGiven tally count text (run_state_of (record a { pattern = c1 })) e2 o1 o2 t t2 r → ActsHere tally count text made e e2 o o2 t t2 r
-acts_deleting a e e2 next_step c1 out r seen is gained first moves falls leaves = record {
-  acts = λ files told ls. deletes a e e2 files ls _ next_step c1 _ _ _ out r seen (is files ls) gained (moves files told ls);
+acts_deleting a e e2 next_step c1 out r seen is first moves falls leaves = record {
+  acts = λ files told ls. deletes a e e2 files ls _ next_step c1 _ _ _ out r seen (is files ls) first.puts (moves files told ls);
   falls = falls_seen a e (run_state_of (record a { pattern = c1 })) e2 seen refl falls;
-  leaves = leaves_seen a e (run_state_of (record a { pattern = c1 })) seen refl refl (leaves_after first leaves);
+  leaves = leaves_seen a e (run_state_of (record a { pattern = c1 })) seen refl refl (leaves_after first.devices leaves);
 }
 
 -- The text of `c` can't be written.
@@ -121,7 +121,7 @@ uncut_performs a e e' files ls c1 sinks sinks' r seen absent is h =
     rw (← seen) (rw (uncut_is (run_state_of a) files ls (newline_absent a.pattern.bytes absent)) (subst S is h))
 
 -- the text of `c`, as the engine is seen
-pub text_put : (a : Inside) (e : RunState) (text : ℕ) (bytes : List ℕ) (old new : SinkView) (r : Result Unit Ended) → run_state_of a ≡ e → slice_get a.script.texts text ≡ Some bytes → Puts old new (line_to 0 bytes) r →
-    Puts old new (line_to 0 (unwrap_or (slice_get e.script.texts text) [])) r
-text_put a e text bytes old new r seen there h =
+pub text_put : {O : Type 0} {tally : O → SinkView} {count : O → ℕ} {o o' : O} {r : Result Unit Ended} (a : Inside) (e : RunState) (text : ℕ) (bytes : List ℕ) → run_state_of a ≡ e → slice_get a.script.texts text ≡ Some bytes →
+    WritesAll tally count o o' (line_to 0 bytes) r → WritesAll tally count o o' (line_to 0 (unwrap_or (slice_get e.script.texts text) [])) r
+text_put a e text bytes seen there h =
     rw (← seen) (rw there h)

@@ -4,23 +4,23 @@ use Rattle.std.specs.Prelude.{OnOk, OnErr, slice_get}
 use Rattle.std.proofs.lemmas.Option.{slice_get_past}
 use Rattle.sedspace.specs.Spaces.{Entries}
 use Rattle.sedspace.specs.declared.errors.Full.{Full}
-use Rattle.sedengine.specs.State.{Limits, Task, begin, rebegin, do_at, print_pattern, empty_pattern, flush, State, Move, Setting}
+use Rattle.sedengine.specs.State.{Limits, Entry, Task, begin, rebegin, do_at, print_pattern, empty_pattern, flush, State, Move, Setting}
 use Rattle.sedengine.specs.Move.{reach, writing, then_do, line_to}
 use Rattle.sedengine.specs.Ends.{WithinLimits}
 use Rattle.sedengine.specs.Held.{SameLengths}
 use Rattle.sedengine.specs.Meters.{Sent, SinkView}
-use Rattle.sedengine.specs.Calls.{Puts}
+use Rattle.sedengine.specs.Calls.{Puts, WritesAll}
 use Rattle.sedengine.specs.Run.{RunState, at_lines, run_setting, starts_cycle}
 use Rattle.sedengine.specs.Steps.{MovesTo, at_end, Moves, MakesMove, costs, weight}
-use Rattle.sedengine.specs.Queueing.{flushed, with_turns}
-use Rattle.sedengine.specs.Inside.{run_state_of, tasks_of, entries_of, IsConsistent, CommandQueues}
+use Rattle.sedengine.specs.Queueing.{QueuesOrFull, flushed, queued_more, with_turns}
+use Rattle.sedengine.specs.Inside.{run_state_of, tasks_of, entries_of, entry_by, IsConsistent, CommandQueues}
 use Rattle.sedengine.specs.declared.machine.Machine.TheInside.{Inside}
 use Rattle.sedengine.specs.declared.next_step.NextStep.{NextStep}
 use Rattle.sedengine.specs.declared.next_step.NextStep.TheVariants as p
 use Rattle.sedengine.specs.declared.ends.Ended.{Ended}
-use Rattle.sedengine.specs.declared.ends.Ended.TheVariants.{TurnsSpent}
-use Rattle.sedengine.proofs.Moves.{Moves-then, Stopped-as, move_at, moves_fits, moves_then, quietly_then, ran_fits_now, ran_quietly, stopped_here, stopped_writing}
-use Rattle.sedengine.proofs.Queueing.{AllQueue-snoc}
+use Rattle.sedengine.specs.declared.ends.Ended.TheVariants.{QueueFull, TurnsSpent}
+use Rattle.sedengine.proofs.Moves.{Moves-then, Stopped-as, move_at, moves_fits, moves_then, quietly_then, ran_fits_now, ran_quietly, same_self, stopped_here, stopped_writing}
+use Rattle.sedengine.proofs.Queueing.{AllQueue-snoc, entries_of-snoc, length-entries_of}
 use Rattle.sedengine.proofs.Tasks.{fits_of, fits_tasks}
 
 -- what is known of the fields holds of the engine as it is seen
@@ -33,16 +33,19 @@ then_same s ts h = rw (← h) refl
 
 -- The queue of an engine with the fields a is written.
 pub flush_moves : (a : Inside) (e e' : RunState) (g : Setting) (ls : List (List ℕ)) (rest : List Task) (turns : ℕ) (sinks sinks' : SinkView) (r : Result Unit Ended) → run_state_of a ≡ e → IsConsistent a →
-    ((s : State) (rest : List Task) → s.tasks ≡ flush ∷ rest → s.queue ≡ entries_of a.script a.queue.items → s.turns ≡ a.turns → WithinLimits a.limits s → MovesTo a.limits g s (record s { queue = []; tasks = rest; turns = turns }) s sinks sinks' r) →
+    ((s now : State) (rest : List Task) (later : List Entry) → s.tasks ≡ flush ∷ rest → s.queue ≡ entries_of a.script a.queue.items → s.turns ≡ a.turns → WithinLimits a.limits s → SameLengths s now → s.lines ≡ now.lines →
+    MovesTo a.limits g s (record s { tasks = rest; queue = []; turns = turns }) now sinks sinks' r) →
     OnOk r (e' ≡ flushed e turns) → OnErr r (e' ≡ with_turns e turns) →
     Moves e.limits g (then_do (flush ∷ rest) (at_lines e ls)) (then_do rest (at_lines e' ls)) sinks sinks' r
 flush_moves a e e' g ls rest turns sinks sinks' (Ok u) seen i h ok err =
     let f = fits_tasks a.limits (at_lines (run_state_of a) ls) (flush ∷ rest) (fits_of a ls i) in
-    rw ok (rw (← seen) (h (then_do (flush ∷ rest) (at_lines (run_state_of a) ls)) rest refl refl refl f))
+    let s : State = then_do (flush ∷ rest) (at_lines (run_state_of a) ls) in
+    rw ok (rw (← seen) (h s s rest [] refl refl refl f (same_self s) refl))
 flush_moves a e e' g ls rest turns sinks sinks' (Err end) seen i h ok err =
     let f = fits_tasks a.limits (at_lines (run_state_of a) ls) (flush ∷ rest) (fits_of a ls i) in
     let s : State = then_do (flush ∷ rest) (at_lines (run_state_of a) ls) in
-    rw err (rw (← seen) (Stopped-as a.limits g s s (then_do rest (at_lines (with_turns (run_state_of a) turns) ls)) sinks sinks' end refl refl refl refl (h s rest refl refl refl f)))
+    let now : State = then_do rest (at_lines (with_turns (run_state_of a) turns) ls) in
+    rw err (rw (← seen) (h s now rest [] refl refl refl f (record { pattern = refl; hold = refl; queue = λ goes. refl; entries = omega arith }) refl))
 
 -- The pattern space is written, and then what comes after it.
 pub print_moves : (e e' : RunState) (files : ℕ → List ℕ) (ls : List (List ℕ)) (rest : List Task) (old mid new : SinkView) (r : Result Unit Ended) → WithinLimits e.limits (at_lines e ls) →
@@ -152,6 +155,22 @@ queue_is_run a q k (Ok u) i h ok room err = let same = i.queue_limit in rw ok (r
 })
 queue_is_run a q k (Err f) i h ok room err = rw err i
 
+-- what the call that puts it there answers, as the engine is seen
+pub queued_seen : (a : Inside) (e : RunState) (q : Entries) (k : ℕ) → run_state_of a ≡ e → IsConsistent a → q ≡ record a.queue { items = a.queue.items ++ k ∷ [] } → length a.queue.items < a.queue.limit →
+    QueuesOrFull e (run_state_of (record a { queue = q })) (entry_by e.script.texts (slice_get e.script.commands k)) (Ok tt)
+queued_seen a e q k seen i is room =
+    let limit = i.queue_limit in
+    let few : length (entries_of a.script a.queue.items) < a.limits.queue = omega (arith, limit, room, length-entries_of a.script a.queue.items) in
+    let more : run_state_of (record a { queue = q }) ≡ queued_more (run_state_of a) (entry_by a.script.texts (slice_get a.script.commands k)) =
+    ap (λ (q : Entries). run_state_of (record a { queue = q })) is
+    ∙ ap (λ (es : List Entry). let e : RunState = record (run_state_of a) { state = record (run_state_of a).state { queue = es } } in e) (entries_of-snoc a.script a.queue.items k) in
+    rw (← seen) (more, few)
+
+pub full_seen : (a : Inside) (e : RunState) (q : Entries) (k : ℕ) → run_state_of a ≡ e → IsConsistent a → q ≡ a.queue → length a.queue.items ≡ a.queue.limit →
+    QueuesOrFull e (run_state_of (record a { queue = q })) (entry_by e.script.texts (slice_get e.script.commands k)) (Err (QueueFull a.number))
+full_seen a e q k seen i is full =
+    rw (← seen) (ap (λ (q : Entries). run_state_of (record a { queue = q })) is, refl, length-entries_of a.script a.queue.items ∙ full ∙ i.queue_limit)
+
 -- the tasks that a place stands for weigh little
 place_costs : (next_step : NextStep) → costs (tasks_of next_step) ≤ 2
 place_costs p.Begin = omega arith
@@ -173,8 +192,8 @@ pub queues_seen : (a : Inside) (e : RunState) (k : ℕ) → run_state_of a ≡ e
 queues_seen a e k seen h = rw (← seen) at h
 
 -- what is written, as the engine is seen
-pub puts_seen : (a : Inside) (e : RunState) (f : RunState → List (ℕ × ℕ)) (sinks sinks' : SinkView) (r : Result Unit Ended) → run_state_of a ≡ e → Puts sinks sinks' (f (run_state_of a)) r → Puts sinks sinks' (f e) r
-puts_seen a e f sinks sinks' r seen h = rw (← seen) h
+pub writes_seen : {O : Type 0} {tally : O → SinkView} {count : O → ℕ} {o o' : O} {r : Result Unit Ended} (a : Inside) (e : RunState) (f : RunState → List (ℕ × ℕ)) → run_state_of a ≡ e → WritesAll tally count o o' (f (run_state_of a)) r → WritesAll tally count o o' (f e) r
+writes_seen a e f seen h = rw (← seen) h
 
 -- an end that came while the queue was written is told of the engine, whatever it was to do next
 pub stopped_anyway : (l : Limits) (g : Setting) (s : State) (e : RunState) (ls : List (List ℕ)) (rest : List Task) (sinks sinks' : SinkView) (end : Ended) → Moves l g s (then_do rest (at_lines e ls)) sinks sinks' (Err end) → Moves l g s (at_lines e ls) sinks sinks' (Err end)

@@ -15,7 +15,7 @@ use Rattle.sedengine.proofs.Moves.{chain, ran_once, ran_quietly, stopped_writing
 
 -- texts that kept their bytes tell the same files
 pub tells_on : (old new : ℕ → Option (List ℕ)) (files : ℕ → List ℕ) → TellsFiles old files → ((k : ℕ) → Keeps (old k) (new k)) → TellsFiles new files
-tells_on old new files writes_text keeps = λ k. kept (old k) (new k) (files k) (writes_text k) (keeps k)
+tells_on old new files told keeps = λ k. kept (old k) (new k) (files k) (told k) (keeps k)
   where
     kept : (a b : Option (List ℕ)) (bytes : List ℕ) → a ≡ Some bytes → Keeps a b → b ≡ Some bytes
     kept None b bytes is keeps = cc

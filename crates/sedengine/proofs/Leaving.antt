@@ -10,7 +10,7 @@ use Rattle.sedscript.specs.declared.types.Action.{Action}
 use Rattle.sedscript.specs.declared.types.Action.TheVariants.{Block}
 use Rattle.sedengine.specs.Passing.{passed_over}
 use Rattle.sedengine.specs.Choose.{reached_with}
-use Rattle.sedengine.specs.Calls.{Delivers, NamesNone, Puts, ReadsLines}
+use Rattle.sedengine.specs.Calls.{Delivers, NamesNone, ReadsLines, WritesAll}
 use Rattle.sedengine.specs.Meters.{SinkView}
 use Rattle.sedengine.specs.Run.{SameRun, RunState}
 use Rattle.sedengine.specs.Bringing.{brought}
@@ -21,16 +21,9 @@ use Rattle.sedspace.specs.declared.lines.Got.{Got}
 use Rattle.sedspace.specs.declared.lines.Got.TheVariants.{End, Line}
 use Rattle.sedengine.specs.declared.ends.Ended.{Ended}
 use Rattle.sedengine.specs.declared.machine.Machine.TheInside.{Inside}
-use Rattle.sedengine.specs.declared.ends.Ended.TheVariants.{InputBroken}
 use Rattle.sedengine.proofs.Runs.{SameRun-then, same_seen}
 use Rattle.sedengine.proofs.Streams.{ReadsLines-none, ReadsLines-then, ReadsLines-unread}
-use Rattle.sedengine.proofs.Writing.{Delivers-none, Delivers-quiet, Delivers-then}
-
--- a call that wrote names no source
-pub puts_unread : (old new : SinkView) (out : List (ℕ × ℕ)) (r : Result Unit Ended) → Puts old new out r → r ≡ Err InputBroken → ⊥
-puts_unread old new out (Ok u) h is = cc
-puts_unread old new out (Err InputBroken) h is = let named = h.3 in cc
-puts_unread old new out (Err other) h is = cc
+use Rattle.sedengine.proofs.Writing.{Delivers-none, Delivers-quiet, Delivers-then, writes_alone}
 
 module _ {R O T : Type 0} {remaining : R → Option (List ℕ)} {failures : R → ℕ} {reference : R → List GName} {tally : O → SinkView} {count : O → ℕ} {text : T → ℕ → Option (List ℕ)} where
   pub leaves_none : {e : RunState} {l : Stream R} {o : O} {t : T} → LeavesLines remaining failures reference tally count text e e l l o o t t (Ok tt)
@@ -65,8 +58,8 @@ module _ {O T : Type 0} {tally : O → SinkView} {count : O → ℕ} {text : T �
   leaves_stopped h = leaves_quiet h (record { script = refl; limits = refl })
 
   -- one that writes alone
-  pub leaves_written : (e : RunState) (o o' : O) (t : T) (out : List (ℕ × ℕ)) (r : Result Unit Ended) → Puts (tally o) (tally o') out r → Delivers tally count o o' r → LeavesGiven tally count text e e o o' t t r
-  leaves_written e o o' t out r put h = record { devices = record { output = h; input = puts_unread _ _ out r put }; same = record { script = refl; limits = refl }; kept = λ j. Keeps-refl _ }
+  pub leaves_written : {e : RunState} {o o' : O} {t : T} {out : List (ℕ × ℕ)} {r : Result Unit Ended} → WritesAll tally count o o' out r → LeavesGiven tally count text e e o o' t t r
+  leaves_written h = record { devices = writes_alone h; same = record { script = refl; limits = refl }; kept = λ j. Keeps-refl _ }
 
   -- a call on an engine of the same script and limits, made of the fields a
   pub leaves_seen : (a : Inside) (e e1 : RunState) {e' : RunState} {o o' : O} {t t' : T} {r : Result Unit Ended} → run_state_of a ≡ e → e1.script ≡ a.script → e1.limits ≡ a.limits → LeavesGiven tally count text e1 e' o o' t t' r → LeavesGiven tally count text e e' o o' t t' r

@@ -1,6 +1,6 @@
 -- What a metered call of the machine tells of the engine.
 use Rattle.std.proofs.Common.{◌≡◌, ℕ, suc, zero, ◌+◌, ◌<◌, ◌≤◌, min, List, [], ◌∷◌, length, get_or, Option, Some, None, Result, Ok, Err, refl, subst, sym, ap, ◌∙◌, arith}
-use Rattle.std.specs.Prelude.{IfSome, OnOk}
+use Rattle.std.specs.Prelude.{IfSome, IsNone, OnOk}
 use Rattle.sedscript.specs.Program.{Program}
 use Rattle.sedengine.specs.State.{Limits}
 use Rattle.std.specs.List.{All}
@@ -127,3 +127,12 @@ sound_more (progress.Ended end) h is = cc
 
 pub below_both : {k m n : ℕ} → k < min m n → (k < m) × (k < n)
 below_both h = (grind (arith, h), grind (arith, h))
+
+-- an end that has come, and one that has not
+pub not_none : {A : Type 0} {x : A} (o : Option A) → o ≡ Some x → IsNone o → ⊥
+not_none None is h = cc
+not_none (Some y) is h = cc
+
+pub never_some : {A : Type 0} (P : A → Type 0) (o o' : Option A) → o ≡ o' → ((x : A) → o ≡ Some x → ⊥) → IfSome o' P
+never_some P o None same never = tt
+never_some P o (Some x) same never = absurd (never x same)

@@ -25,7 +25,7 @@ use Rattle.sedengine.specs.Ends.{WithinLimits, named_sink}
 use Rattle.sedengine.specs.Calls.{ReadsLines}
 use Rattle.sedengine.specs.Steps.{weight}
 use Rattle.sedengine.specs.Run.{RunState, SameRun, at_lines, run_setting, FailedSource}
-use Rattle.sedengine.specs.Passing.{AllowsLines, BlockLeftAlone, BreaksOff, BreaksOffBy, ClearTo, AsksNoNumber, IsExtent, IsIdleOf, IsLineOf, PassesLinesOver, RangesIdle, StepsPassing, WritesLines, bytes_of_lines, counted_block, engine_after, judged, line_brought}
+use Rattle.sedengine.specs.Passing.{AllowsLines, BlockLeftAlone, BreaksOff, BreaksOffBy, ClearTo, AsksNoNumber, IsExtent, IsIdleOf, IsLineOf, PassesLinesOver, RangesIdle, StepsPassing, PutsLines, bytes_of_lines, counted_block, engine_after, judged, line_brought}
 use Rattle.sedengine.specs.Inside.{IsConsistent, entries_of, run_state_of}
 use Rattle.sedengine.specs.declared.block.Extent.{Extent}
 use Rattle.sedengine.specs.declared.idle.Idle.{Idle}
@@ -95,7 +95,7 @@ alone_of e files ahead xs b h = record {
 
 -- the first lines of a block that may be passed over may be
 abbrev pub shorter : IdleLines → ℕ → ℕ → IdleLines
-shorter b bytes split_lines = record b { bytes = bytes; lines = split_lines }
+shorter b bytes lines = record b { bytes = bytes; lines = lines }
 
 All-first : {X : Type 0} (P : X → Type 0) (xs ys : List X) → All P (xs ++ ys) → All P xs
 All-first {X} P xs ys h = λ k d less. let low : k < length (xs ++ ys) = omega (arith, less, length-append xs ys) in subst P (get_or_append_left xs ys d k less) (h k d low)
@@ -416,7 +416,7 @@ module _ {R : Type 0} (remaining : R → Option (List ℕ)) (from to : Stream R)
       (subst (λ (e : RunState). Sent old new (cond e.script.quiet [] (to_sink 0 (take b.bytes from.ahead)))) same (subst (λ (w : List ℕ). Sent old new (cond e₁.script.quiet [] (to_sink 0 (take b.bytes w)))) is sent))
 
   pub breaks_seen : (cut : CutShort) (old new : SinkView) → lines_left remaining from ≡ Some ls → e₁ ≡ e → ahead ≡ from.ahead → PassesLinesOver e ahead b → WithinLimits e.limits (at_lines e ls) → e.state.tasks ≡ begin ∷ [] → e.state.pattern ≡ [] →
-      BreaksOffBy from to e₁ e' cut.done b.bytes → WritesLines old new e₁.script.quiet (take b.bytes ahead) (Err cut) → StepsPassing remaining from to ls e.limits (run_setting e files) (at_lines e ls) e' old new (Err cut.end)
+      BreaksOffBy from to e₁ e' cut.done b.bytes → PutsLines old new e₁.script.quiet (take b.bytes ahead) (Err cut) → StepsPassing remaining from to ls e.limits (run_setting e files) (at_lines e ls) e' old new (Err cut.end)
   breaks_seen cut old new known same is h fits begins empty off wrote =
       let x : BreaksOffBy from to e e' cut.done b.bytes = subst (λ (e : RunState). BreaksOffBy from to e e' cut.done b.bytes) same off in
       let loud : e.script.quiet ≡ false = subst (λ (e : RunState). e.script.quiet ≡ false) same wrote.0 in

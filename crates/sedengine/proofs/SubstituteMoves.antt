@@ -1,5 +1,5 @@
 -- What a substitution does is a move.
-use Rattle.std.proofs.Common.{◌≡◌, ℕ, zero, suc, ◌<◌, ◌≤◌, Bool, true, false, cond, List, [], ◌∷◌, length, get_or, Option, Some, Result, Ok, Err, refl, subst, sym, ap, ◌∙◌, arith, Vec, Global}
+use Rattle.std.proofs.Common.{◌≡◌, ℕ, zero, suc, ◌<◌, ◌≤◌, Bool, true, false, List, [], ◌∷◌, length, get_or, Option, Some, Result, Ok, Err, refl, subst, sym, ap, ◌∙◌, arith, Vec, Global}
 use Rattle.std.specs.Prelude.{slice_get}
 use Rattle.std.specs.Option.{option_or, option_map_or}
 use Rattle.std.proofs.lemmas.Option.{same_Some}
@@ -13,21 +13,20 @@ use Rattle.sedspace.specs.declared.errors.Full.{Full}
 use Rattle.sedengine.specs.State.{Task, do_at, State, Move, Setting, search_in}
 use Rattle.sedengine.specs.Substitute.{Occurrence, to_replace, each_occurrence, replaced_from}
 use Rattle.sedengine.specs.Select.{stands_for}
-use Rattle.sedengine.specs.Move.{next_move, quietly, writing, line_to, replaces}
+use Rattle.sedengine.specs.Move.{next_move, quietly, writing, replaces}
 use Rattle.sedengine.specs.Ends.{WithinLimits}
 use Rattle.sedengine.specs.Held.{SameLengths}
 use Rattle.sedengine.specs.Meters.{SinkView}
 use Rattle.sedengine.specs.Calls.{Puts}
 use Rattle.sedengine.specs.Run.{RunState, at_lines, run_setting}
 use Rattle.sedengine.specs.Steps.{Leads, reaches, line_at, ReachesCommand, Moves, MakesMove}
-use Rattle.sedengine.specs.SubstituteCalls.{written_by, Makes, ReplacesIn, same_but_replaced, to_replace_in}
+use Rattle.sedengine.specs.SubstituteCalls.{written_by, written_of, Makes, ReplacesIn, same_but_replaced, to_replace_in}
 use Rattle.sedengine.specs.Fitting.{RoomToSeek}
 use Rattle.sedengine.specs.Inside.{run_state_of, tasks_of, IsConsistent}
 use Rattle.sedengine.specs.declared.machine.Machine.TheInside.{Inside}
 use Rattle.sedengine.specs.declared.substitute.Findings.{Findings}
 use Rattle.sedengine.specs.declared.ends.Ended.{Ended}
 use Rattle.sedengine.specs.declared.ends.Ended.TheVariants.{PatternFull, NoPrevious}
-use Rattle.sedengine.proofs.Writing.{Puts-append, Puts-left}
 use Rattle.sedengine.proofs.Moves.{moves_writing, ran_quietly, stopped_here}
 use Rattle.sedmatch.proofs.RoomLemmas.{room_within}
 use Rattle.sedengine.specs.SubstituteParts.{ReplacesThese}
@@ -209,33 +208,13 @@ module _ (r r' : RunState) (ls : List (List ℕ)) (before : WithinLimits r.limit
           stopped_here r.limits g s (at_lines r' ls) old (PatternFull n) c.fits refl (number ∙ sym c.number ∙ sym (reached_line s s.tasks c.reaches), c.turn, (m, first ∙ is, more)) (lengths s c) c.lines
       stops s c first other h = absurd h
 
--- the text with a newline for the sink of a flag `w`, where the flag is given
-abbrev pub line_to_file : Option ℕ → List ℕ → List (ℕ × ℕ)
-line_to_file o w = option_map_or (λ k. line_to k w) o []
+-- what the substitution of a number writes
+pub of_this : (e : RunState) (k : ℕ) (t : Substitution) → slice_get e.script.substitutions k ≡ Some t → written_of e k ≡ written_by t e.state.pattern
+of_this e k t is = ap (λ o. option_map_or (λ t. written_by t e.state.pattern) o []) is
 
--- what the flag `p` writes, and then the flag `w`
-pub puts_both : (t : Substitution) (w : List ℕ) (old mid new : SinkView) (r : Result Unit Ended) → Puts old mid (cond t.print (line_to 0 w) []) (Ok tt) → Puts mid new (line_to_file t.file w) r → Puts old new (written_by t w) r
-puts_both t w old mid new r a h = Puts-append old mid new (cond t.print (line_to 0 w) []) (line_to_file t.file w) r a h
-
-pub puts_first : (t : Substitution) (w : List ℕ) (old new : SinkView) (end : Ended) → Puts old new (cond t.print (line_to 0 w) []) (Err end) → Puts old new (written_by t w) (Err end)
-puts_first t w old new end h = Puts-left old new (cond t.print (line_to 0 w) []) (line_to_file t.file w) end h
-
--- the substitution of a number, as the engine is seen
-one_seen : (a : Inside) (e : RunState) (k : ℕ) (s t : Substitution) → run_state_of a ≡ e → slice_get a.script.substitutions k ≡ Some s → slice_get e.script.substitutions k ≡ Some t → s ≡ t
-one_seen a e k s t seen is is' = same_Some s t (sym is ∙ ap (λ (r : RunState). slice_get r.script.substitutions k) seen ∙ is')
-
--- what its flags write
-pub filed_seen : (a : Inside) (e : RunState) (k : ℕ) (s t : Substitution) (sink : ℕ) (w : List ℕ) (sinks sinks' : SinkView) (r : Result Unit Ended) → run_state_of a ≡ e → slice_get a.script.substitutions k ≡ Some s →
-    slice_get e.script.substitutions k ≡ Some t → s.file ≡ Some sink → Puts sinks sinks' (line_to sink w) r → Puts sinks sinks' (line_to_file t.file w) r
-filed_seen a e k s t sink w sinks sinks' r seen is is' file h =
-    let Q : Option ℕ → Type 0 = λ o. Puts sinks sinks' (line_to_file o w) r in
-    subst Q (sym file ∙ ap (λ (x : Substitution). x.file) (one_seen a e k s t seen is is')) h
-
-pub printed_seen : (a : Inside) (e : RunState) (k : ℕ) (s t : Substitution) (w : List ℕ) (sinks sinks' : SinkView) (r : Result Unit Ended) → run_state_of a ≡ e → slice_get a.script.substitutions k ≡ Some s →
-    slice_get e.script.substitutions k ≡ Some t → s.print ≡ true → Puts sinks sinks' (line_to 0 w) r → Puts sinks sinks' (cond t.print (line_to 0 w) []) r
-printed_seen a e k s t w sinks sinks' r seen is is' print h =
-    let Q : Bool → Type 0 = λ b. Puts sinks sinks' (cond b (line_to 0 w) []) r in
-    subst Q (sym print ∙ ap (λ (x : Substitution). x.print) (one_seen a e k s t seen is is')) h
+-- the same of the engine as it is seen
+pub of_one : (a : Inside) (e : RunState) (k : ℕ) (t : Substitution) → run_state_of a ≡ e → slice_get a.script.substitutions k ≡ Some t → written_of e k ≡ written_by t e.state.pattern
+of_one a e k t seen is = of_this e k t (ap (λ (e : RunState). slice_get e.script.substitutions k) (sym seen) ∙ is)
 
 -- the state in which the pattern space became a text by a substitution
 abbrev pub becomes : State → Substitution → List ℕ → Option Move

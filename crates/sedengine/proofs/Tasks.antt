@@ -9,7 +9,8 @@ use Rattle.sedspace.specs.declared.errors.Full.{Full}
 use Rattle.sedspace.specs.Stream.{Stream, left, lines_left, TakesLine, GivesLine, NoLineLeft, FirstIsLonger, KeepsLines, LosesPart}
 use Rattle.sedspace.specs.Reading.{TakesAtMost}
 use Rattle.sedengine.specs.State.{Limits, Task, begin, rebegin, do_at, State, Setting}
-use Rattle.sedengine.specs.Move.{next_move, start, quietly, then_do, none_left}
+use Rattle.sedengine.specs.Move.{newline, next_move, start, quietly, then_do, none_left}
+use Rattle.sedengine.specs.Holding.{BecomesOrFull}
 use Rattle.sedengine.specs.Ends.{WithinLimits, reads, named_sink}
 use Rattle.sedengine.specs.Held.{SameLengths}
 use Rattle.sedengine.specs.Meters.{SinkView}
@@ -250,6 +251,22 @@ appended_is_run a pattern bytes (Ok u) i at ok room err =
     let limit = i.pattern_limit in
     rw ok (reached_placed a (record a.pattern { bytes = a.pattern.bytes ++ 10 ∷ bytes }) i at refl (omega (arith, length-append a.pattern.bytes (10 ∷ bytes))))
 appended_is_run a pattern bytes (Err f) i at ok room err = rw err i
+
+-- the hold space was appended to the pattern space, or there is no room for it
+pub held_appended : (a : Inside) (e : RunState) (pattern : Contents) (bytes : List ℕ) → run_state_of a ≡ e → IsConsistent a → bytes ≡ a.hold.bytes → pattern ≡ record a.pattern { bytes = a.pattern.bytes ++ 10 ∷ bytes } →
+    length a.pattern.bytes + 1 + length bytes ≤ a.pattern.limit → BecomesOrFull e (record e { state = record e.state { pattern = e.state.pattern ++ newline ∷ e.state.hold } }) (run_state_of (record a { pattern = pattern })) (Ok tt)
+held_appended a e pattern bytes seen i same is room =
+    let limit = i.pattern_limit in
+    let whole = ap (λ (c : Contents). c.bytes) is ∙ ap (λ w. a.pattern.bytes ++ 10 ∷ w) same in
+    let short : length (a.pattern.bytes ++ 10 ∷ a.hold.bytes) ≤ a.limits.space = omega (arith, limit, room, ap length same, length-append a.pattern.bytes (10 ∷ a.hold.bytes)) in
+    rw (← seen) (ap (λ w. let e : RunState = record (run_state_of a) { state = record (run_state_of a).state { pattern = w } } in e) whole, short, i.hold)
+
+pub held_too_long : (a : Inside) (e : RunState) (pattern : Contents) (bytes : List ℕ) → run_state_of a ≡ e → IsConsistent a → bytes ≡ a.hold.bytes → pattern ≡ a.pattern →
+    a.pattern.limit < length a.pattern.bytes + 1 + length bytes → BecomesOrFull e (record e { state = record e.state { pattern = e.state.pattern ++ newline ∷ e.state.hold } }) (run_state_of (record a { pattern = pattern })) (Err (PatternFull a.number))
+held_too_long a e pattern bytes seen i same is more =
+    let limit = i.pattern_limit in
+    let long : a.limits.space < length (a.pattern.bytes ++ 10 ∷ a.hold.bytes) = omega (arith, limit, more, ap length same, length-append a.pattern.bytes (10 ∷ a.hold.bytes)) in
+    rw (← seen) (ap (λ (c : Contents). run_state_of (record a { pattern = c })) is, refl, long)
 
 emptied : (p : NextStep) → IsEmptied p []
 emptied p.Begin = refl

@@ -1,6 +1,6 @@
 -- The commands that are reached on a line that none of them touches.
 use Rattle.std.proofs.Common.{◌≡◌, ℕ, suc, ◌<◌, ◌+◌, ◌≤◌, ◌⊎◌, inl, inr, zero, cond, get_or, Bool, true, false, List, [], ◌∷◌, length, Option, Some, None, subst, sym, ap, ◌∙◌, arith, add-one}
-use Rattle.std.specs.Prelude.{is_some, slice_get}
+use Rattle.std.specs.Prelude.{is_some, min, slice_get, ◌-◌}
 use Rattle.std.specs.Option.{option_or, option_map}
 use Rattle.std.proofs.lemmas.Option.{same_Some, slice_get_past}
 use Rattle.sedscript.specs.declared.types.Address.{Address}
@@ -9,7 +9,7 @@ use Rattle.sedscript.specs.declared.types.Action.{Action}
 use Rattle.sedscript.specs.declared.types.Action.TheVariants.{Substitute}
 use Rattle.sedscript.specs.declared.types.Command.{Command}
 use Rattle.sedscript.specs.declared.substitution.Substitution.{Substitution}
-use Rattle.sedscript.specs.Ranges.{IsOneOf}
+use Rattle.sedscript.specs.Ranges.{AddressWithin, IsOneOf}
 use Rattle.sedengine.specs.Passing.{Cleared, NeedWithin, need_by, need_of, need_of_action, need_of_address, need_of_substitution, behind, behind_by, place_at, need_at, judged_by, judged, Walked, Notes, Describes}
 use Rattle.sedengine.specs.declared.idle.Need.{Need}
 use Rattle.sedengine.specs.declared.idle.Need.TheVariants.{NoMatch, NotLast, OtherNumber}
@@ -25,6 +25,26 @@ walked_none cs ts i none first unjudged = record {
   last = λ asks. absurd (let less = asks.1 in omega arith);
   expressions = λ e asks. absurd (let less = asks.1 in omega arith);
 }
+
+-- a need that an address has is of an expression of the script
+pub need_within : (n : ℕ) (a : Address) → AddressWithin n (Some a) → NeedWithin n (need_of_address a)
+need_within n (Match (Some e)) h = h
+need_within n other h = tt
+
+-- of an address that asks for one line: by a number that is past it, or for as many lines as come before it
+same_line : (first : Option Address) (k n : ℕ) → first ≡ Some (Line k) → first ≡ Some (Line n) → k ≡ n
+same_line first k n is is' = let same : Line k ≡ Line n = same_Some (Line k) (Line n) (sym is ∙ is') in cc
+
+pub asked_by_then : (first : Option Address) (k number most : ℕ) → first ≡ Some (Line k) → k ≤ number → (n : ℕ) → first ≡ Some (Line n) → (n ≤ number) ⊎ (number + most < n)
+asked_by_then first k number most is before n is' = inl (subst (λ n. n ≤ number) (same_line first k n is is') before)
+
+pub asked_past : (first : Option Address) (k number most few : ℕ) → first ≡ Some (Line k) → number < k → few ≡ min most (k - number - 1) → (n : ℕ) → first ≡ Some (Line n) → (n ≤ number) ⊎ (number + few < n)
+asked_past first k number most few is after least n is' =
+    let past : number + few < k = grind (arith, after, least) in
+    inr (subst (λ n. number + few < n) (same_line first k n is is') past)
+
+pub least_first : (few most other : ℕ) → few ≡ min most other → few ≤ most
+least_first few most other least = grind (arith, least)
 
 last_or_before : (j n : ℕ) → j < suc n → (j ≡ n) ⊎ (j < n)
 last_or_before j n h = grind arith

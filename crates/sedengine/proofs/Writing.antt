@@ -8,10 +8,10 @@ use Rattle.std.specs.Prelude.{slice_get}
 use Rattle.sedengine.specs.Meters.{Sent, SinkView, FullSink}
 use Rattle.sedengine.specs.Move.{to_sink}
 use Rattle.sedengine.specs.Ends.{named_sink}
-use Rattle.sedengine.specs.Calls.{Puts, Delivers, NoSinkFailed, FailedSink}
+use Rattle.sedengine.specs.Calls.{Puts, Delivers, DeliversAlone, NoSinkFailed, FailedSink, WritesAll}
 use Rattle.sedengine.specs.declared.ends.Ended.{Ended}
-use Rattle.sedengine.specs.declared.ends.Ended.TheVariants.{OutputBroken, OutputFull}
-use Rattle.sedengine.proofs.Sending.{Sent-append}
+use Rattle.sedengine.specs.declared.ends.Ended.TheVariants.{InputBroken, OutputBroken, OutputFull}
+use Rattle.sedengine.proofs.Sending.{Sent-append, Sent-none}
 use Rattle.sedengine.proofs.Gains.{slice_get-to_sink, take-to_sink}
 
 pub slice_get-append_add : {A : Type 0} (xs ys : List A) (n : ℕ) → slice_get (xs ++ ys) (length xs + n) ≡ slice_get ys n
@@ -74,3 +74,25 @@ Delivers-unwritten tally count a end h = record { same_count = refl; same_frame 
 pub Delivers-quiet : {O : Type 0} (tally : O → SinkView) (count : O → ℕ) (a : O) (r : Result Unit Ended) → NoSinkFailed r → Delivers tally count a a r
 Delivers-quiet tally count a (Ok u) h = Delivers-none tally count a
 Delivers-quiet tally count a (Err end) h = Delivers-unwritten tally count a end h
+
+-- a call that wrote names no source
+puts_unread : (old new : SinkView) (out : List (ℕ × ℕ)) (r : Result Unit Ended) → Puts old new out r → r ≡ Err InputBroken → ⊥
+puts_unread old new out (Ok u) h is = cc
+puts_unread old new out (Err InputBroken) h is = let named = h.3 in cc
+puts_unread old new out (Err other) h is = cc
+
+-- Of calls that write and do nothing else.
+module _ {O : Type 0} {tally : O → SinkView} {count : O → ℕ} where
+  pub writes_alone : {a b : O} {out : List (ℕ × ℕ)} {r : Result Unit Ended} → WritesAll tally count a b out r → DeliversAlone tally count a b r
+  writes_alone h = record { output = h.devices; input = puts_unread _ _ _ _ h.puts }
+
+  pub writes_none : {a : O} → WritesAll tally count a a [] (Ok tt)
+  writes_none = record { puts = Sent-none _; devices = Delivers-none _ _ _ }
+
+  -- the second part, after the first was written
+  pub writes_then : {a b c : O} {r : Result Unit Ended} (xs ys : List (ℕ × ℕ)) → WritesAll tally count a b xs (Ok tt) → WritesAll tally count b c ys r → WritesAll tally count a c (xs ++ ys) r
+  writes_then xs ys h k = record { puts = Puts-append _ _ _ _ _ _ h.puts k.puts; devices = Delivers-then _ _ _ _ _ _ h.devices k.devices }
+
+  -- what fails in the first part fails in the whole
+  pub writes_first : {a b : O} {end : Ended} (xs ys : List (ℕ × ℕ)) → WritesAll tally count a b xs (Err end) → WritesAll tally count a b (xs ++ ys) (Err end)
+  writes_first xs ys h = record { puts = Puts-left _ _ _ _ _ h.puts; devices = h.devices }

@@ -19,9 +19,9 @@ Puts old new out (Err end) =
     (k : ℕ) × (b : ℕ) × (byte : ℕ) × (named_sink end ≡ Some k) × (slice_get out b ≡ Some (k, byte)) × Sent old new (take b out)
 
 -- All of these bytes were written to this sink, or it gained so many of them and took no more.
-abbrev pub WritesPart : SinkView → SinkView → ℕ → List ℕ → Result Unit CutShort → Type 0
-WritesPart old new sink bytes (Ok u) = Sent old new (to_sink sink bytes)
-WritesPart old new sink bytes (Err cut) =
+abbrev pub PutsPart : SinkView → SinkView → ℕ → List ℕ → Result Unit CutShort → Type 0
+PutsPart old new sink bytes (Ok u) = Sent old new (to_sink sink bytes)
+PutsPart old new sink bytes (Err cut) =
     (cut.done < length bytes) × (named_sink cut.end ≡ Some sink) × Sent old new (to_sink sink (take cut.done bytes))
 
 -- the same answer without the number of bytes
@@ -41,6 +41,18 @@ pub record Delivers {O : Type 0} (tally : O → SinkView) (count : O → ℕ) (o
   pub same_frame : (tally new).frame ≡ (tally old).frame
   pub failed : FailedSink (tally old).failures (tally new).failures result
   pub full : FullSink (tally new) result
+
+-- What a call answers that writes these bytes, and does nothing else.
+pub record WritesAll {O : Type 0} (tally : O → SinkView) (count : O → ℕ) (old new : O) (out : List (ℕ × ℕ))
+    (result : Result Unit Ended) : Type 0 where
+  pub puts : Puts (tally old) (tally new) out result
+  pub devices : Delivers tally count old new result
+
+-- The same of a call that reports how many bytes a sink has gained that took no more.
+pub record WritesPart {O : Type 0} (tally : O → SinkView) (count : O → ℕ) (old new : O) (sink : ℕ) (bytes : List ℕ)
+    (result : Result Unit CutShort) : Type 0 where
+  pub puts : PutsPart (tally old) (tally new) sink bytes result
+  pub devices : Delivers tally count old new (without_count result)
 
 -- What a call does that may write, and reads no line.
 pub record DeliversAlone {O : Type 0} (tally : O → SinkView) (count : O → ℕ) (old new : O) (result : Result Unit Ended) :

@@ -80,7 +80,8 @@ with_used e used = record e { state = record e.state { used = used } }
 -- what a command does, given what its addresses select
 abbrev pub performs : Setting → State → ℕ → Command → Selection → Option Move
 performs g s k c choice =
-    if choice.yes then acts g (having_reached s k choice) (writes_text_at c choice.end) c.action else goes_past (having_reached s k choice) c.action
+    if choice.yes then acts g (having_reached s k choice) (writes_text_at c choice.end) c.action
+    else goes_past (having_reached s k choice) c.action
 
 -- What a call that judges one address answers, used being the expression last used after it.
 abbrev pub Answers : CurrentLine → Option AddressAnswer → Option ℕ → Bool → Result Bool Ended → Type 0

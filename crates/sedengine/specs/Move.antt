@@ -62,7 +62,7 @@ abbrev pub takes_next_line : State → List Task → (List ℕ → List ℕ) →
 takes_next_line s rest made [] = quietly (then_do [] s)
 takes_next_line s rest made (line ∷ lines) = quietly (then_do rest (with_line (made line) lines s))
 
--- These occurrences are replaced, if any; what this makes is written with `p`, and then with `w` to the file (the order: this project's own).
+-- These occurrences are replaced, if any. What this makes is written with `p`, then with `w` to the file (order: this project's own).
 abbrev pub replaces : State → Substitution → List Occurrence → Option Move
 replaces s t [] = quietly s
 replaces s t (m ∷ ms) =

@@ -26,4 +26,5 @@ AreSeekers p l s = Seek p.expressions l.nodes s.matchers.items
 
 -- all of them, what was found out of the commands, and no range active
 abbrev pub AreEngineParts : Program → Limits → Parts → Type 0
-AreEngineParts p l s = (s.ranges.items ≡ replicate (length p.commands) false) × IfSome s.idle (IsIdleOf p) × IsStore p l s.store × AreSeekers p l s.seekers
+AreEngineParts p l s = (s.ranges.items ≡ replicate (length p.commands) false) × IfSome s.idle (IsIdleOf p)
+    × IsStore p l s.store × AreSeekers p l s.seekers

@@ -14,7 +14,7 @@ use Rattle.sedre.specs.Tree.{WrittenExpression}
 use Rattle.sedspace.specs.Lines.{split_lines, HasNoNewline}
 use Rattle.sedengine.specs.State.{Limits, begin, do_at, State, Setting, finds_in}
 use Rattle.sedengine.specs.Move.{after, newline, none_left, to_sink, written}
-use Rattle.sedengine.specs.Calls.{Delivers, ReadsLines, WritesPart}
+use Rattle.sedengine.specs.Calls.{Delivers, PutsPart, ReadsLines, without_count}
 use Rattle.sedengine.specs.Meters.{Sent, SinkView}
 use Rattle.sedengine.specs.declared.meter.CutShort.{CutShort}
 use Rattle.sedengine.specs.Ends.{IsCause, WithinLimits, Within, named_sink, LosesPartAfter, size_of}
@@ -366,6 +366,12 @@ pub record AllowsLines (e : RunState) (c most : ℕ) : Type 0 where
   pub turns : e.state.turns + most * (c + 1) ≤ e.limits.turns
 
 -- Lines were written as they are, unless default output is suppressed, or the standard output took no more after so many bytes.
-abbrev pub WritesLines : SinkView → SinkView → Bool → List ℕ → Result Unit CutShort → Type 0
-WritesLines old new quiet bytes (Ok u) = Sent old new (if quiet then [] else to_sink 0 bytes)
-WritesLines old new quiet bytes (Err cut) = (quiet ≡ false) × WritesPart old new 0 bytes (Err cut)
+abbrev pub PutsLines : SinkView → SinkView → Bool → List ℕ → Result Unit CutShort → Type 0
+PutsLines old new quiet bytes (Ok u) = Sent old new (if quiet then [] else to_sink 0 bytes)
+PutsLines old new quiet bytes (Err cut) = (quiet ≡ false) × PutsPart old new 0 bytes (Err cut)
+
+-- What a call answers that writes lines so, and does nothing else.
+pub record WritesLines {O : Type 0} (tally : O → SinkView) (count : O → ℕ) (old new : O) (quiet : Bool) (bytes : List ℕ)
+    (result : Result Unit CutShort) : Type 0 where
+  pub puts : PutsLines (tally old) (tally new) quiet bytes result
+  pub devices : Delivers tally count old new (without_count result)

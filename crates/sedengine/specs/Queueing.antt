@@ -3,12 +3,14 @@
 use Rattle.std.specs.Prelude.{◌≡◌, ℕ, ◌<◌, ◌≤◌, ◌+◌, Option, Result, Ok, Err, OnOk, OnErr, List, [], ◌∷◌, ◌++◌, length}
 use Rattle.std.specs.Io.KnownBytes.{Keeps}
 use Rattle.sedspace.specs.Spaces.{Contents}
-use Rattle.sedengine.specs.State.{Entry, Task, flush, State, TellsFiles}
+use Rattle.sedengine.specs.State.{Limits, Entry, Task, flush, State, Setting, TellsFiles}
+use Rattle.sedengine.specs.Ends.{WithinLimits}
+use Rattle.sedengine.specs.Held.{SameLengths}
 use Rattle.sedengine.specs.Meters.{SinkView}
 use Rattle.sedengine.specs.Move.{then_do}
 use Rattle.sedengine.specs.Calls.{DeliversAlone}
 use Rattle.sedengine.specs.Run.{RunState, at_lines, run_setting}
-use Rattle.sedengine.specs.Steps.{LeavesGiven, Moves, weight}
+use Rattle.sedengine.specs.Steps.{LeavesGiven, Moves, MovesTo, weight}
 use Rattle.sedengine.specs.Inside.{tasks_of}
 use Rattle.sedengine.specs.declared.next_step.NextStep.{NextStep}
 use Rattle.sedengine.specs.Types.{Ended, QueueFull}
@@ -36,15 +38,20 @@ with_turns e turns = record e { state = record e.state { turns = turns } }
 abbrev pub flushed : RunState → ℕ → RunState
 flushed e turns = record e { state = record e.state { queue = []; turns = turns } }
 
--- How a call that writes the queue, or an entry of it, leaves what it was given, besides its moves. It takes turns, and no more
--- than `most` are taken then.
-pub record LeavesFlushed {O T : Type 0} (tally : O → SinkView) (count : O → ℕ) (text : T → ℕ → Option (List ℕ))
-    (most turns turns' : ℕ) (build build' : Contents) (outputs outputs' : O) (texts texts' : T) (result : Result Unit Ended) :
-    Type 0 where
+-- What a call answers that writes the queue, or a part of it: which tasks and entries there are before and after it, whatever
+-- tasks and entries come after those. An end is reported of the state `now`. The call takes turns, within the limit.
+pub record FlushesPart {O T : Type 0} (tally : O → SinkView) (count : O → ℕ) (text : T → ℕ → Option (List ℕ)) (l : Limits)
+    (from to : List Task → List Entry → List Task × List Entry) (turns turns' : ℕ) (build build' : Contents)
+    (outputs outputs' : O) (texts texts' : T) (result : Result Unit Ended) : Type 0 where
+  pub moves : (g : Setting) → TellsFiles (text texts) g.files → (s now : State) (rest : List Task) (later : List Entry) →
+      s.tasks ≡ (from rest later).0 → s.queue ≡ (from rest later).1 → s.turns ≡ turns → WithinLimits l s →
+      SameLengths s now → s.lines ≡ now.lines →
+      MovesTo l g s (record s { tasks = (to rest later).0; queue = (to rest later).1; turns = turns' }) now
+      (tally outputs) (tally outputs') result
   pub devices : DeliversAlone tally count outputs outputs' result
   pub limit : build'.limit ≡ build.limit
   pub later : turns ≤ turns'
-  pub within : turns' ≤ most
+  pub within : turns' ≤ l.turns
   pub kept : (j : ℕ) → Keeps (text texts j) (text texts' j)
 
 -- What a call answers that does these tasks, of which the last writes the queue, whatever is to be done after them. It takes

@@ -6,7 +6,6 @@ use Rattle.std.specs.Borrow.{GName}
 use Rattle.std.specs.Io.KnownBytes.{Keeps}
 use Rattle.sedspace.specs.Stream.{Stream, left, lines_left}
 use Rattle.sedspace.specs.Reading.{TakesAtMost}
-use Rattle.sedengine.specs.declared.ends.Progress.{Progress}
 use Rattle.sedengine.specs.Types.{Command, Action, Ended, Done, HoldFull, InputBroken, NoPrevious, PatternFull, QueueFull, TurnsSpent}
 use Rattle.sedscript.specs.declared.types.Action.TheVariants.{Plain}
 use Rattle.sedscript.specs.declared.types.Simple.TheVariants as simple
@@ -16,7 +15,7 @@ use Rattle.sedengine.specs.Calls.{Delivers, DeliversAlone, NamesNone, ReadsAlone
 use Rattle.sedengine.specs.Move.{next_move, after, none_left, written}
 use Rattle.sedengine.specs.Ends.{WithinLimits, Within, IsCause, named_sink, reads, LosesPartAfter, size_of, Whole, BrokenOff}
 use Rattle.sedengine.specs.Held.{HoldsAt, SameLengths}
-use Rattle.sedengine.specs.Run.{Cycles, Ending, SameRun, RunState, InOneCycle, at_lines, input_of, lost, as_moves_answer, run_setting}
+use Rattle.sedengine.specs.Run.{Input, SameRun, RunState, InOneCycle, at_lines, input_of, lost, run_setting}
 
 -- a state that has no move stays, and writes nothing
 abbrev pub next_or_stay : State → Option Move → State
@@ -260,22 +259,13 @@ pub record AdvancesAlone (old new : RunState) (result : Result Unit Ended) : Typ
   pub falls : OnOk result (weight new < weight old)
   pub same : SameRun old new
 
--- What a call answers that makes moves to the end of the run.
-pub record RunsToEnd {R O T : Type 0} (remaining : R → Option (List ℕ)) (failures : R → ℕ) (reference : R → List GName)
-    (tally : O → SinkView) (count : O → ℕ) (text : T → ℕ → Option (List ℕ)) (old new : RunState)
-    (lines lines' : Stream R) (outputs outputs' : O) (texts texts' : T) (end : Ended) : Type 0 where
-  pub ends : lines.fault ≡ None → ForSome (lines_left remaining lines) (λ ls.
+-- What a call answers that makes moves to the end of a cycle or of the run. `comes` says what they come to: from a setting and a
+-- state, with an output, between what was still to come before and after them.
+pub record RunsOn {R O T : Type 0} (remaining : R → Option (List ℕ)) (failures : R → ℕ) (reference : R → List GName)
+    (tally : O → SinkView) (count : O → ℕ) (text : T → ℕ → Option (List ℕ))
+    (comes : Setting → State → List (ℕ × ℕ) → Input → Input → Type 0) (old new : RunState)
+    (lines lines' : Stream R) (outputs outputs' : O) (texts texts' : T) (result : Result Unit Ended) : Type 0 where
+  pub runs : lines.fault ≡ None → ForSome (lines_left remaining lines) (λ ls.
       (files : ℕ → List ℕ) → TellsFiles (text texts) files → (out : List (ℕ × ℕ)) × Sent (tally outputs) (tally outputs') out
-      × Ending old.limits (run_setting old files) (at_lines old ls) out
-      (input_of remaining lines) (input_of remaining lines') new.state end)
-  pub leaves : LeavesLines remaining failures reference tally count text old new lines lines' outputs outputs' texts texts' (Err end)
-
--- What a call answers that makes moves to the end of a cycle.
-pub record RunsCycle {R O T : Type 0} (remaining : R → Option (List ℕ)) (failures : R → ℕ) (reference : R → List GName)
-    (tally : O → SinkView) (count : O → ℕ) (text : T → ℕ → Option (List ℕ)) (old new : RunState)
-    (lines lines' : Stream R) (outputs outputs' : O) (texts texts' : T) (progress : Progress) : Type 0 where
-  pub cycles : lines.fault ≡ None → ForSome (lines_left remaining lines) (λ ls.
-      (files : ℕ → List ℕ) → TellsFiles (text texts) files → (out : List (ℕ × ℕ)) × Sent (tally outputs) (tally outputs') out
-      × Cycles old.limits (run_setting old files) (at_lines old ls) out
-      (input_of remaining lines) (input_of remaining lines') new (lines_left remaining lines') progress)
-  pub leaves : LeavesLines remaining failures reference tally count text old new lines lines' outputs outputs' texts texts' (as_moves_answer progress)
+      × comes (run_setting old files) (at_lines old ls) out (input_of remaining lines) (input_of remaining lines'))
+  pub leaves : LeavesLines remaining failures reference tally count text old new lines lines' outputs outputs' texts texts' result

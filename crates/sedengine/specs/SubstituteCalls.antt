@@ -1,19 +1,24 @@
 -- Private to the proofs: no contract of a public item cites what is here.
 -- What the engine's calls for a substitution promise one another.
-use Rattle.std.specs.Prelude.{◌≡◌, ℕ, ◌<◌, Bool, true, false, Option, None, Result, Ok, Err, List, [], ◌++◌, length, if◌then◌else◌}
+use Rattle.std.specs.Prelude.{◌≡◌, ℕ, ◌<◌, ◌≤◌, Bool, true, false, Option, Some, None, Result, Ok, Err, OnErr, List, [], ◌++◌, length, slice_get, if◌then◌else◌}
 use Rattle.std.specs.Option.{option_map_or}
 use Rattle.sedengine.specs.Types.{Substitution, Ended, PatternFull, NoPrevious}
 use Rattle.sedspace.specs.declared.errors.Full.{Full}
 use Rattle.sedspace.specs.Spaces.{Contents}
 use Rattle.sedengine.specs.State.{Limits, State, Move, Setting}
 use Rattle.sedengine.specs.Substitute.{Occurrence, each_occurrence, to_replace, replaced_from}
-use Rattle.sedengine.specs.Move.{line_to, quietly, writing}
+use Rattle.sedengine.specs.Move.{line_to, quietly, substitutes, writing}
+use Rattle.sedengine.specs.Calls.{NamesNone}
 use Rattle.sedengine.specs.Steps.{Leads}
-use Rattle.sedengine.specs.Run.{RunState}
+use Rattle.sedengine.specs.Run.{RunState, at_lines, run_setting}
 
--- what a substitution that made the text w writes
+-- what a substitution that made the text w writes, by its flags `p` and `w`
 abbrev pub written_by : Substitution → List ℕ → List (ℕ × ℕ)
 written_by t w = (if t.print then line_to 0 w else []) ++ option_map_or (λ k. line_to k w) t.file []
+
+-- what the substitution of number k writes of the pattern space
+abbrev pub written_of : RunState → ℕ → List (ℕ × ℕ)
+written_of e k = option_map_or (λ t. written_by t e.state.pattern) (slice_get e.script.substitutions k) []
 
 -- the occurrences in a text that a substitution with the expression e replaces
 abbrev pub to_replace_in : Setting → Substitution → ℕ → List ℕ → List Occurrence
@@ -41,3 +46,12 @@ abbrev pub same_but_replaced : RunState → State → RunState
 same_but_replaced e s = record e {
   state = record e.state { pattern = s.pattern; used = s.used; replaced = s.replaced };
 }
+
+-- What a call answers that makes the move of the substitution of number k, but for its writing. At an end the pattern space stays.
+pub record ReplacesOccurrences (k : ℕ) (old new : RunState) (result : Result Bool Ended) : Type 0 where
+  pub makes : (t : Substitution) → slice_get old.script.substitutions k ≡ Some t → (files : ℕ → List ℕ) (ls : List (List ℕ)) →
+      Makes old.limits (substitutes (run_setting old files) (at_lines old ls) (Some t)) t (at_lines old ls) (at_lines new ls) result
+  pub err : OnErr result (new.state.pattern ≡ old.state.pattern)
+  pub devices : NamesNone result
+  pub fits : length new.state.pattern ≤ new.limits.space
+  pub same : new ≡ same_but_replaced old new.state

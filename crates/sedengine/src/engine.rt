@@ -71,12 +71,17 @@ impl Engine {
     {
         match Meter::new(alloc, limits.output(), script.wfiles().len() + 1) {
             Ok(meter) => {
-                let machine = Machine::open(alloc, script, limits)?;
-                Ok(Engine {
-                    machine,
-                    meter,
-                    ended: None,
-                })
+                match Machine::open(alloc, script, limits) {
+                    Ok(machine) => Ok(Engine {
+                        machine,
+                        meter,
+                        ended: None,
+                    }),
+                    Err(refused) => {
+                        drop(meter);
+                        Err(refused)
+                    }
+                }
             }
             Err(refused) => {
                 script.close();
@@ -209,6 +214,8 @@ impl Engine {
 
     /// Lets the engine go. By this call what it holds is proved to be let go of once, and not in each crate above.
     pub fn close(self) {
-        drop(self);
+        let Engine { machine, meter, .. } = self;
+        drop(meter);
+        machine.close();
     }
 }

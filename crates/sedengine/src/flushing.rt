@@ -1,11 +1,8 @@
 //! Writing the queue, and the files of it.
-ghost use Rattle.std.specs.Prelude.{◌≡◌, ◌<◌, ◌≤◌, [], ◌∷◌, List, length, slice_get};
-ghost use Rattle.sedengine.specs.State.{Entry, Task, copy, flush, State, Setting, TellsFiles};
-ghost use Rattle.sedengine.specs.Ends.{WithinLimits};
-ghost use Rattle.sedengine.specs.Held.{SameLengths};
+ghost use Rattle.std.specs.Prelude.{◌≡◌, ◌<◌, ◌≤◌, [], ◌∷◌, length, slice_get};
+ghost use Rattle.sedengine.specs.State.{copy, flush};
 ghost use Rattle.sedengine.specs.Inside.{AllQueue, CommandQueues, entries_of, entry_by};
-ghost use Rattle.sedengine.specs.Queueing.{LeavesFlushed};
-ghost use Rattle.sedengine.specs.Steps.{MovesTo};
+ghost use Rattle.sedengine.specs.Queueing.{FlushesPart};
 
 use crate::ends::Ended;
 use crate::limits::Limits;
@@ -27,13 +24,9 @@ fn copy_file<O: MeteredSinks, T: Texts>(
     requires sink { 0 < O.count outputs.old }
     requires room { build.old.limit ≡ limits.now.space }
     requires before { turns.old ≤ limits.now.turns }
-    ensures copies { (g : Setting) → TellsFiles (T.text texts.old) g.files → (s now : State) (rest : List Task) →
-        s.tasks ≡ copy file 0 ∷ rest → s.turns ≡ turns.old → WithinLimits limits.now s →
-        SameLengths s now → s.lines ≡ now.lines →
-        MovesTo limits.now g s (record s { tasks = rest; turns = turns.new }) now
-        (O.tally outputs.old) (O.tally outputs.new) result }
-    ensures leaves { LeavesFlushed O.tally O.count T.text limits.now.turns turns.old turns.new build.old build.new
-        outputs.old outputs.new texts.old texts.new result }
+    ensures { FlushesPart O.tally O.count T.text limits.now
+        (λ rest later. (copy file 0 ∷ rest, later)) (λ rest later. (rest, later))
+        turns.old turns.new build.old build.new outputs.old outputs.new texts.old texts.new result }
 {
     let mut offset: u64 = 0;
     'pieces: loop {
@@ -68,14 +61,10 @@ fn write_entry<O: MeteredSinks, T: Texts>(
     requires room { 0 < length script.now.rfiles → build.old.limit ≡ limits.now.space }
     requires before { turns.old ≤ limits.now.turns }
     requires queued { CommandQueues (slice_get script.now.commands entry) }
-    ensures writes { (g : Setting) → TellsFiles (T.text texts.old) g.files → (s now : State) (rest : List Task)
-        (later : List Entry) → s.tasks ≡ flush ∷ rest →
-        s.queue ≡ entry_by script.now.texts (slice_get script.now.commands entry) ∷ later → s.turns ≡ turns.old →
-        WithinLimits limits.now s → SameLengths s now → s.lines ≡ now.lines →
-        MovesTo limits.now g s (record s { queue = later; tasks = flush ∷ rest; turns = turns.new }) now
-        (O.tally outputs.old) (O.tally outputs.new) result }
-    ensures leaves { LeavesFlushed O.tally O.count T.text limits.now.turns turns.old turns.new build.old build.new
-        outputs.old outputs.new texts.old texts.new result }
+    ensures { FlushesPart O.tally O.count T.text limits.now
+        (λ rest later. (flush ∷ rest, entry_by script.now.texts (slice_get script.now.commands entry) ∷ later))
+        (λ rest later. (flush ∷ rest, later))
+        turns.old turns.new build.old build.new outputs.old outputs.new texts.old texts.new result }
 {
     match script.command(entry as usize).action {
         Action::Text(_, text) => write_line(outputs, 0, script.text(text)),
@@ -99,13 +88,9 @@ pub(crate) fn flush_queue<O: MeteredSinks, T: Texts>(
     requires room { 0 < length script.now.rfiles → build.old.limit ≡ limits.now.space }
     requires before { turns.old ≤ limits.now.turns }
     requires queued { AllQueue script.now queue.now.items }
-    ensures flushes { (g : Setting) → TellsFiles (T.text texts.old) g.files → (s : State) (rest : List Task) →
-        s.tasks ≡ flush ∷ rest → s.queue ≡ entries_of script.now queue.now.items → s.turns ≡ turns.old →
-        WithinLimits limits.now s →
-        MovesTo limits.now g s (record s { queue = []; tasks = rest; turns = turns.new }) s
-        (O.tally outputs.old) (O.tally outputs.new) result }
-    ensures leaves { LeavesFlushed O.tally O.count T.text limits.now.turns turns.old turns.new build.old build.new
-        outputs.old outputs.new texts.old texts.new result }
+    ensures { FlushesPart O.tally O.count T.text limits.now
+        (λ rest later. (flush ∷ rest, entries_of script.now queue.now.items)) (λ rest later. (rest, []))
+        turns.old turns.new build.old build.new outputs.old outputs.new texts.old texts.new result }
 {
     for index in 0..queue.len() {
         write_entry(

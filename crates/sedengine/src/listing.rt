@@ -3,7 +3,7 @@ ghost use Rattle.std.specs.Prelude.{◌≡◌, ◌+◌, ◌*◌, ◌<◌, ◌≤
 ghost use Rattle.sedengine.specs.Listing.{listed_byte, listed};
 ghost use Rattle.sedengine.specs.ListingParts.{AreListedPlain, Lists, plain, with_item, with_run};
 ghost use Rattle.sedengine.specs.Move.{to_sink};
-ghost use Rattle.sedengine.specs.Calls.{Puts, Delivers};
+ghost use Rattle.sedengine.specs.Calls.{WritesAll};
 
 use crate::ends::Ended;
 use crate::meter::MeteredSinks;
@@ -22,8 +22,7 @@ const PART: usize = ROOM / 6 - 1;
 /// Writes the listing of a text, as the command `l` does (XCU sed, "Editing Commands in sed").
 pub(crate) fn write_listing<O: MeteredSinks>(outputs: &mut O, bytes: &[u8]) -> Result<(), Ended>
     requires { 0 < O.count outputs.old }
-    ensures puts { Puts (O.tally outputs.old) (O.tally outputs.new) (to_sink 0 (listed bytes.now)) result }
-    ensures devices { Delivers O.tally O.count outputs.old outputs.new result }
+    ensures { WritesAll O.tally O.count outputs.old outputs.new (to_sink 0 (listed bytes.now)) result }
 {
     let mut gathered = ListingBuffer::new();
     let mut rest = bytes;

@@ -152,4 +152,31 @@ impl Machine {
             queue: self.queue.len(),
         }
     }
+
+    /// Lets the machine go, and the script by its own call, which is proved in its crate.
+    pub(crate) fn close(self) {
+        let Machine {
+            script,
+            pattern,
+            hold,
+            build,
+            queue,
+            scratch,
+            seeking,
+            matchers,
+            ranges,
+            idle,
+            ..
+        } = self;
+        script.close();
+        drop(pattern);
+        drop(hold);
+        drop(build);
+        drop(queue);
+        drop(scratch);
+        drop(seeking);
+        drop(matchers);
+        drop(ranges);
+        drop(idle);
+    }
 }

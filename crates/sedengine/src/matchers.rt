@@ -26,9 +26,16 @@ pub(crate) fn matchers_of(
     let mut steps = Steps::new();
     let mut matchers = Vec::with_capacity(alloc, count)?;
     for k in 0..count {
-        let matcher = TableMatcher::new(alloc, script.expr(k), room, &mut steps)?;
+        // The matchers are let go of by calls: in place they are proved field by field.
+        let Ok(matcher) = TableMatcher::new(alloc, script.expr(k), room, &mut steps) else {
+            drop(matchers);
+            return Err(AllocError);
+        };
         room.bytes = room.bytes.saturating_sub(matcher.size_of_tables());
-        matchers.push(matcher)?;
+        if let Err(refused) = matchers.push(matcher) {
+            drop(matchers);
+            return Err(refused.into());
+        }
     }
     Ok(matchers)
 }

@@ -4,7 +4,7 @@
 //! gained since the engine was opened; where no limit is set nothing is counted.
 ghost use Rattle.std.specs.Prelude.{◌≡◌, ◌≢◌, ◌<◌, ◌≤◌, ℕ, IfOk, length, min, replicate};
 ghost use Rattle.sedengine.specs.Move.{to_sink};
-ghost use Rattle.sedengine.specs.Calls.{Delivers, Puts, WritesPart, without_count};
+ghost use Rattle.sedengine.specs.Calls.{WritesAll, WritesPart};
 ghost use Rattle.sedengine.specs.Meters.{Counts, Fills, FitsIn, InLimit, Meter, SinkView, counted_bytes};
 
 use crate::ends::Ended;
@@ -98,14 +98,12 @@ pub(crate) trait MeteredSinks {
     /// failed, or when the sink was full; a full sink isn't written to.
     fn write_all(&mut self, sink: usize, bytes: &[u8]) -> Result<(), Ended>
         requires { sink < count self.old }
-        ensures puts { Puts (tally self.old) (tally self.new) (to_sink sink bytes.now) result }
-        ensures devices { Delivers tally count self.old self.new result };
+        ensures { WritesAll tally count self.old self.new (to_sink sink bytes.now) result };
 
     /// The same, which reports at an `Err` how many bytes the sink has gained.
     fn write_part(&mut self, sink: usize, bytes: &[u8]) -> Result<(), CutShort>
         requires { sink < count self.old }
-        ensures writes { WritesPart (tally self.old) (tally self.new) sink bytes.now result }
-        ensures devices { Delivers tally count self.old self.new (without_count result) };
+        ensures { WritesPart tally count self.old self.new sink bytes.now result };
 }
 
 /// Outputs with a meter.

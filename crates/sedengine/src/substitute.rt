@@ -228,7 +228,8 @@ fn append_replaced(
 ) -> Result<(), Full>
     requires fits { FitInto (length replacing.text.now) (length matcher.old.nodes) scratch.old }
     requires lies { LiesOn (length replacing.text.now) None first }
-    requires groups { GroupsOf matcher.old replacing.text.now (names_group replacing.substitution.now.replacement) (Some first) findings.old.groups }
+    requires groups { GroupsOf matcher.old replacing.text.now (names_group replacing.substitution.now.replacement) (Some first)
+        findings.old.groups }
     requires serves { Serves matcher.old replacing.text.now (Some first.1) seeking.old }
     requires wanted { replacing.wanted ≡ names_group replacing.substitution.now.replacement }
     ensures appends { Appends build.old build.new

@@ -1,7 +1,7 @@
 //! Writing lines to a sink.
 ghost use Rattle.std.specs.Prelude.{◌<◌};
 ghost use Rattle.sedengine.specs.Move.{line_to};
-ghost use Rattle.sedengine.specs.Calls.{Puts, Delivers};
+ghost use Rattle.sedengine.specs.Calls.{WritesAll};
 
 use crate::ends::Ended;
 use crate::meter::MeteredSinks;
@@ -16,8 +16,7 @@ pub(crate) fn write_line<O: MeteredSinks>(
     bytes: &[u8],
 ) -> Result<(), Ended>
     requires { sink < O.count outputs.old }
-    ensures puts { Puts (O.tally outputs.old) (O.tally outputs.new) (line_to sink bytes.now) result }
-    ensures devices { Delivers O.tally O.count outputs.old outputs.new result }
+    ensures { WritesAll O.tally O.count outputs.old outputs.new (line_to sink bytes.now) result }
 {
     if bytes.len() > SHORT {
         outputs.write_all(sink, bytes)?;

@@ -7,7 +7,7 @@ ghost use Rattle.sedengine.specs.Move.{acts, line_to, writes_text_at};
 ghost use Rattle.sedengine.specs.Ends.{is_next_line};
 ghost use Rattle.sedengine.specs.Inside.{keeps_in_hold};
 ghost use Rattle.sedengine.specs.Passing.{NeedWithin, behind_by, need_of_action, passed_over};
-ghost use Rattle.sedengine.specs.Calls.{Delivers, Puts};
+ghost use Rattle.sedengine.specs.Calls.{WritesAll};
 ghost use Rattle.sedengine.specs.Steps.{reaches, ActsHere, ActsLines, Advances, HasAction, takes_further_line};
 
 use super::Machine;
@@ -116,7 +116,8 @@ impl Machine {
         requires within { ActionWithin self.old.script action }
         requires action { HasAction (slice_get self.old.script.commands k) action }
         requires sinks { length self.old.script.wfiles < O.count outputs.old }
-        ensures { ActsLines R.remaining R.failures R.reference O.tally O.count T.text (λ g s. acts g s writes_text action) (is_next_line action)
+        ensures { ActsLines R.remaining R.failures R.reference O.tally O.count T.text
+            (λ g s. acts g s writes_text action) (is_next_line action)
             self.old self.new lines.old lines.new outputs.old outputs.new texts.old texts.new result }
     {
         match action {
@@ -244,9 +245,7 @@ impl Machine {
         outputs: &mut O,
     ) -> Result<(), Ended>
         requires { sink < O.count outputs.old }
-        ensures puts { Puts (O.tally outputs.old) (O.tally outputs.new)
-            (line_to sink self.now.state.pattern) result }
-        ensures output { Delivers O.tally O.count outputs.old outputs.new result }
+        ensures { WritesAll O.tally O.count outputs.old outputs.new (line_to sink self.now.state.pattern) result }
     {
         outputs.write_all(sink, self.pattern.line())
     }

@@ -1,7 +1,8 @@
 //! The moves one after another.
-ghost use Rattle.std.specs.Prelude.{◌≡◌, ◌<◌, length};
-ghost use Rattle.sedengine.specs.Run.{starts_cycle};
-ghost use Rattle.sedengine.specs.Steps.{Advances, RunsCycle, RunsToEnd};
+ghost use Rattle.std.specs.Prelude.{◌≡◌, ◌<◌, Err, length};
+ghost use Rattle.sedspace.specs.Stream.{lines_left};
+ghost use Rattle.sedengine.specs.Run.{Cycles, Ending, as_moves_answer, starts_cycle};
+ghost use Rattle.sedengine.specs.Steps.{Advances, RunsOn};
 
 use super::Machine;
 use crate::ends::{Ended, Progress};
@@ -39,8 +40,9 @@ impl Machine {
     ) -> Ended
         requires sinks { length self.old.script.wfiles < O.count outputs.old }
         requires look { lines.old.read_ahead ≡ self.old.limits.look }
-        ensures { RunsToEnd R.remaining R.failures R.reference O.tally O.count T.text self.old self.new
-            lines.old lines.new outputs.old outputs.new texts.old texts.new result }
+        ensures { RunsOn R.remaining R.failures R.reference O.tally O.count T.text
+            (λ g s out before after. Ending self.old.limits g s out before after self.new.state result)
+            self.old self.new lines.old lines.new outputs.old outputs.new texts.old texts.new (Err result) }
     {
         self.is_within_limits();
         'moves: loop {
@@ -69,8 +71,9 @@ impl Machine {
     ) -> Progress
         requires sinks { length self.old.script.wfiles < O.count outputs.old }
         requires look { lines.old.read_ahead ≡ self.old.limits.look }
-        ensures { RunsCycle R.remaining R.failures R.reference O.tally O.count T.text self.old self.new
-            lines.old lines.new outputs.old outputs.new texts.old texts.new result }
+        ensures { RunsOn R.remaining R.failures R.reference O.tally O.count T.text
+            (λ g s out before after. Cycles self.old.limits g s out before after self.new (lines_left R.remaining lines.new) result)
+            self.old self.new lines.old lines.new outputs.old outputs.new texts.old texts.new (as_moves_answer result) }
     {
         self.is_within_limits();
         'moves: loop {

@@ -28,10 +28,23 @@ impl Parts {
         requires { script.now.max_nodes ≤ limits.now.nodes }
         ensures { IfOk result (AreEngineParts script.now limits.now) }
     {
+        // What was made is let go of by calls: in place it is proved field by field.
         let ranges = vec![in alloc; false; script.len()]?;
-        let idle = idle_of(alloc, script)?;
-        let store = Store::new(alloc, script, limits)?;
-        let seekers = Seekers::new(alloc, script, limits)?;
+        let Ok(idle) = idle_of(alloc, script) else {
+            drop(ranges);
+            return Err(AllocError);
+        };
+        let Ok(store) = Store::new(alloc, script, limits) else {
+            drop(ranges);
+            drop(idle);
+            return Err(AllocError);
+        };
+        let Ok(seekers) = Seekers::new(alloc, script, limits) else {
+            drop(ranges);
+            drop(idle);
+            drop(store);
+            return Err(AllocError);
+        };
         Ok(Parts {
             ranges,
             idle,
@@ -56,9 +69,21 @@ impl Store {
         ensures { IfOk result (IsStore script.now limits.now) }
     {
         let pattern = Space::new(alloc, limits.space())?;
-        let hold = Space::new(alloc, hold_room(script, limits))?;
-        let build = Space::new(alloc, build_room(script, limits))?;
-        let queue = Queue::new(alloc, limits.queue())?;
+        let Ok(hold) = Space::new(alloc, hold_room(script, limits)) else {
+            drop(pattern);
+            return Err(AllocError);
+        };
+        let Ok(build) = Space::new(alloc, build_room(script, limits)) else {
+            drop(pattern);
+            drop(hold);
+            return Err(AllocError);
+        };
+        let Ok(queue) = Queue::new(alloc, limits.queue()) else {
+            drop(pattern);
+            drop(hold);
+            drop(build);
+            return Err(AllocError);
+        };
         Ok(Store {
             pattern,
             hold,
@@ -112,7 +137,6 @@ impl Seekers {
                 seeking,
             }),
             Err(refused) => {
-                // By calls: what is let go of where it stands is proved field by field.
                 drop(matchers);
                 drop(scratch);
                 Err(refused)

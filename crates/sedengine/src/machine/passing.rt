@@ -3,7 +3,6 @@ ghost use Rattle.std.specs.Prelude.{◌≡◌, ◌<◌, ◌≤◌, ◌+◌, ◌*
 ghost use Rattle.sedscript.specs.Ranges.{IsOneOf};
 ghost use Rattle.sedspace.specs.Stream.{AreWholeLines};
 ghost use Rattle.sedengine.specs.State.{begin};
-ghost use Rattle.sedengine.specs.Calls.{Delivers, without_count};
 ghost use Rattle.sedengine.specs.Passing.{AllowsLines, BreaksOffBy, PassesLines, PassesLinesOver, WritesLines, counted_block, need_at};
 
 use super::Machine;
@@ -87,9 +86,7 @@ impl Machine {
     /// Writes lines as they are, unless default output is suppressed.
     fn write_lines<O: MeteredSinks>(&self, bytes: &[u8], outputs: &mut O) -> Result<(), CutShort>
         requires { 0 < O.count outputs.old }
-        ensures writes { WritesLines (O.tally outputs.old) (O.tally outputs.new) self.now.script.quiet bytes.now
-            result }
-        ensures output { Delivers O.tally O.count outputs.old outputs.new (without_count result) }
+        ensures { WritesLines O.tally O.count outputs.old outputs.new self.now.script.quiet bytes.now result }
     {
         if self.script.quiet() {
             return Ok(());

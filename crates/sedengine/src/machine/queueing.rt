@@ -2,7 +2,7 @@
 ghost use Rattle.std.specs.Prelude.{◌<◌, [], ◌∷◌, slice_get, if◌then◌else◌};
 ghost use Rattle.sedengine.specs.State.{flush, print_pattern};
 ghost use Rattle.sedengine.specs.Move.{line_to};
-ghost use Rattle.sedengine.specs.Calls.{Puts, DeliversAlone};
+ghost use Rattle.sedengine.specs.Calls.{WritesAll};
 ghost use Rattle.sedengine.specs.Inside.{IsEmptied, CommandQueues, entry_by};
 ghost use Rattle.sedengine.specs.Queueing.{EndsCycle, QueuesOrFull, WritesQueue};
 
@@ -91,9 +91,8 @@ fn print_by_default<O: MeteredSinks>(
     outputs: &mut O,
 ) -> Result<(), Ended>
     requires { 0 < O.count outputs.old }
-    ensures puts { Puts (O.tally outputs.old) (O.tally outputs.new)
+    ensures { WritesAll O.tally O.count outputs.old outputs.new
         (if script.now.quiet then [] else line_to 0 pattern.now.bytes) result }
-    ensures devices { DeliversAlone O.tally O.count outputs.old outputs.new result }
 {
     if script.quiet() {
         return Ok(());

@@ -1,13 +1,11 @@
 //! The commands `s`, `t` and `y`: substitutions, what `t` sees of them, and tables (XCU sed, "Editing Commands in
 //! sed").
-ghost use Rattle.std.specs.Prelude.{◌≡◌, ◌<◌, ◌≤◌, [], ◌∷◌, Some, OnErr, ℕ, List, false, true, length, map, slice_get, if◌then◌else◌};
-ghost use Rattle.sedscript.specs.declared.substitution.Substitution.{Substitution};
+ghost use Rattle.std.specs.Prelude.{◌≡◌, ◌<◌, [], ◌∷◌, false, true, length, map, slice_get, if◌then◌else◌};
 ghost use Rattle.sedengine.specs.State.{do_at};
-ghost use Rattle.sedengine.specs.Move.{in_table, line_to, substitutes};
-ghost use Rattle.sedengine.specs.Calls.{DeliversAlone, NamesNone, Puts};
-ghost use Rattle.sedengine.specs.Run.{at_lines, run_setting};
+ghost use Rattle.sedengine.specs.Move.{in_table, substitutes};
+ghost use Rattle.sedengine.specs.Calls.{WritesAll};
 ghost use Rattle.sedengine.specs.Steps.{reaches, ActsAlone};
-ghost use Rattle.sedengine.specs.SubstituteCalls.{written_by, Makes, same_but_replaced};
+ghost use Rattle.sedengine.specs.SubstituteCalls.{ReplacesOccurrences, written_of};
 
 use super::Machine;
 use super::known::is_within;
@@ -44,14 +42,7 @@ impl Machine {
     fn replace_occurrences(&mut self, k: usize) -> Result<bool, Ended>
         requires at { reaches self.old.state.tasks ≡ true }
         requires number { k < length self.old.script.substitutions }
-        ensures makes { (t : Substitution) → slice_get self.old.script.substitutions k ≡ Some t →
-            (files : ℕ → List ℕ) (ls : List (List ℕ)) →
-            Makes self.old.limits (substitutes (run_setting self.old files) (at_lines self.old ls) (Some t)) t
-            (at_lines self.old ls) (at_lines self.new ls) result }
-        ensures err { OnErr result (self.new.state.pattern ≡ self.old.state.pattern) }
-        ensures devices { NamesNone result }
-        ensures fits { length self.new.state.pattern ≤ self.new.limits.space }
-        ensures same { self.new ≡ same_but_replaced self.old self.new.state }
+        ensures { ReplacesOccurrences k self.old self.new result }
     {
         let substitution = self.script.substitution(k);
         let Some(e) = substitution.expression.or(self.used) else {
@@ -84,30 +75,18 @@ impl Machine {
     fn write_replaced<O: MeteredSinks>(&self, k: usize, outputs: &mut O) -> Result<(), Ended>
         requires number { k < length self.now.script.substitutions }
         requires sinks { length self.now.script.wfiles < O.count outputs.old }
-        ensures puts { (t : Substitution) → slice_get self.now.script.substitutions k ≡ Some t →
-            Puts (O.tally outputs.old) (O.tally outputs.new) (written_by t self.now.state.pattern) result }
-        ensures devices { DeliversAlone O.tally O.count outputs.old outputs.new result }
+        ensures { WritesAll O.tally O.count outputs.old outputs.new (written_of self.now k) result }
     {
-        self.print_replaced(k, outputs)?;
-        match self.script.substitution(k).file {
-            Some(sink) => self.act_write(sink, outputs),
-            None => Ok(()),
+        let substitution = self.script.substitution(k);
+        match (substitution.print, substitution.file) {
+            (false, None) => Ok(()),
+            (false, Some(sink)) => self.act_write(sink, outputs),
+            (true, None) => self.act_write(0, outputs),
+            (true, Some(sink)) => {
+                self.act_write(0, outputs)?;
+                self.act_write(sink, outputs)
+            }
         }
-    }
-
-    /// Writes the pattern space if the substitution of number `k` has the flag `p`.
-    fn print_replaced<O: MeteredSinks>(&self, k: usize, outputs: &mut O) -> Result<(), Ended>
-        requires number { k < length self.now.script.substitutions }
-        requires sink { 0 < O.count outputs.old }
-        ensures puts { (t : Substitution) → slice_get self.now.script.substitutions k ≡ Some t →
-            Puts (O.tally outputs.old) (O.tally outputs.new)
-            (if t.print then line_to 0 self.now.state.pattern else []) result }
-        ensures devices { DeliversAlone O.tally O.count outputs.old outputs.new result }
-    {
-        if !self.script.substitution(k).print {
-            return Ok(());
-        }
-        self.act_write(0, outputs)
     }
 
     /// The command `t`: goes on at its target if a substitution was made, which is then forgotten.

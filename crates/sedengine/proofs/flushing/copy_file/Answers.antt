@@ -9,56 +9,50 @@ use Rattle.sedengine.proofs.flushing.copy_file.Goals as goal
 
 pub returns-then-count-eq0 : goal.returns-then-count-eq0
 returns-then-count-eq0 g c = record {
-  copies = λ setting writes_text s now rest at turns fits same lines.
+  moves = λ setting told s now rest later at queue turns fits same lines.
       let h = c.pieces.invariant in
       let file = c.args.file in
-      let so_far = h.copied (setting.files file) (writes_text file) in
-      let over = reads_end _ _ _ _ _ (writes_text file) (h.kept file) c.fill-count.ensures.progress c.if-count-eq0.true in
-      copied_all setting s file rest at c.args.limits.now _ _ c.pieces.offset c.pieces.turns fits (omega arith) h.most so_far.0 over so_far.1;
-  leaves = record {
-    devices = record { output = c.pieces.invariant.output; input = names_ok.input };
-    limit = c.fill-count.ensures.limit ∙ c.pieces.invariant.limit;
-    later = le_added _ c.pieces.invariant.turns;
-    within = c.pieces.invariant.most;
-    kept = λ j. Keeps-trans _ _ _ (c.pieces.invariant.kept j) (c.fill-count.ensures.kept j);
-  };
+      let so_far = h.copied (setting.files file) (told file) in
+      let over = reads_end _ _ _ _ _ (told file) (h.kept file) c.fill-count.ensures.progress c.if-count-eq0.true in
+      rw (← queue) (copied_all setting s file rest at c.args.limits.now _ _ c.pieces.offset c.pieces.turns fits (omega arith) h.most so_far.0 over so_far.1);
+  devices = record { output = c.pieces.invariant.output; input = names_ok.input };
+  limit = c.fill-count.ensures.limit ∙ c.pieces.invariant.limit;
+  later = le_added _ c.pieces.invariant.turns;
+  within = c.pieces.invariant.most;
+  kept = λ j. Keeps-trans _ _ _ (c.pieces.invariant.kept j) (c.fill-count.ensures.kept j);
 }
 
 pub returns-then-left-eq0 : goal.returns-then-left-eq0
 returns-then-left-eq0 g c = record {
-  copies = λ setting writes_text s now rest at turns fits same lines.
+  moves = λ setting told s now rest later at queue turns fits same lines.
       let h = c.pieces.invariant in
       let file = c.args.file in
-      let so_far = h.copied (setting.files file) (writes_text file) in
-      let piece = reads_on _ _ _ _ _ _ (writes_text file) (h.kept file) c.fill-count.ensures.bytes c.fill-count.ensures.count so_far.0 in
+      let so_far = h.copied (setting.files file) (told file) in
+      let piece = reads_on _ _ _ _ _ _ (told file) (h.kept file) c.fill-count.ensures.bytes c.fill-count.ensures.count so_far.0 in
       copied_spent setting s file rest at c.args.limits.now now _ _ c.pieces.offset fits (omega arith) (omega (arith, piece.1)) so_far.1 same lines;
-  leaves = record {
-    devices = search rules;
-    limit = c.fill-count.ensures.limit ∙ c.pieces.invariant.limit;
-    later = le_added _ c.pieces.invariant.turns;
-    within = c.pieces.invariant.most;
-    kept = λ j. Keeps-trans _ _ _ (c.pieces.invariant.kept j) (c.fill-count.ensures.kept j);
-  };
+  devices = search rules;
+  limit = c.fill-count.ensures.limit ∙ c.pieces.invariant.limit;
+  later = le_added _ c.pieces.invariant.turns;
+  within = c.pieces.invariant.most;
+  kept = λ j. Keeps-trans _ _ _ (c.pieces.invariant.kept j) (c.fill-count.ensures.kept j);
 }
 
 pub returns-in_err-write_all : goal.returns-in_err-write_all
 returns-in_err-write_all g c = record {
-  copies = λ setting writes_text s now rest at turns fits same lines.
+  moves = λ setting told s now rest later at queue turns fits same lines.
       let p = err_from_is_err_and c.from_residual.result c.from_residual.ensures.1 in
       let h = c.pieces.invariant in
       let file = c.args.file in
-      let so_far = h.copied (setting.files file) (writes_text file) in
-      let piece = reads_on _ _ _ _ _ _ (writes_text file) (h.kept file) c.fill-count.ensures.bytes c.fill-count.ensures.count so_far.0 in
+      let so_far = h.copied (setting.files file) (told file) in
+      let piece = reads_on _ _ _ _ _ _ (told file) (h.kept file) c.fill-count.ensures.bytes c.fill-count.ensures.count so_far.0 in
       let tally = g.O.MeteredSinks.tally in
       let put = put_on (tally c.args.outputs.now) (tally c.pieces.outputs) (tally c.write_all.new.self) _ _ _ c.fill-count.result (Err c.in_err-write_all.field-0.0) so_far.1 (c.bytes.ensures.value ∙ piece.0) c.in_err-write_all.ensures.puts in
       rw (p.1, p.2) (copied_broken setting s file rest at c.args.limits.now now _ _ (c.pieces.offset + c.fill-count.result) _ fits (omega arith) piece.1 put same lines);
-  leaves = record {
-    devices = search rules;
-    limit = c.fill-count.ensures.limit ∙ c.pieces.invariant.limit;
-    later = le_added _ c.pieces.invariant.turns;
-    within = c.pieces.invariant.most;
-    kept = λ j. Keeps-trans _ _ _ (c.pieces.invariant.kept j) (c.fill-count.ensures.kept j);
-  };
+  devices = search rules;
+  limit = c.fill-count.ensures.limit ∙ c.pieces.invariant.limit;
+  later = le_added _ c.pieces.invariant.turns;
+  within = c.pieces.invariant.most;
+  kept = λ j. Keeps-trans _ _ _ (c.pieces.invariant.kept j) (c.fill-count.ensures.kept j);
 }
 
 pub pieces-preserved : goal.pieces-preserved

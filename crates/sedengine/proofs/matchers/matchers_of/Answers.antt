@@ -13,7 +13,7 @@ pub loop-k-preserved : goal.loop-k-preserved
 loop-k-preserved c =
     let l = c.loop-k in
     let e = c.expr.result.now in
-    let are = c.in_ok-push.ensures.items ∙ ap (λ (x : WrittenExpression). l.matchers.items ++ x ∷ []) c.in_ok-matcher.ensures in
+    let are = c.in_default-push.ensures.items ∙ ap (λ (x : WrittenExpression). l.matchers.items ++ x ∷ []) c.in-Ok.ensures in
     let few = c.expr.ensures.nodes in
     let within = c.requires.within in
     record {

@@ -1,7 +1,8 @@
-use Rattle.std.proofs.Common.{refl, ap, ◌∙◌, rules}
+use Rattle.std.proofs.Common.{refl, sym, ap, ◌∙◌, rules}
+use Rattle.std.proofs.KnownBytes.{Keeps-refl}
 use Rattle.sedengine.specs.Meters.{Frame}
 use Rattle.sedengine.specs.Run.{RunState}
-use Rattle.sedengine.proofs.Metering.{cycles_metered, sinks_at_end, meter_fits, same_metered, sink_counts, sound_more}
+use Rattle.sedengine.proofs.Metering.{cycles_metered, sinks_at_end, meter_fits, never_some, not_none, same_metered, sink_counts, sound_more}
 use Rattle.sedengine.proofs.engine.Engine.cycle.Goals as goal
 
 pub returns-clause-cycles : goal.returns-clause-cycles
@@ -9,7 +10,7 @@ returns-clause-cycles g c = λ fresh sound ls known files told.
     let w = c.cycle-progress.ensures in
     cycles_metered g.O.Outputs.contents c.self.inside.machine c.cycle-progress.new.self c.self.inside.meter c.cycle-progress.new.outputs.meter.now c.self.inside.ended c.end-self-inside.result c.args.self.now c.args.outputs.now c.cycle-progress.new.outputs.outputs.now _ _ _ _ _ files ls _ _
     c.self.view_is c.self.invariant.0 (search rules) (ap (λ (f : Frame). f.most) w.leaves.output.same_frame) refl c.is_within_limit.ensures _ _ w.leaves.output.full
-    (w.cycles sound ls known files told)
+    (w.runs sound ls known files told)
 
 pub returns-clause-output : goal.returns-clause-output
 returns-clause-output g c = λ fresh.
@@ -37,5 +38,26 @@ returns-clause-input g c = λ fresh. c.cycle-progress.ensures.leaves.input.faile
 pub returns-clause-sound : goal.returns-clause-sound
 returns-clause-sound g c = sound_more c.cycle-progress.result c.cycle-progress.ensures.leaves.input.sound
 
-pub returns-in-Some-clause-sound : goal.returns-in-Some-clause-sound
-returns-in-Some-clause-sound g c = λ more sound. sound
+pub returns-clause-again : goal.returns-clause-again
+returns-clause-again g c = never_some _ _ _ (ap (λ (e : RunState). e.ended) c.self.view_is) c.in_default.not-Some
+
+pub returns-clause-same_texts : goal.returns-clause-same_texts
+returns-clause-same_texts g c = c.cycle-progress.ensures.leaves.kept
+
+pub cycle-progress-requires-clause-look : goal.cycle-progress-requires-clause-look
+cycle-progress-requires-clause-look g c = c.requires.look ∙ ap (λ (e : RunState). e.limits.look) (sym c.self.view_is)
+
+pub returns-in-Some : goal.returns-in-Some
+returns-in-Some g c =
+    let at = sym (ap (λ (e : RunState). e.ended) c.self.view_is) ∙ c.in-Some.is in
+    record {
+      cycles = λ fresh. absurd (not_none _ at fresh);
+      input = λ fresh. absurd (not_none _ at fresh);
+      output = λ fresh. absurd (not_none _ at fresh);
+      sound = λ more sound. sound;
+      ended = at;
+      again = rw at (refl, refl, refl, refl, refl);
+      same_run = record { script = refl; limits = refl };
+      same_devices = ((c.is_within_look.ensures, refl, refl), (refl, refl));
+      same_texts = λ k. Keeps-refl _;
+    }

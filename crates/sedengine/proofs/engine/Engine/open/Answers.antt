@@ -23,9 +23,9 @@ module _ (e : RunState) (m : Meter) (p : Program) (l : Limits) (most : Option �
 pub invariant_of-result : goal.invariant_of-result
 invariant_of-result c =
     let many = rw length-map at (ap (λ (xs : List (List ℕ)). length xs) c.wfiles.ensures) in
-    counted c.in_ok-machine-in-Ok.machine c.in-Ok.meter c.args.script c.args.limits c.output.result (length c.wfiles.result.now) c.in_ok-machine-in-Ok.ensures c.in-Ok.ensures many c.output.ensures
+    counted c.in-Ok-open.machine c.in-Ok.meter c.args.script c.args.limits c.output.result (length c.wfiles.result.now) c.in-Ok-open.ensures c.in-Ok.ensures many c.output.ensures
 
-pub returns-in_ok-machine-in-Ok : goal.returns-in_ok-machine-in-Ok
-returns-in_ok-machine-in-Ok c =
+pub returns-in-Ok-open : goal.returns-in-Ok-open
+returns-in-Ok-open c =
     let many = rw length-map at (ap (λ (xs : List (List ℕ)). length xs) c.wfiles.ensures) in
-    metered c.in_ok-machine-in-Ok.machine c.in-Ok.meter c.args.script c.args.limits c.output.result (length c.wfiles.result.now) c.in_ok-machine-in-Ok.ensures c.in-Ok.ensures many
+    metered c.in-Ok-open.machine c.in-Ok.meter c.args.script c.args.limits c.output.result (length c.wfiles.result.now) c.in-Ok-open.ensures c.in-Ok.ensures many

@@ -1,7 +1,8 @@
-use Rattle.std.proofs.Common.{Some, refl, ap, ◌∙◌, rules}
+use Rattle.std.proofs.Common.{Some, refl, sym, ap, ◌∙◌, rules}
+use Rattle.std.proofs.KnownBytes.{Keeps-refl}
 use Rattle.sedengine.specs.Meters.{Frame}
 use Rattle.sedengine.specs.Run.{RunState}
-use Rattle.sedengine.proofs.Metering.{ending_metered, sinks_at_end, meter_fits, same_metered, sink_counts}
+use Rattle.sedengine.proofs.Metering.{ending_metered, sinks_at_end, meter_fits, never_some, not_none, same_metered, sink_counts}
 use Rattle.sedengine.proofs.engine.Engine.run.Goals as goal
 
 pub returns-clause-ends : goal.returns-clause-ends
@@ -9,7 +10,7 @@ returns-clause-ends g c = λ fresh sound ls known files told.
     let w = c.run-end.ensures in
     ending_metered g.O.Outputs.contents c.self.inside.machine c.run-end.new.self c.self.inside.meter c.run-end.new.outputs.meter.now c.self.inside.ended (Some c.run-end.result) c.args.self.now c.args.outputs.now c.run-end.new.outputs.outputs.now _ _ _ _ _ files ls _ _
     c.self.view_is c.self.invariant.0 (search rules) (ap (λ (f : Frame). f.most) w.leaves.output.same_frame) refl c.is_within_limit.ensures _ w.leaves.output.full
-    (w.ends sound ls known files told)
+    (w.runs sound ls known files told)
 
 pub returns-clause-input : goal.returns-clause-input
 returns-clause-input g c = λ fresh sound. c.run-end.ensures.leaves.input.failed sound
@@ -33,3 +34,26 @@ invariant_of-self g c = let w = c.run-end.ensures.leaves in
 
 pub returns-clause-same_run : goal.returns-clause-same_run
 returns-clause-same_run g c = same_metered c.self.inside.machine c.run-end.new.self c.args.self.now _ _ _ _ c.self.view_is c.run-end.ensures.leaves.same
+
+pub returns-clause-again : goal.returns-clause-again
+returns-clause-again g c = never_some _ _ _ (ap (λ (e : RunState). e.ended) c.self.view_is) c.in_default.not-Some
+
+pub returns-clause-same_texts : goal.returns-clause-same_texts
+returns-clause-same_texts g c = c.run-end.ensures.leaves.kept
+
+pub run-end-requires-clause-look : goal.run-end-requires-clause-look
+run-end-requires-clause-look g c = c.requires.look ∙ ap (λ (e : RunState). e.limits.look) (sym c.self.view_is)
+
+pub returns-in-Some : goal.returns-in-Some
+returns-in-Some g c =
+    let at = sym (ap (λ (e : RunState). e.ended) c.self.view_is) ∙ c.in-Some.is in
+    record {
+      ends = λ fresh. absurd (not_none _ at fresh);
+      input = λ fresh. absurd (not_none _ at fresh);
+      output = λ fresh. absurd (not_none _ at fresh);
+      ended = at;
+      again = rw at (refl, refl, refl, refl, refl);
+      same_run = record { script = refl; limits = refl };
+      same_devices = ((c.is_within_look.ensures, refl, refl), (refl, refl));
+      same_texts = λ k. Keeps-refl _;
+    }

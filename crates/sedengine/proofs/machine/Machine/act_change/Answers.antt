@@ -1,9 +1,8 @@
-use Rattle.std.proofs.Common.{[], true, false, Ok, Err, ap, arith, refl}
+use Rattle.std.proofs.Common.{[], true, false, ap, arith, refl}
 use Rattle.std.proofs.lemmas.Result.{err_from_is_err_and}
 use Rattle.sedspace.specs.Spaces.{Contents}
 use Rattle.sedengine.specs.declared.next_step.NextStep.TheVariants as p
-use Rattle.sedengine.proofs.Sending.{Sent-none}
-use Rattle.sedengine.proofs.Writing.{Delivers-none}
+use Rattle.sedengine.proofs.Writing.{writes_none}
 use Rattle.sedengine.proofs.Deleting.{acts_deleting, change_is, change_stops, text_put}
 use Rattle.sedengine.specs.Inside.{run_state_of}
 use Rattle.sedengine.proofs.Tasks.{cleared_is_run}
@@ -15,7 +14,7 @@ returns-then-not-writes_text g c =
     let w = c.end_cycle.ensures in
     let none = ap (λ (c : Contents). c.bytes) c.clear.ensures in
     acts_deleting c.self.inside c.args.self.now _ p.Begin c.clear.new.self [] _ c.self.view_is
-    (λ files ls. change_is c.args.self.now files ls c.args.text c.args.writes_text false c.clear.new.self none c.if-not-writes_text.true) (Sent-none _) (Delivers-none _ _ _) w.moves w.falls w.leaves
+    (λ files ls. change_is c.args.self.now files ls c.args.text c.args.writes_text false c.clear.new.self none c.if-not-writes_text.true) writes_none w.moves w.falls w.leaves
 
 pub returns : goal.returns
 returns g c =
@@ -23,20 +22,19 @@ returns g c =
     let none = ap (λ (c : Contents). c.bytes) c.clear.ensures in
     acts_deleting c.self.inside c.args.self.now _ p.Begin c.clear.new.self _ _ c.self.view_is
     (λ files ls. change_is c.args.self.now files ls c.args.text c.args.writes_text true c.clear.new.self none c.if-not-writes_text.false)
-    (text_put c.self.inside c.args.self.now c.args.text _ _ _ (Ok tt) c.self.view_is c.text.ensures c.in_ok-write_line.ensures.puts) c.in_ok-write_line.ensures.devices w.moves w.falls w.leaves
+    (text_put c.self.inside c.args.self.now c.args.text _ c.self.view_is c.text.ensures c.in_ok-write_line.ensures) w.moves w.falls w.leaves
 
 pub returns-in_err-write_line : goal.returns-in_err-write_line
 returns-in_err-write_line g c =
     let e = c.args.self.now in
-    let w = c.in_err-write_line.ensures in
     let none = ap (λ (c : Contents). c.bytes) c.clear.ensures in
     let e1 = run_state_of (record c.self.inside { pattern = c.clear.new.self }) in
     let p = err_from_is_err_and c.from_residual.result c.from_residual.ensures.1 in
     rw (p.1, p.2) (record {
       acts = λ files told ls. change_stops c.self.inside e files ls _ c.clear.new.self _ _ _ c.in_err-write_line.field-0.0 c.self.view_is c.self.invariant none
-          (change_is e files ls c.args.text c.args.writes_text true c.clear.new.self none c.if-not-writes_text.false) (text_put c.self.inside e c.args.text _ _ _ (Err c.in_err-write_line.field-0.0) c.self.view_is c.text.ensures w.puts);
+          (change_is e files ls c.args.text c.args.writes_text true c.clear.new.self none c.if-not-writes_text.false) (text_put c.self.inside e c.args.text _ c.self.view_is c.text.ensures c.in_err-write_line.ensures).puts;
       falls = falls_more (falls_kept c.self.inside e e1 e1 c.self.view_is refl (omega arith));
-      leaves = leaves_seen c.self.inside e e1 c.self.view_is refl refl (leaves_written _ _ _ _ _ (Err c.in_err-write_line.field-0.0) w.puts w.devices);
+      leaves = leaves_seen c.self.inside e e1 c.self.view_is refl refl (leaves_written c.in_err-write_line.ensures);
     })
 
 pub invariant_of-self : goal.invariant_of-self

@@ -1,8 +1,7 @@
 use Rattle.std.proofs.Common.{[], refl}
 use Rattle.sedengine.specs.Inside.{run_state_of}
 use Rattle.sedengine.specs.declared.next_step.NextStep.TheVariants as p
-use Rattle.sedengine.proofs.Sending.{Sent-none}
-use Rattle.sedengine.proofs.Writing.{Delivers-none}
+use Rattle.sedengine.proofs.Writing.{writes_none}
 use Rattle.sedengine.proofs.Deleting.{acts_deleting, cut_is_run, cut_seen, uncut_performs}
 use Rattle.sedengine.proofs.Leaving.{falls_seen, leaves_seen}
 use Rattle.sedengine.proofs.machine.Machine.act_delete_first.Goals as goal
@@ -12,7 +11,7 @@ returns-then-cut_line g c =
     let w = c.end_cycle.ensures in
     let cut = c.cut_line.ensures.cut c.if-cut_line.true in
     acts_deleting c.self.inside c.args.self.now _ p.Rebegin c.cut_line.new.self [] _ c.self.view_is
-    (λ files ls. cut_seen c.self.inside c.args.self.now files ls c.cut_line.new.self c.self.view_is cut.0 cut.1) (Sent-none _) (Delivers-none _ _ _) w.moves w.falls w.leaves
+    (λ files ls. cut_seen c.self.inside c.args.self.now files ls c.cut_line.new.self c.self.view_is cut.0 cut.1) writes_none w.moves w.falls w.leaves
 
 pub returns-else-cut_line : goal.returns-else-cut_line
 returns-else-cut_line g c =

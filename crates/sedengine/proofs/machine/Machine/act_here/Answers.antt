@@ -15,7 +15,7 @@ use Rattle.sedengine.specs.Run.{RunState, at_lines}
 use Rattle.sedengine.proofs.Acting.{acts_by, acts_going, acts_nothing, acts_queueing, acts_testing, acts_translating, acts_writing}
 use Rattle.sedengine.proofs.Acts.{entry_is, queues_action, some_sink}
 use Rattle.sedengine.proofs.Tasks.{placed}
-use Rattle.sedengine.proofs.Ending.{puts_seen}
+use Rattle.sedengine.proofs.Ending.{writes_seen}
 use Rattle.sedengine.proofs.Leaving.{falls_more}
 use Rattle.sedengine.proofs.machine.Machine.act_here.Goals as goal
 
@@ -28,8 +28,8 @@ returns-in-Plain g c = acts_by (here c.args.writes_text) c.in-Plain.is (c.act_pl
 pub returns-in-Text-Insert-default : goal.returns-in-Text-Insert-default
 returns-in-Text-Insert-default g c =
     let w = c.in-Text-Insert-default in
-    acts_by (here c.args.writes_text) (w.is ∙ ap (λ u. Text u w.text) (rw w.is at w.field-0-is)) (acts_writing c.args.self.now c.is_within_limits.ensures _ _ _ (λ files ls. refl)
-    (puts_seen c.self.inside c.args.self.now (λ (e : RunState). line_to 0 (unwrap_or (slice_get e.script.texts w.text) [])) _ _ c.write_line.result c.self.view_is (rw c.text.ensures c.write_line.ensures.puts)) c.write_line.ensures.devices)
+    acts_by (here c.args.writes_text) (w.is ∙ ap (λ u. Text u w.text) (rw w.is at w.field-0-is)) (acts_writing c.args.self.now c.is_within_limits.ensures (λ files ls. refl)
+    (writes_seen c.self.inside c.args.self.now (λ (e : RunState). line_to 0 (unwrap_or (slice_get e.script.texts w.text) [])) c.self.view_is (rw c.text.ensures c.write_line.ensures)))
 
 pub returns-in-Text-Change-default : goal.returns-in-Text-Change-default
 returns-in-Text-Change-default g c =
@@ -39,7 +39,7 @@ returns-in-Text-Change-default g c =
 pub returns-in-File-Write-default : goal.returns-in-File-Write-default
 returns-in-File-Write-default g c =
     let w = c.in-File-Write-default in
-    acts_by (here c.args.writes_text) (w.is ∙ ap (λ u. File u w.sink) (rw w.is at w.field-0-is)) (acts_writing c.args.self.now c.is_within_limits.ensures _ _ _ (λ files ls. refl) c.act_write.ensures.puts c.act_write.ensures.output)
+    acts_by (here c.args.writes_text) (w.is ∙ ap (λ u. File u w.sink) (rw w.is at w.field-0-is)) (acts_writing c.args.self.now c.is_within_limits.ensures (λ files ls. refl) c.act_write.ensures)
 
 pub returns-in-Block : goal.returns-in-Block
 returns-in-Block g c = acts_by (here c.args.writes_text) c.in-Block.is (acts_nothing c.args.self.now c.is_within_limits.ensures (λ files ls. refl))

@@ -11,7 +11,7 @@ use Rattle.sedengine.specs.Move.{acts, line_to, newline, to_sink}
 use Rattle.sedengine.specs.Run.{RunState}
 use Rattle.sedengine.proofs.Acting.{acts_by, acts_going, acts_growing, acts_holding, acts_writing}
 use Rattle.sedengine.proofs.Acts.{fills}
-use Rattle.sedengine.proofs.Ending.{puts_seen}
+use Rattle.sedengine.proofs.Ending.{writes_seen}
 use Rattle.sedengine.proofs.machine.Machine.act_plain.Goals as goal
 
 abbrev plain : Bool → Simple → Setting → State → Option Move
@@ -57,26 +57,22 @@ returns-in-DeleteFirst g c = λ writes_text. acts_by (plain writes_text) c.in-De
 
 pub returns-in-LineNumber : goal.returns-in-LineNumber
 returns-in-LineNumber g c = λ writes_text.
-    let w = c.write_line.ensures in
-    acts_by (plain writes_text) c.in-LineNumber.is (acts_writing c.args.self.now c.is_within_limits.ensures _ _ _ (λ files ls. refl)
-    (puts_seen c.self.inside c.args.self.now (λ (e : RunState). line_to 0 (decimal e.state.number)) _ _ c.write_line.result c.self.view_is (rw (c.as_bytes.ensures.value, c.format.ensures.text) at w.puts)) w.devices)
+    acts_by (plain writes_text) c.in-LineNumber.is (acts_writing c.args.self.now c.is_within_limits.ensures (λ files ls. refl)
+    (writes_seen c.self.inside c.args.self.now (λ (e : RunState). line_to 0 (decimal e.state.number)) c.self.view_is (rw (c.as_bytes.ensures.value, c.format.ensures.text) at c.write_line.ensures)))
 
 pub returns-in-List : goal.returns-in-List
 returns-in-List g c = λ writes_text.
-    let w = c.write_listing.ensures in
-    acts_by (plain writes_text) c.in-List.is (acts_writing c.args.self.now c.is_within_limits.ensures _ _ _ (λ files ls. refl)
-    (puts_seen c.self.inside c.args.self.now (λ (e : RunState). to_sink 0 (listed e.state.pattern)) _ _ c.write_listing.result c.self.view_is (rw c.bytes.ensures.value at w.puts)) w.devices)
+    acts_by (plain writes_text) c.in-List.is (acts_writing c.args.self.now c.is_within_limits.ensures (λ files ls. refl)
+    (writes_seen c.self.inside c.args.self.now (λ (e : RunState). to_sink 0 (listed e.state.pattern)) c.self.view_is (rw c.bytes.ensures.value at c.write_listing.ensures)))
 
 pub returns-in-Print : goal.returns-in-Print
 returns-in-Print g c = λ writes_text.
-    let w = c.act_write.ensures in
-    acts_by (plain writes_text) c.in-Print.is (acts_writing c.args.self.now c.is_within_limits.ensures _ _ _ (λ files ls. refl) w.puts w.output)
+    acts_by (plain writes_text) c.in-Print.is (acts_writing c.args.self.now c.is_within_limits.ensures (λ files ls. refl) c.act_write.ensures)
 
 pub returns-in-PrintFirst : goal.returns-in-PrintFirst
 returns-in-PrintFirst g c = λ writes_text.
-    let w = c.write_all.ensures in
-    acts_by (plain writes_text) c.in-PrintFirst.is (acts_writing c.args.self.now c.is_within_limits.ensures _ _ _ (λ files ls. refl)
-    (puts_seen c.self.inside c.args.self.now (λ (e : RunState). line_to 0 (before_first is_newline e.state.pattern)) _ _ c.write_all.result c.self.view_is (rw c.first_line.ensures.value at w.puts)) w.devices)
+    acts_by (plain writes_text) c.in-PrintFirst.is (acts_writing c.args.self.now c.is_within_limits.ensures (λ files ls. refl)
+    (writes_seen c.self.inside c.args.self.now (λ (e : RunState). line_to 0 (before_first is_newline e.state.pattern)) c.self.view_is (rw c.first_line.ensures.value at c.write_all.ensures)))
 
 pub act_hold-requires : goal.act_hold-requires
 act_hold-requires g c = fills c.args.self.now.script c.args.k (Plain c.args.simple) c.requires.action (ap (λ s. keeps_in_hold (Plain s)) c.in-Hold.is)

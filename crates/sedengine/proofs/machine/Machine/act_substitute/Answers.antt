@@ -3,10 +3,10 @@ use Rattle.std.proofs.lemmas.Result.{err_from_is_err_and}
 use Rattle.std.specs.Prelude.{slice_get}
 use Rattle.sedengine.specs.Move.{substitutes}
 use Rattle.sedengine.specs.Run.{RunState, at_lines, run_setting}
-use Rattle.sedengine.proofs.Writing.{Delivers-none, Delivers-unwritten}
+use Rattle.sedengine.proofs.Writing.{Delivers-none, Delivers-unwritten, writes_alone}
 use Rattle.sedengine.proofs.Leaving.{falls_replaced, same_replaced}
 use Rattle.sedengine.proofs.Streams.{names_ok}
-use Rattle.sedengine.proofs.SubstituteMoves.{there_is, replaced_nothing, replaced_some, replaced_not}
+use Rattle.sedengine.proofs.SubstituteMoves.{of_this, there_is, replaced_nothing, replaced_some, replaced_not}
 use Rattle.sedengine.proofs.machine.Machine.act_substitute.Goals as goal
 
 pub returns-then-branch : goal.returns-then-branch
@@ -17,8 +17,8 @@ returns-then-branch g c = record {
       let x = there_is r.script.substitutions c.args.k c.requires.number in
       let there : slice_get c.replace_occurrences.new.self.script.substitutions c.args.k ≡ Some x.0 = ap (λ (r : RunState). slice_get r.script.substitutions c.args.k) w.same ∙ x.1 in
       replaced_some r c.replace_occurrences.new.self ls (c.is_within_limits.ensures ls) w.same w.fits (run_setting r files) (g.O.MeteredSinks.tally c.args.outputs.now) (g.O.MeteredSinks.tally c.write_replaced.new.outputs) _ x.0
-      c.write_replaced.result (rw c.if-branch.true at w.makes x.0 x.1 files ls) (c.write_replaced.ensures.puts x.0 there) s reaches (first ∙ ap (substitutes (run_setting r files) (at_lines r ls)) x.1);
-  devices = c.write_replaced.ensures.devices;
+      c.write_replaced.result (rw c.if-branch.true at w.makes x.0 x.1 files ls) (rw (of_this c.replace_occurrences.new.self c.args.k x.0 there) at c.write_replaced.ensures).puts s reaches (first ∙ ap (substitutes (run_setting r files) (at_lines r ls)) x.1);
+  devices = writes_alone c.write_replaced.ensures;
   falls = falls_replaced c.args.self.now c.replace_occurrences.new.self c.replace_occurrences.new.self.state c.in_ok-replace_occurrences.ensures.same;
   same = same_replaced c.args.self.now c.replace_occurrences.new.self c.replace_occurrences.new.self.state c.in_ok-replace_occurrences.ensures.same;
 }

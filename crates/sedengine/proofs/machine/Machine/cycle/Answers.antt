@@ -17,7 +17,7 @@ moves-init g c = record {
 
 pub returns-in-Err : goal.returns-in-Err
 returns-in-Err g c = record {
-  cycles = λ sound ls known files told.
+  runs = λ sound ls known files told.
       let h = c.moves.invariant in
       let reached = h.reached sound ls known files told in
       let r = reached.0 in
@@ -31,7 +31,7 @@ returns-in-Err g c = record {
 
 pub returns-then-at_start : goal.returns-then-at_start
 returns-then-at_start g c = record {
-  cycles = λ sound ls known files told.
+  runs = λ sound ls known files told.
       let h = c.moves.invariant in
       let reached = h.reached sound ls known files told in
       let r = reached.0 in

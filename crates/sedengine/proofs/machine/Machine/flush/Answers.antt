@@ -12,13 +12,13 @@ returns g c = record {
   moves = λ files told ls rest.
       let w = c.flush_queue.new in
       flush_moves c.self.inside c.args.self.now (run_state_of (record c.self.inside { build = w.build; turns = w.turns; queue = c.clear.new.self })) (run_setting c.args.self.now files) ls rest w.turns
-      (g.O.MeteredSinks.tally c.args.outputs.now) (g.O.MeteredSinks.tally w.outputs) (Ok tt) c.self.view_is c.self.invariant (c.in_ok-flush_queue.ensures.flushes (run_setting c.args.self.now files) told)
+      (g.O.MeteredSinks.tally c.args.outputs.now) (g.O.MeteredSinks.tally w.outputs) (Ok tt) c.self.view_is c.self.invariant (c.in_ok-flush_queue.ensures.moves (run_setting c.args.self.now files) told)
       (rw c.clear.ensures (ap (λ (e : RunState). flushed e w.turns) c.self.view_is)) (tt {0});
   ok = rw c.clear.ensures (ap (λ (e : RunState). flushed e c.flush_queue.new.turns) c.self.view_is);
   err = tt;
   later = search rules;
-  devices = c.in_ok-flush_queue.ensures.leaves.devices;
-  kept = c.in_ok-flush_queue.ensures.leaves.kept;
+  devices = c.in_ok-flush_queue.ensures.devices;
+  kept = c.in_ok-flush_queue.ensures.kept;
 }
 
 pub returns-in_err-flush_queue : goal.returns-in_err-flush_queue
@@ -27,7 +27,7 @@ returns-in_err-flush_queue g c = record {
       let w = c.flush_queue.new in
       let p = err_from_is_err_and c.from_residual.result c.from_residual.ensures.1 in
       rw (p.1, p.2) (flush_moves c.self.inside c.args.self.now (run_state_of (record c.self.inside { build = w.build; turns = w.turns })) (run_setting c.args.self.now files) ls rest w.turns
-      (g.O.MeteredSinks.tally c.args.outputs.now) (g.O.MeteredSinks.tally w.outputs) (Err c.in_err-flush_queue.field-0.0) c.self.view_is c.self.invariant (c.in_err-flush_queue.ensures.flushes (run_setting c.args.self.now files) told)
+      (g.O.MeteredSinks.tally c.args.outputs.now) (g.O.MeteredSinks.tally w.outputs) (Err c.in_err-flush_queue.field-0.0) c.self.view_is c.self.invariant (c.in_err-flush_queue.ensures.moves (run_setting c.args.self.now files) told)
       (tt {0}) (ap (λ (e : RunState). with_turns e w.turns) c.self.view_is));
   ok = let p = err_from_is_err_and c.from_residual.result c.from_residual.ensures.1 in
       rw p.1 tt;
@@ -35,15 +35,15 @@ returns-in_err-flush_queue g c = record {
       rw p.1 (ap (λ (e : RunState). with_turns e c.flush_queue.new.turns) c.self.view_is);
   later = search rules;
   devices = let p = err_from_is_err_and c.from_residual.result c.from_residual.ensures.1 in
-      rw (p.1, p.2) c.in_err-flush_queue.ensures.leaves.devices;
-  kept = c.in_err-flush_queue.ensures.leaves.kept;
+      rw (p.1, p.2) c.in_err-flush_queue.ensures.devices;
+  kept = c.in_err-flush_queue.ensures.kept;
 }
 
 pub flush_queue-requires : goal.flush_queue-requires
 flush_queue-requires g c = record { sink = c.requires; room = c.self.invariant.copy_limit; before = c.self.invariant.turns; queued = c.self.invariant.queued }
 
 pub invariant_of-self : goal.invariant_of-self
-invariant_of-self g c = stopped_flushing c.self.inside c.flush_queue.new.build c.flush_queue.new.turns c.self.invariant c.flush_queue.ensures.leaves.limit c.flush_queue.ensures.leaves.later c.flush_queue.ensures.leaves.within
+invariant_of-self g c = stopped_flushing c.self.inside c.flush_queue.new.build c.flush_queue.new.turns c.self.invariant c.flush_queue.ensures.limit c.flush_queue.ensures.later c.flush_queue.ensures.within
 
 pub invariant_of-self-2 : goal.invariant_of-self-2
-invariant_of-self-2 g c = flushed_is_run c.self.inside c.flush_queue.new.build c.clear.new.self c.flush_queue.new.turns c.self.invariant c.flush_queue.ensures.leaves.limit c.flush_queue.ensures.leaves.later c.flush_queue.ensures.leaves.within c.clear.ensures
+invariant_of-self-2 g c = flushed_is_run c.self.inside c.flush_queue.new.build c.clear.new.self c.flush_queue.new.turns c.self.invariant c.flush_queue.ensures.limit c.flush_queue.ensures.later c.flush_queue.ensures.within c.clear.ensures

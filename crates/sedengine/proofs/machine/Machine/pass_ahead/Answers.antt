@@ -20,9 +20,9 @@ pub returns-in-Ok : goal.returns-in-Ok
 returns-in-Ok g c = record {
   steps = λ ls known files.
       passes_seen g.R.ByteSource.remaining c.args.lines.now c.take_lines.new.self ls c.args.self.now c.find_block.new.self c.count_block.new.self files c.in-Some.block c.ahead-ahead.result.now _ _ known c.in-Some.ensures.same c.ahead-ahead.ensures.value c.in-Some.ensures.block
-      (c.is_within_limits.ensures ls) c.requires.begins c.is_emptied.ensures c.take_lines.ensures.taken c.count_block.ensures c.in-Ok.ensures.writes;
+      (c.is_within_limits.ensures ls) c.requires.begins c.is_emptied.ensures c.take_lines.ensures.taken c.count_block.ensures c.in-Ok.ensures.puts;
   input = reads_ahead g.R.ByteSource.remaining g.R.ByteSource.failures g.R.ByteSource.reference c.args.lines.now c.take_lines.new.self _ _ c.take_lines.ensures.taken (omega (arith, length-drop c.in-Some.block.bytes c.args.lines.now.ahead)) (names_ok {x = tt {0}}).input;
-  output = c.in-Ok.ensures.output;
+  output = c.in-Ok.ensures.devices;
   falls = counted_falls c.args.self.now c.find_block.new.self c.count_block.new.self c.in-Some.block c.count_block.ensures c.in-Some.ensures.same;
   same = counted_same c.args.self.now c.find_block.new.self c.count_block.new.self c.in-Some.block c.count_block.ensures c.in-Some.ensures.same;
 }
@@ -31,9 +31,9 @@ pub returns-in-Err : goal.returns-in-Err
 returns-in-Err g c = record {
   steps = λ ls known files.
       breaks_seen g.R.ByteSource.remaining c.args.lines.now c.break_off.new.lines ls c.args.self.now c.find_block.new.self c.break_off.new.self files c.in-Some.block c.ahead-ahead.result.now c.in-Err.cut _ _ known c.in-Some.ensures.same c.ahead-ahead.ensures.value c.in-Some.ensures.block
-      (c.is_within_limits.ensures ls) c.requires.begins c.is_emptied.ensures c.break_off.ensures c.in-Err.ensures.writes;
-  input = reads_broken g.R.ByteSource.remaining g.R.ByteSource.failures g.R.ByteSource.reference c.args.lines.now c.break_off.new.lines c.find_block.new.self c.break_off.new.self c.in-Err.cut.done c.in-Some.block.bytes c.in-Err.cut.end c.break_off.ensures c.in-Err.ensures.writes.1.1;
-  output = c.in-Err.ensures.output;
+      (c.is_within_limits.ensures ls) c.requires.begins c.is_emptied.ensures c.break_off.ensures c.in-Err.ensures.puts;
+  input = reads_broken g.R.ByteSource.remaining g.R.ByteSource.failures g.R.ByteSource.reference c.args.lines.now c.break_off.new.lines c.find_block.new.self c.break_off.new.self c.in-Err.cut.done c.in-Some.block.bytes c.in-Err.cut.end c.break_off.ensures c.in-Err.ensures.puts.1.1;
+  output = c.in-Err.ensures.devices;
   falls = tt;
   same = brought_same c.args.self.now c.find_block.new.self c.break_off.new.self c.break_off.ensures.0.line c.break_off.ensures.0.brought c.in-Some.ensures.same;
 }

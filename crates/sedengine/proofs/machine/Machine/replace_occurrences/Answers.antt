@@ -8,9 +8,15 @@ use Rattle.sedengine.proofs.SubstituteMoves.{fits_build, fits_scratch, fits_seek
 use Rattle.sedengine.proofs.Tried.{matchers_kept, replaces_by, within_by}
 use Rattle.sedengine.proofs.machine.Machine.replace_occurrences.Goals as goal
 
-pub returns-in_default-clause-makes : goal.returns-in_default-clause-makes
-returns-in_default-clause-makes c = λ t is files ls.
-    (rw (stands c.self.inside c.args.self.now c.args.k c.or.result t c.substitution-substitution.result.now c.self.view_is is c.substitution-substitution.ensures.is c.or.ensures ∙ c.in_default.is) refl, ap (λ (e : RunState). e.state.number) c.self.view_is)
+pub returns-in_default : goal.returns-in_default
+returns-in_default c = record {
+  makes = λ t is files ls.
+      (rw (stands c.self.inside c.args.self.now c.args.k c.or.result t c.substitution-substitution.result.now c.self.view_is is c.substitution-substitution.ensures.is c.or.ensures ∙ c.in_default.is) refl, ap (λ (e : RunState). e.state.number) c.self.view_is);
+  err = refl;
+  devices = record { output = tt; input = λ is. cc };
+  fits = rw (← c.self.view_is) c.self.invariant.pattern;
+  same = refl;
+}
 
 pub index_mut-requires : goal.index_mut-requires
 index_mut-requires c =

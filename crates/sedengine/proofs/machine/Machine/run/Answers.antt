@@ -15,7 +15,7 @@ moves-init g c = record {
 
 pub returns-in-Err : goal.returns-in-Err
 returns-in-Err g c = record {
-  ends = λ sound ls known files told.
+  runs = λ sound ls known files told.
       let h = c.moves.invariant in
       let r = h.reached sound ls known files told in
       let input = ReadsLines-then _ _ _ _ _ _ _ h.leaves.input c.in-Err.ensures.input in
@@ -26,7 +26,7 @@ returns-in-Err g c = record {
 
 pub returns-in-Err-step : goal.returns-in-Err-step
 returns-in-Err-step g c = record {
-  ends = λ sound ls known files told.
+  runs = λ sound ls known files told.
       let h = c.moves.invariant in
       let r = h.reached sound ls known files told in
       let passed = ReadsLines-then _ _ _ _ _ _ _ h.leaves.input c.in_default.ensures.input in

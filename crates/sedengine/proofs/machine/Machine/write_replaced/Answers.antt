@@ -1,26 +1,34 @@
-use Rattle.sedengine.proofs.SubstituteMoves.{filed_seen, puts_both, puts_first}
-use Rattle.sedengine.proofs.Leaving.{puts_unread}
-use Rattle.sedengine.proofs.Writing.{Delivers-then}
+use Rattle.std.proofs.Common.{append-nil}
 use Rattle.std.proofs.lemmas.Result.{err_from_is_err_and}
+use Rattle.sedengine.specs.Move.{line_to}
+use Rattle.sedengine.proofs.SubstituteMoves.{of_one}
+use Rattle.sedengine.proofs.Writing.{writes_first, writes_none, writes_then}
 use Rattle.sedengine.proofs.machine.Machine.write_replaced.Goals as goal
 
-pub returns-in-Some : goal.returns-in-Some
-returns-in-Some g c = record {
-  puts = λ t is.
-      let w = c.args.self.now.state.pattern in
-      puts_both t w _ _ _ c.act_write.result (c.in_ok-print_replaced.ensures.puts t is)
-      (filed_seen c.self.inside c.args.self.now c.args.k c.substitution.result.now t c.in-Some.sink w _ _ c.act_write.result c.self.view_is c.substitution.ensures.is is c.in-Some.is c.act_write.ensures.puts);
-  devices = record { output = Delivers-then _ _ _ _ _ _ c.in_ok-print_replaced.ensures.devices.output c.act_write.ensures.output; input = puts_unread _ _ _ _ c.act_write.ensures.puts };
-}
+pub returns-in-false-None : goal.returns-in-false-None
+returns-in-false-None g c =
+    let is = of_one c.self.inside c.args.self.now c.args.k c.substitution-substitution.result.now c.self.view_is c.substitution-substitution.ensures.is in
+    rw (is, c.in-false-None.is-0, c.in-false-None.is-1) writes_none
 
-pub returns-in_err-print_replaced : goal.returns-in_err-print_replaced
-returns-in_err-print_replaced g c =
+pub returns-in-false-Some : goal.returns-in-false-Some
+returns-in-false-Some g c =
+    let is = of_one c.self.inside c.args.self.now c.args.k c.substitution-substitution.result.now c.self.view_is c.substitution-substitution.ensures.is in
+    rw (is, c.in-false-Some.is-0, c.in-false-Some.is-1) c.act_write-in-false-Some.ensures
+
+pub returns-in-true-None : goal.returns-in-true-None
+returns-in-true-None g c =
+    let is = of_one c.self.inside c.args.self.now c.args.k c.substitution-substitution.result.now c.self.view_is c.substitution-substitution.ensures.is in
+    rw (is, c.in-true-None.is-0, c.in-true-None.is-1, append-nil) c.act_write.ensures
+
+pub returns-in_ok-act_write-in-true-Some : goal.returns-in_ok-act_write-in-true-Some
+returns-in_ok-act_write-in-true-Some g c =
+    let is = of_one c.self.inside c.args.self.now c.args.k c.substitution-substitution.result.now c.self.view_is c.substitution-substitution.ensures.is in
+    let w = c.args.self.now.state.pattern in
+    rw (is, c.in-true-Some.is-0, c.in-true-Some.is-1) (writes_then (line_to 0 w) (line_to c.in-true-Some.sink w) c.in_ok-act_write-in-true-Some.ensures c.act_write-in-true-Some-2.ensures)
+
+pub returns-in_err-act_write-in-true-Some : goal.returns-in_err-act_write-in-true-Some
+returns-in_err-act_write-in-true-Some g c =
+    let is = of_one c.self.inside c.args.self.now c.args.k c.substitution-substitution.result.now c.self.view_is c.substitution-substitution.ensures.is in
+    let w = c.args.self.now.state.pattern in
     let p = err_from_is_err_and c.from_residual.result c.from_residual.ensures.1 in
-    record {
-      puts = λ t is.
-          rw (p.1, p.2) (puts_first t c.args.self.now.state.pattern _ _ c.in_err-print_replaced.field-0.0 (c.in_err-print_replaced.ensures.puts t is));
-      devices = rw (p.1, p.2) c.in_err-print_replaced.ensures.devices;
-    }
-
-pub returns-in-None-clause-devices : goal.returns-in-None-clause-devices
-returns-in-None-clause-devices g c = c.in_ok-print_replaced.ensures.devices
+    rw (p.1, p.2, is, c.in-true-Some.is-0, c.in-true-Some.is-1) (writes_first (line_to 0 w) (line_to c.in-true-Some.sink w) c.in_err-act_write-in-true-Some.ensures)

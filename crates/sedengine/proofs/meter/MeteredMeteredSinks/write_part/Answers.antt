@@ -1,11 +1,11 @@
-use Rattle.std.proofs.Common.{◌≡◌, ◌<◌, ◌≤◌, length, take, refl, arith, take-take, length-take-le}
+use Rattle.std.proofs.Common.{◌≡◌, ◌<◌, ◌≤◌, length, take, refl, arith, rules, take-take, length-take-le}
 use Rattle.std.proofs.Math.Seq.{take-length}
 use Rattle.sedengine.proofs.Sending.{Sent-one}
 use Rattle.sedengine.proofs.Metering.{below_both}
 use Rattle.sedengine.proofs.meter.MeteredMeteredSinks.write_part.Goals as goal
 
-pub returns-in-Err-clause-writes : goal.returns-in-Err-clause-writes
-returns-in-Err-clause-writes g c =
+pub returns-in-Err : goal.returns-in-Err
+returns-in-Err g c =
     let w = c.in-Err.ensures in
     let a = c.add.ensures in
     let bytes = c.args.bytes.now in
@@ -15,25 +15,34 @@ returns-in-Err-clause-writes g c =
     let less : done < room = omega (arith, w.part, length-take-le room bytes most) in
     let piece = take-take done room bytes (omega arith) in
     let long = length-take-le done bytes (omega arith) in
-    (omega (arith, less, most), refl, Sent-one _ _ c.args.sink (take done bytes) (rw piece at w.appends) w.others (rw long a.counts) a.others)
+    record {
+      puts = (omega (arith, less, most), refl, Sent-one _ _ c.args.sink (take done bytes) (rw piece at w.appends) w.others (rw long a.counts) a.others);
+      devices = search rules;
+    }
 
-pub returns-then-room-bytes-clause-writes : goal.returns-then-room-bytes-clause-writes
-returns-then-room-bytes-clause-writes g c =
+pub returns-then-room-bytes : goal.returns-then-room-bytes
+returns-then-room-bytes g c =
     let w = c.in_default.ensures in
     let a = c.add-2.ensures in
     let bytes = c.args.bytes.now in
     let room = c.room-room.result in
     let long = length-take-le room bytes c.room-room.ensures.most in
-    (c.if-room-bytes.true, refl, Sent-one _ _ c.args.sink (take room bytes) w.appends w.others (rw long a.counts) a.others)
+    record {
+      puts = (c.if-room-bytes.true, refl, Sent-one _ _ c.args.sink (take room bytes) w.appends w.others (rw long a.counts) a.others);
+      devices = search rules;
+    }
 
-pub returns-clause-writes : goal.returns-clause-writes
-returns-clause-writes g c =
+pub returns : goal.returns
+returns g c =
     let w = c.in_default.ensures in
     let a = c.add-2.ensures in
     let bytes = c.args.bytes.now in
     let room = c.room-room.result in
     let all : room ≡ length bytes = omega (arith, c.room-room.ensures.most, c.if-room-bytes.false) in
-    Sent-one _ _ c.args.sink bytes (rw (all, take-length) at w.appends) w.others (rw all at a.counts) a.others
+    record {
+      puts = Sent-one _ _ c.args.sink bytes (rw (all, take-length) at w.appends) w.others (rw all at a.counts) a.others;
+      devices = search rules;
+    }
 
 pub room-room-requires : goal.room-room-requires
 room-room-requires g c = (below_both c.requires).0
