@@ -1,9 +1,10 @@
 -- What is kept of items stays what it is while the lists grow.
-use Rattle.std.proofs.Common.{◌≡◌, ℕ, ◌<◌, ◌≤◌, List, [], ◌∷◌, ◌++◌, length, length-append, arith, unwrap_or, slice_get, get_or, refl, sym, ap, ◌∙◌}
+use Rattle.std.proofs.Common.{◌≡◌, ℕ, ◌+◌, ◌<◌, ◌≤◌, List, [], ◌∷◌, ◌++◌, length, length-append, arith, unwrap_or, slice_get, get_or, refl, sym, ap, ◌∙◌}
 use Rattle.std.specs.List.{All}
 use Rattle.std.proofs.lemmas.List.{map-append, get_or_append_left}
 use Rattle.std.proofs.lemmas.List.Elements.{All-head, All-tail, All-weaker}
 use Rattle.std.proofs.lemmas.Option.{unwrap_or-slice_get}
+use Rattle.std.proofs.lemmas.Grind.{elements}
 use Rattle.sedscript.specs.declared.items.Addresses.{Addresses}
 use Rattle.sedscript.specs.declared.items.Argument.{Argument}
 use Rattle.sedscript.specs.declared.items.Item.{Item}
@@ -17,6 +18,12 @@ use Rattle.sedscript.specs.Packed.{Longer, no_addresses, unpacked_addresses, unp
 listed : {A : Type 0} (xs ys : List A) (n : ℕ) (d : A) → Longer xs ys → n < length xs → unwrap_or (slice_get ys n) d ≡ unwrap_or (slice_get xs n) d
 listed xs ys n d more h =
     unwrap_or-slice_get ys n d ∙ (ap (λ zs. get_or zs n d) more.1 ∙ (get_or_append_left xs more.0 d n h ∙ sym (unwrap_or-slice_get xs n d)))
+
+-- what is added to a list is at its end
+pub added_last : {A : Type 0} (xs ys : List A) (x d : A) (n : ℕ) → ys ≡ xs ++ x ∷ [] → n ≡ length xs → (n < length ys) × (unwrap_or (slice_get ys n) d ≡ x)
+added_last xs ys x d n grown end =
+    let long : length ys ≡ length xs + 1 = ap length grown ∙ length-append xs (x ∷ []) in
+    (omega (arith, long, end), unwrap_or-slice_get ys n d ∙ ap (λ zs. get_or zs n d) grown ∙ grind (arith, elements, end))
 
 same_addresses : (xs ys : List Addresses) (given : PackedAddresses) (n : ℕ) → Longer xs ys → PacksAddresses (length xs) given n → unpacked_addresses ys given n ≡ unpacked_addresses xs given n
 same_addresses xs ys g.Listed n more h = listed xs ys n no_addresses more h

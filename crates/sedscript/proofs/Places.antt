@@ -1,7 +1,6 @@
 -- Faults are told in the text or at its end, and what is read names expressions that were read.
-use Rattle.std.proofs.Common.{◌≡◌, ℕ, zero, suc, ◌+◌, ◌-◌, ◌<◌, ◌≤◌, ◌&&◌, ◌==◌, Bool, true, false, not, List, [], ◌∷◌, ◌++◌, length, Option, Some, None, is_some, is_none, option_map, option_and_then, Result, Ok, Err, refl, sym, subst, ◌∙◌, arith, if◌then◌else◌, slice_get, drop, nat_lt, length-take, length-drop, length-append, ◌⊎◌, inl, inr, IfErr, unwrap_or}
+use Rattle.std.proofs.Common.{◌≡◌, ℕ, zero, suc, ◌+◌, ◌-◌, ◌<◌, ◌≤◌, ◌&&◌, ◌==◌, Bool, true, false, not, List, [], ◌∷◌, ◌++◌, length, Option, Some, None, is_some, is_none, option_map, option_and_then, Result, Ok, Err, refl, sym, subst, ◌∙◌, arith, if◌then◌else◌, slice_get, drop, nat_lt, length-take, length-drop, length-append, ◌⊎◌, inl, inr, OnOk, unwrap_or}
 use Rattle.std.specs.Option.{option_len, option_or}
-use Rattle.std.specs.Result.{IsErrAnd}
 use Rattle.sedre.specs.declared.types.Kind.{Kind}
 use Rattle.sedre.specs.declared.types.ExprReason.{ExprReason}
 use Rattle.sedre.specs.Tree.{WrittenExpression}
@@ -634,8 +633,11 @@ fault_within told text kind m f (afterwards is es to cut ends found) =
     let reached = cut_up_to text kind m 0 0 to (length es) is es cut (omega arith) (omega arith) in
     subst (FaultUpTo (length text)) found (target_up_to (length text) text is [] 0 is reached.1)
 
-pub read_within : {A : Type 0} → ExprFaultWithin → (text : List ℕ) (kind : Kind) (m : ℕ) (r : Result A ScriptFault) (f : ScriptFault) →
-    IsErrAnd r (λ g. g ≡ f) → Faulty text kind m f ⊎ (f ≡ NO_MEMORY) → IfErr r (λ g. g.place ≤ length text)
-read_within told text kind m (Ok s) f is h = tt
-read_within told text kind m (Err g) f is (inl bad) = rw is (fault_within told text kind m f bad)
-read_within told text kind m (Err g) f is (inr none) = rw is (rw none (omega arith))
+pub faulty_within : ExprFaultWithin → (text : List ℕ) (kind : Kind) (m : ℕ) (f : ScriptFault) → Faulty text kind m f ⊎ (f ≡ NO_MEMORY) → f.place ≤ length text
+faulty_within told text kind m f (inl bad) = fault_within told text kind m f bad
+faulty_within told text kind m f (inr none) = rw none (omega arith)
+
+-- what holds anyway holds where an answer is no fault
+pub holds_anyway : {A : Type 0} {P : Type 0} (r : Result A ScriptFault) → P → OnOk r P
+holds_anyway (Ok x) p = p
+holds_anyway (Err f) p = tt

@@ -1,7 +1,9 @@
 //! The reader of scripts.
 
 ghost use Rattle.std.specs.Prelude.{◌≡◌, ◌≤◌, ◌⊎◌, [], IfOk, IfErr, OnOk, length};
-ghost use Rattle.sedscript.specs.Script.{CutScript, IsEnd, Means};
+ghost use Rattle.sedscript.specs.Script.{CutScript, IsEnd, Means, is_quiet};
+ghost use Rattle.sedscript.specs.Parts.{program_of};
+ghost use Rattle.sedscript.specs.Ranges.{IsWithinRanges};
 ghost use Rattle.sedscript.specs.FirstFault.{Faulty};
 ghost use Rattle.sedscript.specs.Answers.{IsJudged};
 ghost use Rattle.sedscript.specs.Tables.{TargetsAre};
@@ -14,7 +16,7 @@ use crate::items::{ItemOrEnd, Source};
 use crate::packed::Items;
 use crate::script::{Named, Operands, Script};
 use crate::targets::{Targets, targets_of};
-use crate::types::{Kind, NO_MEMORY, ScriptFault};
+use crate::types::{Command, Kind, NO_MEMORY, ScriptFault};
 use sedre::Expr;
 use sedre::laws::{fault_within, reads_as_one};
 use std::alloc::Global;
@@ -63,6 +65,62 @@ fn judge<'a>(
     }
 }
 
+/// The script of these parts. Of the files it keeps the names.
+fn with_files(
+    source: &Source,
+    commands: Vec<Command>,
+    exprs: Vec<Expr>,
+    operands: Operands,
+    files: Files,
+) -> Script
+    requires { IsWithinRanges (program_of commands.items
+        (record { exprs = exprs; operands = operands; rfiles = files.read.names; wfiles = files.written.names })
+        (is_quiet source.now.text.now) source.now.max_nodes) }
+    ensures { result ≡ program_of commands.items
+        (record { exprs = exprs; operands = operands; rfiles = files.entry.read.names; wfiles = files.entry.written.names })
+        (is_quiet source.now.text.now) source.now.max_nodes }
+{
+    let Files { read, written } = files;
+    let named = Named {
+        exprs,
+        operands,
+        rfiles: read.names,
+        wfiles: written.names,
+    };
+    Script::of(commands, named, is_quiet(source.text), source.max_nodes)
+}
+
+/// The script that these items and regular expressions of a text become.
+fn script_of<'a>(
+    source: &Source<'a>,
+    items: &Items,
+    targets: &Targets<'a>,
+    exprs: Vec<Expr>,
+) -> Result<Script, ScriptFault>
+    requires judged { IsJudged source.now.text.now source.now.kind source.now.max_nodes items.now exprs.items }
+    requires targets { TargetsAre source.now.text.now items.now targets.now.labels targets.now.ends.items targets.now.commands }
+    ensures means { IfOk result (Means source.now.text.now source.now.kind source.now.max_nodes) }
+    ensures fault { IfErr result (λ f. f ≡ NO_MEMORY) }
+{
+    let files = files_of(source.alloc, source.text, items)?;
+    let mut operands = Operands {
+        texts: Vec::new(source.alloc),
+        substitutions: Vec::new(source.alloc),
+        tables: Vec::new(source.alloc),
+    };
+    match commands_of(
+        source.alloc,
+        source.text,
+        items,
+        targets,
+        &files,
+        &mut operands,
+    ) {
+        Err(_) => Err(NO_MEMORY),
+        Ok(commands) => Ok(with_files(source, commands, exprs, operands, files)),
+    }
+}
+
 /// Reads a text as a script, or answers its first fault.
 /// `max_nodes` is the most nodes that a regular expression may have, 1 to 65,536.
 /// The work and the memory grow with the text, and for its regular expressions with `max_nodes`.
@@ -92,20 +150,8 @@ pub fn read(alloc: Global, text: &[u8], kind: Kind, max_nodes: usize) -> Result<
         kind,
         max_nodes,
     };
-    let targets = judge(&source, &mut items, &mut exprs)?;
-    let files = files_of(alloc, text, &items)?;
-    let mut operands = Operands {
-        texts: Vec::new(alloc),
-        substitutions: Vec::new(alloc),
-        tables: Vec::new(alloc),
-    };
-    let commands = commands_of(alloc, text, &items, &targets, &files, &mut operands)?;
-    let Files { read, written } = files;
-    let named = Named {
-        exprs,
-        operands,
-        rfiles: read.names,
-        wfiles: written.names,
-    };
-    Ok(Script::of(commands, named, is_quiet(text), max_nodes))
+    match judge(&source, &mut items, &mut exprs) {
+        Err(fault) => Err(fault),
+        Ok(targets) => script_of(&source, &items, &targets, exprs),
+    }
 }
