@@ -9,7 +9,7 @@ ghost use Rattle.std.specs.Prelude.{◌≡◌, ◌<◌, [], IfSome};
 use crate::devices::Behaviour;
 use crate::job::limits_of;
 use crate::options::Options;
-use crate::report::{NO_MEMORY, Differences};
+use crate::report::{Differences, NO_MEMORY};
 use crate::table::SheetRow;
 use sededit::{MemoryFile, MemoryInputs, MemoryNames, MemorySinks, command};
 use sedengine::Limits;

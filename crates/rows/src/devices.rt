@@ -7,7 +7,7 @@
 ghost use Rattle.std.specs.Prelude.{◌<◌, length, None, IfOk};
 
 use crate::options::Options;
-use crate::report::{Message, NO_MEMORY, Differences};
+use crate::report::{Differences, Message, NO_MEMORY};
 use crate::table::SheetRow;
 use sedengine::Ended;
 use sedscript::Script;
@@ -105,7 +105,11 @@ impl Texts for PiecedTexts {
 }
 
 /// The devices of a script: with a sink for the standard output and for each file that it writes.
-pub(crate) fn devices_of(row: &SheetRow, script: &Script, way: Behaviour) -> Result<Devices, Message>
+pub(crate) fn devices_of(
+    row: &SheetRow,
+    script: &Script,
+    way: Behaviour,
+) -> Result<Devices, Message>
     ensures { IfOk result (λ d. length script.now.wfiles < length d.outputs.held) }
 {
     let options = row.options(3);

@@ -2,7 +2,7 @@
 ghost use Rattle.std.specs.Prelude.{◌≤◌, IfOk};
 
 use crate::options::Options;
-use crate::report::{Message, Differences};
+use crate::report::{Differences, Message};
 use crate::table::SheetRow;
 use sededit::script;
 use sedengine::Limits;

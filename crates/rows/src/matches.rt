@@ -10,7 +10,7 @@ ghost use Rattle.sedmatch.specs.SearchRoom.{FitInto};
 
 use crate::expressions::kind_named;
 use crate::options::Options;
-use crate::report::{NO_MEMORY, Differences};
+use crate::report::{Differences, NO_MEMORY};
 use crate::sheet::Sheet;
 use crate::table::SheetRow;
 use sedmatch::{Occurrences, Scratch, TableMatcher, TableRoom, Text, find};
@@ -46,7 +46,13 @@ fn run_from(row: &SheetRow, from: Option<usize>, report: &mut Differences) {
 }
 
 /// Searches the text by an expression that is used once, where there is a place, and by tables of each size.
-fn run_over(row: &SheetRow, expr: &Expr, text: &[u8], from: Option<usize>, report: &mut Differences) {
+fn run_over(
+    row: &SheetRow,
+    expr: &Expr,
+    text: &[u8],
+    from: Option<usize>,
+    report: &mut Differences,
+) {
     let nodes = expr.nodes();
     let place = from.unwrap_or(0);
     if nodes < 1 || nodes > 65536 || text.len() > 1 << 20 || place > text.len() {
@@ -218,7 +224,13 @@ fn all_of(
 }
 
 /// Whether the first occurrence, where a place is given, or all of them are what the row says.
-fn compare(row: &SheetRow, from: Option<usize>, mut came: Sheet, all: &Occurred, report: &mut Differences) {
+fn compare(
+    row: &SheetRow,
+    from: Option<usize>,
+    mut came: Sheet,
+    all: &Occurred,
+    report: &mut Differences,
+) {
     let (steps, group_steps) = (all.steps, all.group_steps);
     if from.is_some() {
         let steps = steps.saturating_add(group_steps);
@@ -239,7 +251,13 @@ fn compare(row: &SheetRow, from: Option<usize>, mut came: Sheet, all: &Occurred,
 }
 
 /// Whether there are as many steps as the options of these names say.
-fn compare_steps(most: &str, least: &str, steps: u128, options: Options<'_>, report: &mut Differences) {
+fn compare_steps(
+    most: &str,
+    least: &str,
+    steps: u128,
+    options: Options<'_>,
+    report: &mut Differences,
+) {
     let least = options.number_or(least.as_bytes(), 0);
     let most = options.number_or(most.as_bytes(), usize::MAX);
     if steps < least as u128 || (most as u128) < steps {

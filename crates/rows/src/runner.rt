@@ -1,7 +1,7 @@
 //! The run of a row's script, by `edit` or by an engine.
 ghost use Rattle.std.specs.Prelude.{◌≡◌, ◌<◌, length};
 
-use crate::devices::{Devices, PiecedTexts, Behaviour, devices_of};
+use crate::devices::{Behaviour, Devices, PiecedTexts, devices_of};
 use crate::job::{limits_of, script_of};
 use crate::report::{Message, NO_MEMORY};
 use crate::table::SheetRow;

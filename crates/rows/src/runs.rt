@@ -14,7 +14,7 @@ use crate::devices::Behaviour;
 use crate::faults::put_end;
 use crate::job::check_script;
 use crate::options::Options;
-use crate::report::{Message, Differences};
+use crate::report::{Differences, Message};
 use crate::runner::{RunOutcome, run_edit, run_engine};
 use crate::sheet::Sheet;
 use crate::table::SheetRow;
@@ -114,7 +114,12 @@ fn fail_device(row: &SheetRow, sink: Option<usize>, report: &mut Differences) {
 
 /// Whether the run came to its end, and the sinks have what they should; or where a device may fail, whether it ended by the
 /// failure and wrote a beginning. Says whether that failure was met.
-fn compare(row: &SheetRow, came: Result<RunOutcome, Message>, may_fail: bool, report: &mut Differences) -> bool {
+fn compare(
+    row: &SheetRow,
+    came: Result<RunOutcome, Message>,
+    may_fail: bool,
+    report: &mut Differences,
+) -> bool {
     let outcome = match came {
         Ok(outcome) => outcome,
         Err(message) => {
@@ -138,7 +143,12 @@ fn compare_stays(outcome: &RunOutcome, report: &mut Differences) {
 }
 
 /// Whether each sink has what the row says, or a beginning of it where that is enough.
-fn compare_sinks(row: &SheetRow, outputs: &MemoryOutputs, is_enough: bool, report: &mut Differences) {
+fn compare_sinks(
+    row: &SheetRow,
+    outputs: &MemoryOutputs,
+    is_enough: bool,
+    report: &mut Differences,
+) {
     for sink in 0..outputs.sinks() {
         let written = outputs.bytes(sink);
         let wanted = wanted_of(row, sink);
