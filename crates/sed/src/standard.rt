@@ -8,7 +8,7 @@ ghost use Rattle.sededit.specs.Program.{AsksHelp};
 
 use sededit::command;
 use sedengine::Limits;
-use sedsystem::{SinkDevices, FileInputs, FileNames, FileSinks, Messages, placeholders};
+use sedsystem::{FileInputs, FileNames, FileSinks, Messages, SinkDevices, placeholders};
 use std::env;
 use std::io::{self, ErrorKind, Write};
 

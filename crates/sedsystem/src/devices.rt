@@ -3,7 +3,7 @@
 ghost use Rattle.std.specs.Prelude.{◌<◌, length, IfOk};
 ghost use Rattle.std.specs.Io.{WritesAtMost};
 
-use crate::output::{Device, BufferedDevice};
+use crate::output::{BufferedDevice, Device};
 use sedspace::Broken;
 use std::alloc::Global;
 use std::cell::RefCell;

@@ -51,7 +51,10 @@ fn is_file(metadata: &io::Result<Metadata>) -> bool {
 impl<'a> FileInputs<'a> {
     /// Inputs of which none is open. What the devices have gathered is written out before a read that may wait.
     /// An error is that there was no memory.
-    pub fn new(rt: &'a HostRuntime, devices: &'a SinkDevices) -> Result<FileInputs<'a>, AllocError> {
+    pub fn new(
+        rt: &'a HostRuntime,
+        devices: &'a SinkDevices,
+    ) -> Result<FileInputs<'a>, AllocError> {
         Ok(FileInputs {
             rt,
             devices,
