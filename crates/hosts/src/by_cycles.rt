@@ -11,7 +11,7 @@ use std::alloc::Global;
 /// How many cycles the host sees of each script.
 const MOST_CYCLES: u32 = 3;
 
-/// Runs the first cycles, and tells the end where they come to one.
+/// Runs the first cycles, and gives the end where they come to one.
 fn first_cycles<R: ByteSource, O: Outputs, T: Texts>(
     engine: &mut Engine,
     lines: &mut Lines<R>,
