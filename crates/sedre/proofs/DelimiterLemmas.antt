@@ -5,7 +5,7 @@ use Rattle.std.proofs.lemmas.List.{get_or-drop, length-drop, drop-drop}
 use Rattle.sedre.proofs.ByteLemmas.{apart_false}
 use Rattle.sedre.specs.Brackets.{next_place, first_delimiter}
 
--- whether a newline stands in some bytes
+-- whether a newline is among some bytes
 abbrev pub breaks : List ℕ → Bool
 breaks bytes = list_any (λ b. b == 10) bytes
 

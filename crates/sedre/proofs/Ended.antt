@@ -1,6 +1,5 @@
 -- The end of a text, and the steps before it.
-use Rattle.std.proofs.Common.{Bool, ◌≡◌, ◌≢◌, ℕ, ◌+◌, ◌<◌, ◌≤◌, ◌⊎◌, inl, inr, length, get_or, List, [], ◌∷◌, true, Option, Result, Ok, Err, refl, ap, subst, sym, ◌∙◌, IfOk, IfErr, OnOk, arith, append-nil}
-use Rattle.std.specs.Result.{is_ok}
+use Rattle.std.proofs.Common.{Bool, ◌≡◌, ◌≢◌, ℕ, ◌+◌, ◌<◌, ◌≤◌, ◌⊎◌, inl, inr, length, get_or, List, [], ◌∷◌, Option, Result, Ok, Err, refl, ap, subst, sym, ◌∙◌, IfOk, IfErr, OnOk, arith, append-nil}
 use Rattle.sedre.specs.declared.types.Kind.{Kind}
 use Rattle.sedre.specs.declared.types.ExprReason.{ExprReason}
 use Rattle.sedre.specs.declared.types.ExprFault.{ExprFault}
@@ -23,11 +22,6 @@ use Rattle.sedre.proofs.Numbers.{of_alternatives, of_alternation}
 use Rattle.sedre.proofs.Reading.{Reading, reading_whole, reading_limits}
 use Rattle.sedre.proofs.Repeating.{repeat_follows}
 use Rattle.sedre.proofs.Exclusive.{no_fault}
-
--- what holds where a call succeeded
-pub on_ok : {A E P : Type 0} (r : Result A E) → is_ok r ≡ true → OnOk r P → P
-on_ok (Ok x) h p = p
-on_ok (Err e) h p = absurd cc
 
 -- another fact for the value, and for the error
 pub if_ok : {A E : Type 0} (P Q : A → Type 0) (r : Result A E) → ((x : A) → P x → Q x) → IfOk r P → IfOk r Q

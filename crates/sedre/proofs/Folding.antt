@@ -175,7 +175,7 @@ open_alike empty n = refl
 open_alike (next bytes a) n = open_alike a n
 open_alike (next {is = is} {js = js} (one {i = i}) a) n = same_open i is js (open_alike a) n
 
--- ---- what stands at a place
+-- ---- what is at a place
 
 data AlikeHere : NextToken → NextToken → Type 0 where
   stands : {i j : Token} {n : ℕ} → AlikeItem i j → AlikeHere (Is i n) (Is j n)

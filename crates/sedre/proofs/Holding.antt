@@ -134,7 +134,7 @@ module _ (ns : List Node) (arena : IsArena ns) where
   sizes_fit (star a first) base x h lo hi = one_fits a (star a first) base x refl h (λ g. sizes_fit a base x h.0 lo g) hi
   sizes_fit (opt a first) base x h lo hi = one_fits a (opt a first) base x refl h (λ g. sizes_fit a base x h.0 lo g) hi
 
-  -- what stands at an index, told of an equal one
+  -- what is at an index, said of an equal one
   follows_at : (x y : ℕ) (own n : Node) → x ≡ y → slice_get ns y ≡ Some own → slice_get ns x ≡ Some n → FollowsParts ns y own → FollowsParts ns x n
   follows_at x y own n e there is parts =
       let at : slice_get ns x ≡ slice_get ns y = ap (slice_get ns) e in

@@ -29,7 +29,7 @@ same_depth : {g h : ℕ} {is : List Token} {bs ds : List Tree} → AreAlternativ
 same_depth a b = ap (λ (x : List Tree). depth (alternation x)) (one_reading a b)
 
 module _ (kind : Kind) (folded : Bool) (delimiter : Option ℕ) (text : List ℕ) (max_nodes : ℕ) where
-  -- after the same tokens stands one fault
+  -- after the same tokens comes one fault
   same_row : {o mid p q : ℕ} {js : List Token} {r s : ExprReason} → FaultRow kind folded delimiter text max_nodes js o mid p r → FaultRow kind folded delimiter text max_nodes js o mid q s → Same p q r s
   same_row {p = p} {q = q} {r = r} {s = s} (bad f) (bad g) = same_bad p q r s (sym f ∙ g)
   same_row (bad f) (stray g) = absurd cc

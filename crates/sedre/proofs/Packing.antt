@@ -1,5 +1,6 @@
 -- Nodes as entries of a table.
-use Rattle.std.proofs.Common.{◌≡◌, ℕ, zero, suc, ◌+◌, ◌-◌, ◌<◌, ◌≤◌, length, get_or, slice_get, List, [], ◌∷◌, ◌++◌, map, take, drop, Bool, Some, refl, ap, subst, ◌∙◌, sym, append_assoc, arith, length-append, length-drop, get_or-drop, inl, inr, OnOk, Result, Ok, Err}
+use Rattle.std.proofs.Common.{◌≡◌, ℕ, zero, suc, ◌+◌, ◌-◌, ◌<◌, ◌≤◌, length, get_or, slice_get, List, [], ◌∷◌, ◌++◌, map, take, drop, Bool, Some, refl, ap, subst, ◌∙◌, sym, append_assoc, arith, take_all, if◌then◌else◌, length-append, length-drop, get_or-drop, inl, inr, OnOk, Result, Ok, Err}
+use Rattle.std.specs.Result.{is_ok}
 use Rattle.std.specs.declared.alloc.AllocError.{AllocError}
 use Rattle.std.proofs.lemmas.Bool.Decides.{leb_tells}
 use Rattle.std.proofs.lemmas.List.{take_more, get_or_append_left}
@@ -46,7 +47,7 @@ nodes_grown sets more x [] p = refl
 nodes_grown sets more x (e ∷ es) p =
     ap (λ (n : Node). n ∷ nodes_from (sets ++ more) (x + 1) es) (node_grown sets more x e.shape e.left e.right p.0) ∙ ap (λ (r : List Node). node_at sets x e ∷ r) (nodes_grown sets more (x + 1) es p.1)
 
--- further on, parts still stand among the nodes
+-- further on, parts are still among the nodes
 fit_shape_on : (sets : List (List Bool)) (x y : ℕ) (s : Shape) (left right : ℕ) → x ≤ y → FitsShape sets x s left right → FitsShape sets y s left right
 fit_shape_on sets x y shape.Empty left right h p = tt
 fit_shape_on sets x y shape.Set left right h p = p
@@ -191,18 +192,14 @@ fit_part sets from count es p =
     nothing zero = tt
     nothing (suc n) = tt
 
--- one of them more
-pub again_more : (old now new : List PackedNode) (from i : ℕ) (e : PackedNode) → now ≡ old ++ take (i - from) (drop from old) → from ≤ i → i < length old → e ≡ get_or now i e → new ≡ now ++ e ∷ [] →
-    new ≡ old ++ take (i + 1 - from) (drop from old)
-again_more old now new from i e is lo hi read more =
-    let k : ℕ = i - from in
-    let rest : List PackedNode = drop from old in
-    let there : i ≡ from + k = omega (arith, lo) in
-    let next : i + 1 - from ≡ k + 1 = omega (arith, lo) in
-    let inside : k < length rest = omega (arith, lo, hi, length-drop from old) in
-    let value : e ≡ get_or rest k e = read ∙ ap (λ (x : List PackedNode). get_or x i e) is ∙ get_or_append_left old (take k rest) e i hi ∙ ap (λ (n : ℕ). get_or old n e) there ∙ sym (get_or-drop from old k e) in
-    more ∙ ap (λ (x : List PackedNode). x ++ e ∷ []) is ∙ append_assoc old (take k rest) (e ∷ [])
-    ∙ ap (λ (x : PackedNode). old ++ (take k rest ++ x ∷ [])) value ∙ ap (λ (x : List PackedNode). old ++ x) (sym (take_more rest k e inside)) ∙ ap (λ (n : ℕ). old ++ take n rest) (sym next)
+-- the entries from one on once more, or no change where that was refused
+pub fit_again : (sets : List (List Bool)) (r : Result (Unit {0}) AllocError) (from count : ℕ) (es es' : List PackedNode) → es' ≡ (if is_ok r then es ++ take count (drop from es) else es) → FitFrom sets 0 es → FitFrom sets 0 es'
+fit_again sets (Ok u) from count es es' is p = subst (FitFrom sets 0) (sym is) (fit_part sets from count es p)
+fit_again sets (Err x) from count es es' is p = subst (FitFrom sets 0) (sym is) p
+
+pub added_again : (r : Result (Unit {0}) AllocError) (from count : ℕ) (es es' : List PackedNode) → length es ≤ from + count → es' ≡ (if is_ok r then es ++ take count (drop from es) else es) → OnOk r (es' ≡ es ++ drop from es)
+added_again (Ok u) from count es es' all is = is ∙ ap (λ (x : List PackedNode). es ++ x) (take_all count (drop from es) (omega (arith, all, length-drop from es)))
+added_again (Err x) from count es es' all is = tt
 
 -- an element that was read
 pub known : (es : List PackedNode) (i : ℕ) (e : PackedNode) → i < length es → e ≡ get_or es i e → slice_get es i ≡ Some e

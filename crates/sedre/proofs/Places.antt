@@ -1,4 +1,4 @@
--- A fault is told in the text or at its end.
+-- A fault is in the text or at its end.
 use Rattle.std.proofs.Common.{◌≡◌, ℕ, zero, suc, ◌+◌, ◌-◌, ◌<◌, ◌≤◌, List, [], ◌∷◌, length, drop, Bool, true, false, not, ◌&&◌, ◌==◌, nat_le, if◌then◌else◌, Option, Some, None, Result, Ok, Err, IfErr, refl, ap, subst, arith, length-drop}
 use Rattle.std.specs.List.{last_or}
 use Rattle.sedre.specs.declared.types.Kind.{Kind}
@@ -19,7 +19,7 @@ use Rattle.sedre.specs.Brackets.{elements, front_element, elements_from, is_at_f
 use Rattle.sedre.specs.Tokens.{front_interval, front_symbol, is_leading, is_repeatable, is_repeat, ends_alternative, repeats, interval_token, list_token, star_item, question_item, anchor_item, token_for, token_at}
 use Rattle.sedre.specs.Grammar.{FaultRow, bad, stray, FaultyWith}
 
--- the elements of a list stand up to a place
+-- no element of a list is past a place
 abbrev StandUpTo : ℕ → List (ℕ × Element) → Type 0
 StandUpTo n [] = Unit {0}
 StandUpTo n (x ∷ xs) = (x.0 ≤ n) × StandUpTo n xs
@@ -40,7 +40,7 @@ from_up_to delimiter n place [] le = tt
 from_up_to delimiter n place (b ∷ bs) le =
     up_to_if n (b == 94) _ _ (elements_up_to delimiter n true 0 (place + 1) bs (omega (arith, le))) (elements_up_to delimiter n true 0 place (b ∷ bs) le)
 
--- a fault is told up to a place
+-- no fault is past a place
 abbrev ToldUpTo : {A : Type 0} → ℕ → Result A ExprFault → Type 0
 ToldUpTo n r = IfErr r (λ f. f.place ≤ n)
 
@@ -104,7 +104,7 @@ list_told folded delimiter text at inside =
     judged_told (length text) folded (is_at_front bytes 94) at (all_listed found.0) found.1 (omega (arith, inside))
     (listed_told (length text) found.0 (from_up_to delimiter (length text) (at + 1) bytes (omega (arith, inside, length-drop (at + 1) text))))
 
--- what stands at a place up to this one, or is told there
+-- what is at a place up to this one, or a fault there
 abbrev HereUpTo : (n at : ℕ) → NextToken → Type 0
 HereUpTo n at (Is i next) = at ≤ n
 HereUpTo n at (Bad f) = f.place ≤ n
@@ -164,6 +164,6 @@ module _ (kind : Kind) (folded : Bool) (delimiter : Option ℕ) (text : List ℕ
   row_within max_nodes (stray {is = is} {to = to} e) = subst (HereUpTo (length text) to) e (item_here (last_or None is) to)
   row_within max_nodes _ = omega arith
 
-  -- the first fault of a text is told in it or at its end
+  -- the first fault of a text is in it or at its end
   pub fault_within : (max_nodes : ℕ) {place : ℕ} {reason : ExprReason} → FaultyWith kind folded delimiter text max_nodes place reason → place ≤ length text
   fault_within max_nodes f = row_within max_nodes f.row

@@ -15,7 +15,7 @@ use Rattle.sedre.proofs.Sound.{Stands, base, only as only_pieces, stands_piece, 
 use Rattle.sedre.proofs.Exclusive.{open-append, go_on}
 use Rattle.sedre.proofs.Repeating.{repeat_follows}
 
--- after the tokens up to this place stands this state
+-- after the tokens up to this place, this is the state
 pub record Reading (kind : Kind) (folded : Bool) (delimiter : Option ℕ) (text : List ℕ) (before : Option Token) (at : ℕ) (s : Nesting) : Type 0 where
   pub tokens : List Token
   pub cut : CutExpression kind folded delimiter text None 0 tokens at

@@ -85,7 +85,7 @@ module _ (limit : ℕ) (ts : List Tree) (a : Tree) where
       let P : List Tree → Type 0 = λ x. Stored limit s x in
       subst P (copies_then ts less a (a ∷ []) ∙ ap (λ (r : List Tree). ts ++ r) (sym (copies_add less 1 a []) ∙ ap (λ (n : ℕ). with_copies n a []) e ∙ ap (λ (n : ℕ). with_copies count a (further n a (nat_eq count 0))) (let h : 0 ≡ count - count = omega arith in h))) st
 
-  -- the optional copies stand after those that must
+  -- the optional copies come after the required ones
   pub split_copies : (s : Stack) (least more all : ℕ) → all ≡ least + more → Stored limit s ((ts ++ with_copies all a []) ++ a ∷ []) → Stored limit s (((ts ++ with_copies least a []) ++ with_copies more a []) ++ a ∷ [])
   split_copies s least more all e st =
       let P : List Tree → Type 0 = λ x. Stored limit s (x ++ a ∷ []) in
@@ -98,6 +98,6 @@ module _ (limit : ℕ) (ts : List Tree) (a : Tree) where
       subst P (copies_then ts least a (optional more a mark ∷ []) ∙ ap (λ (b : Bool). ts ++ with_copies least a (optional more a b ∷ [])) e
       ∙ ap (λ (n : ℕ). ts ++ with_copies least a (further n a (nat_eq least 0))) (let h : suc more ≡ most - least = omega (arith, em) in h)) st
 
-  -- how many trees stand before
+  -- how many trees come before
   pub from_is : (s : Stack) (from : ℕ) → Stored limit s (ts ++ a ∷ []) → from ≡ length s.parts.items - 1 → length ts ≡ from
   from_is s from st e = omega (arith, e, count_of st, length-append ts (a ∷ []))

@@ -1,4 +1,4 @@
--- A repetition stands only after what can be repeated, and its bounds are in order.
+-- A repetition comes only after what can be repeated, and its bounds are in order.
 use Rattle.std.proofs.Common.{◌≡◌, ℕ, ◌+◌, ◌≤◌, if◌then◌else◌, ◌&&◌, drop, Result, Ok, Err, List, Bool, true, false, Option, Some, None, refl, subst, arith}
 use Rattle.std.specs.Prelude.{nat_le, option_and_then}
 use Rattle.std.proofs.lemmas.Bool.Decides.{leb_tells}
@@ -18,7 +18,7 @@ use Rattle.sedre.specs.Stacks.{IsInterval}
 use Rattle.sedre.specs.Brackets.{is_at_front, list_at}
 use Rattle.sedre.specs.Tokens.{front_symbol, numeral, closes, limit, after_least, front_interval, token_at, token_for, is_repeatable, is_repeat, is_leading, ends_alternative, repeats, interval_token, list_token, star_item, question_item, anchor_item}
 
--- a repetition stands where one may, with bounds in order
+-- a repetition comes where one may, with bounds in order
 abbrev pub FineItem : Bool → Token → Type 0
 FineItem may (Repeat least most) = (may ≡ true) × IsInterval least most
 FineItem may _ = Unit {0}

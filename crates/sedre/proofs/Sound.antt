@@ -12,7 +12,7 @@ pub data Body : ℕ → List Token → List Tree → List Tree → ℕ → Type 
   only : {g h : ℕ} {is : List Token} {ps : List Tree} → ArePieces g is ps h → Body g is [] ps h
   following : {g h k : ℕ} {is js : List Token} {bs ps : List Tree} → AreAlternatives g is bs h → ArePieces h js ps k → Body g (is ++ Bar ∷ js) bs ps k
 
--- the tokens stand as this level inside those
+-- the tokens make up this level inside those
 pub data Stands : List Token → ℕ → Level → List Level → Type 0 where
   base : {h : ℕ} {is : List Token} {bs ps : List Tree} → Body 0 is bs ps h → Stands is h (record { number = 0; alternatives = bs; pieces = ps }) []
   inside : {g h : ℕ} {is js : List Token} {bs ps : List Tree} {l : Level} {ls : List Level} → Stands is g l ls → Body (suc g) js bs ps h →

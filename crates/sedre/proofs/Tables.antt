@@ -1,4 +1,4 @@
--- What is written out is an arena: parts stand before their nodes, and each is a part once.
+-- What is written out is an arena: parts come before their nodes, and each is a part once.
 use Rattle.std.proofs.Common.{◌≡◌, ◌≢◌, ℕ, zero, suc, ◌+◌, ◌-◌, ◌<◌, ◌≤◌, ◌⊎◌, inl, inr, ◌==◌, if◌then◌else◌, length, List, [], ◌∷◌, ◌++◌, Bool, Some, refl, ap, subst, ◌∙◌, sym, append_assoc, arith, length-append}
 use Rattle.std.specs.Prelude.{slice_get}
 use Rattle.std.proofs.lemmas.Bool.Decides.{eqb_tells, leb_tells}
@@ -34,7 +34,7 @@ abbrev pub AreBelow : ℕ → List Node → Type 0
 AreBelow base [] = Unit {0}
 AreBelow base (n ∷ ns) = AllLess base (parts n) × AreBelow (base + 1) ns
 
--- how often a number stands in a list
+-- how often a number occurs in a list
 abbrev pub times : ℕ → List ℕ → ℕ
 times i [] = 0
 times i (x ∷ xs) = (if x == i then 1 else 0) + times i xs
@@ -125,7 +125,7 @@ below-append base (n ∷ xs) ys p q = (p.0, below-append (base + 1) xs ys p.1 (s
 below_last : (base : ℕ) (xs : List Node) (n : Node) → AreBelow base xs → AllLess (base + length xs) (parts n) → AreBelow base (xs ++ n ∷ [])
 below_last base xs n p h = below-append base xs (n ∷ []) p (h, tt)
 
--- the parts of each node stand before it
+-- the parts of each node come before it
 pub parts_below : (base : ℕ) (t : Tree) → AreBelow base (postorder base t)
 parts_below base (seq a b) = below_last base (postorder base a ++ postorder (base + size a) b) (node.Seq (id (base + size a - 1)) (id (base + size a + size b - 1)))
     (below-append base (postorder base a) (postorder (base + size a) b) (parts_below base a) (subst (λ (m : ℕ). AreBelow m (postorder (base + size a) b)) (ap (λ (m : ℕ). base + m) (sym (length-postorder base a))) (parts_below (base + size a) b))) (

@@ -124,7 +124,6 @@ impl Builder {
             Stored limit self.new.stack (whole_level s.top ∷ []) × (self.new.opened ≡ s.opened)) }
     {
         self.stack.concatenate(self.top.pieces)?;
-        self.stack.join_all(0, true)?;
-        Ok(())
+        self.stack.join_all(0, true)
     }
 }

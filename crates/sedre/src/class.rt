@@ -66,18 +66,19 @@ impl Class {
         ensures { result ≡ in_class self b }
     {
         match self {
-            Class::Alnum => matches!(b, b'A'..=b'Z' | b'a'..=b'z' | b'0'..=b'9'),
-            Class::Alpha => matches!(b, b'A'..=b'Z' | b'a'..=b'z'),
-            Class::Blank => matches!(b, b'\t' | b' '),
-            Class::Cntrl => matches!(b, 0..=31 | 127),
+            Class::Alnum => b.is_ascii_alphanumeric(),
+            Class::Alpha => b.is_ascii_alphabetic(),
+            Class::Blank => b == b'\t' || b == b' ',
+            Class::Cntrl => b.is_ascii_control(),
             Class::Digit => b.is_ascii_digit(),
-            Class::Graph => matches!(b, b'!'..=b'~'),
-            Class::Lower => matches!(b, b'a'..=b'z'),
-            Class::Print => matches!(b, b' '..=b'~'),
-            Class::Punct => matches!(b, b'!'..=b'/' | b':'..=b'@' | b'['..=b'`' | b'{'..=b'~'),
-            Class::Space => matches!(b, 9..=13 | b' '),
-            Class::Upper => matches!(b, b'A'..=b'Z'),
-            Class::Xdigit => b.is_ascii_digit() || matches!(b, b'A'..=b'F' | b'a'..=b'f'),
+            Class::Graph => b.is_ascii_graphic(),
+            Class::Lower => b.is_ascii_lowercase(),
+            Class::Print => b == b' ' || b.is_ascii_graphic(),
+            Class::Punct => b.is_ascii_punctuation(),
+            // A vertical tab is a space here, and no whitespace of Rust's.
+            Class::Space => b == 11 || b.is_ascii_whitespace(),
+            Class::Upper => b.is_ascii_uppercase(),
+            Class::Xdigit => b.is_ascii_hexdigit(),
         }
     }
 }

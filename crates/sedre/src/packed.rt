@@ -157,18 +157,6 @@ fn add(
     Ok(())
 }
 
-/// Adds a copy of the entries from index `from` on.
-fn add_again(entries: &mut Vec<PackedNode>, from: usize) -> Result<(), AllocError>
-    ensures fits { (sets : List (List Bool)) → FitFrom sets 0 entries.old.items → FitFrom sets 0 entries.new.items }
-    ensures entries { OnOk result (entries.new.items ≡ entries.old.items ++ drop from entries.old.items) }
-{
-    for i in from..entries.len() {
-        let entry = entries[i];
-        entries.push(entry)?;
-    }
-    Ok(())
-}
-
 /// Nodes, each after its parts.
 #[derive(Drop)]
 pub struct Packed {
@@ -249,7 +237,7 @@ impl Packed {
             self.new ≡ self.old ++ map (shifted count) (drop (length self.old - count) self.old)) }
     {
         let from = self.entries.len().saturating_sub(count);
-        add_again(&mut self.entries, from)
+        self.entries.extend_from_within(from..)
     }
 
     /// Keeps the first `count` nodes, or all where there are fewer.

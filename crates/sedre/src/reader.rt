@@ -1,58 +1,48 @@
 //! Reads an expression, in one pass over the text and with a stack of its own.
-ghost use Rattle.std.specs.Prelude.{◌≡◌, ◌≢◌, true, false, ◌≤◌, ◌<◌, ◌⊎◌, [], ℕ, Some, length};
+ghost use Rattle.std.specs.Prelude.{◌≡◌, ◌≢◌, true, false, ◌≤◌, ◌<◌, ◌+◌, ◌⊎◌, [], ℕ, Some, length};
 ghost use Rattle.std.specs.Prelude.{OnOk, IfOk, IfErr, vec_len};
 ghost use Rattle.std.specs.Bool.{OnTrue, OnFalse};
 ghost use Rattle.sedre.specs.declared.types.ExprReason.{ExprReason};
 ghost use Rattle.sedre.specs.Grammar.{ReadsAs, FaultyWith, ExprFaulty};
 ghost use Rattle.sedre.specs.Tree.{size, expression_tree};
-ghost use Rattle.sedre.specs.Stacks.{Nesting, Represents, whole_level};
+ghost use Rattle.sedre.specs.Stacks.{Nesting, Represents, no_nesting, whole_level};
+ghost use Rattle.sedre.specs.Arena.{IsExpr};
 ghost use Rattle.sedre.specs.Finished.{GroupsNumbered, IsFinished, IsOverLimit};
 
 use crate::builder::Builder;
-use crate::stack::Stack;
 use crate::syntax::{NextToken, Token};
 use crate::table::Expr;
 use crate::tokens::token_at;
 use crate::types::{ExprFault, ExprReason, Kind, NO_MEMORY};
-use std::alloc::Global;
+use std::alloc::{AllocError, Global};
 
-/// The expression of all that was read, if it is within the limits; otherwise a fault at the end of the text, `len`.
-fn finish(mut builder: Builder, len: usize) -> Result<Expr, ExprFault>
-    requires { (limit : ℕ) × (s : Nesting) × Represents limit builder s × (s.below ≡ []) ×
+/// Joins what was read into one tree. A fault at the end of the text, `len`, where it is not within the limits.
+fn finish(builder: &mut Builder, len: usize) -> Result<(), ExprFault>
+    requires { (limit : ℕ) × (s : Nesting) × Represents limit builder.old s × (s.below ≡ []) ×
         GroupsNumbered s.opened (whole_level s.top) × (limit ≤ 65537) }
-    ensures ok { IfOk result (λ e. (limit : ℕ) (s : Nesting) → Represents limit builder s → s.below ≡ [] →
-        IsFinished s limit e) }
-    ensures err { IfErr result (λ f. (limit : ℕ) (s : Nesting) → Represents limit builder s → s.below ≡ [] →
+    ensures expr { OnOk result (IsExpr builder.new.stack.nodes builder.new.opened) }
+    ensures ok { OnOk result ((limit : ℕ) (s : Nesting) → Represents limit builder.old s → s.below ≡ [] →
+        IsFinished s limit (record { nodes = builder.new.stack.nodes; groups = builder.new.opened })) }
+    ensures err { IfErr result (λ f. (limit : ℕ) (s : Nesting) → Represents limit builder.old s → s.below ≡ [] →
         IsOverLimit s limit len f ⊎ (f ≡ NO_MEMORY)) }
 {
-    if builder.join().is_err() {
+    if let Err(AllocError) = builder.join() {
         return Err(NO_MEMORY);
     }
-    let Builder {
-        stack,
-        opened,
-        top: _,
-        below: _,
-    } = builder;
-    let Stack {
-        limit,
-        nodes,
-        parts,
-    } = stack;
-    let part = parts[0];
+    let part = builder.stack.parts[0];
     if part.depth > 600 {
         return Err(ExprFault {
             place: len,
             reason: ExprReason::TooDeep,
         });
     }
-    if part.end >= limit {
+    if part.end >= builder.stack.limit {
         return Err(ExprFault {
             place: len,
             reason: ExprReason::TooManyNodes,
         });
     }
-    Ok(Expr::of(nodes, opened))
+    Ok(())
 }
 
 /// Whether the token closes a group and none is open.
@@ -61,6 +51,60 @@ fn is_stray(builder: &Builder, token: &Token) -> bool
     ensures fine { OnFalse result (token.now ≡ Token.Close → 0 < vec_len builder.now.below) }
 {
     matches!(token, Token::Close) && builder.below.is_empty()
+}
+
+/// Reads a text into a builder to which nothing was added, or answers its first fault. The builder is the caller's, so
+/// that no exit here lets go of it.
+fn read_into(
+    builder: &mut Builder,
+    kind: Kind,
+    folded: bool,
+    text: &[u8],
+    delimiter: Option<u8>,
+) -> Result<(), ExprFault>
+    requires empty { (max_nodes : ℕ) × Represents (max_nodes + 1) builder.old no_nesting × (max_nodes ≤ 65536) }
+    ensures expr { OnOk result (IsExpr builder.new.stack.nodes builder.new.opened) }
+    ensures reads { OnOk result (ReadsAs kind folded delimiter text.now
+        (expression_tree (record { nodes = builder.new.stack.nodes; groups = builder.new.opened })) builder.new.opened) }
+    ensures size { OnOk result ((max_nodes : ℕ) → Represents (max_nodes + 1) builder.old no_nesting →
+        (length builder.new.stack.nodes
+        ≡ size (expression_tree (record { nodes = builder.new.stack.nodes; groups = builder.new.opened })))
+        × (length builder.new.stack.nodes ≤ max_nodes)) }
+    ensures no_fault { OnOk result ((max_nodes : ℕ) → Represents (max_nodes + 1) builder.old no_nesting →
+        (place : ℕ) (reason : ExprReason) → FaultyWith kind folded delimiter text.now max_nodes place reason → ⊥) }
+    ensures fault { IfErr result (λ f. (max_nodes : ℕ) → Represents (max_nodes + 1) builder.old no_nesting →
+        FaultyWith kind folded delimiter text.now max_nodes f.place f.reason ⊎ (f ≡ NO_MEMORY)) }
+    ensures within { IfErr result (λ f. f.place ≤ length text.now) }
+{
+    let mut before: Option<Token> = None;
+    let mut at = 0;
+    'tokens: loop {
+        match token_at(kind, folded, delimiter, text, before, at) {
+            NextToken::Bad(fault) => return Err(fault),
+            NextToken::Ends => {
+                if builder.below.len() > 0 {
+                    return Err(ExprFault {
+                        place: text.len(),
+                        reason: ExprReason::OpenGroup,
+                    });
+                }
+                return finish(builder, text.len());
+            }
+            NextToken::Is(token, next) => {
+                if is_stray(builder, &token) {
+                    return Err(ExprFault {
+                        place: at,
+                        reason: ExprReason::StrayClose,
+                    });
+                }
+                if let Err(AllocError) = builder.take(token) {
+                    return Err(NO_MEMORY);
+                }
+                before = Some(token);
+                at = next;
+            }
+        }
+    }
 }
 
 /// Reads a text as an expression, or answers its first fault. Where it is `folded`, letters match without regard to
@@ -86,33 +130,11 @@ fn read_with(
     ensures within { IfErr result (λ f. f.place ≤ length text.now) }
 {
     let mut builder = Builder::new(alloc, max_nodes + 1);
-    let mut before: Option<Token> = None;
-    let mut at = 0;
-    'tokens: loop {
-        match token_at(kind, folded, delimiter, text, before, at) {
-            NextToken::Bad(fault) => return Err(fault),
-            NextToken::Ends => {
-                if builder.below.len() > 0 {
-                    return Err(ExprFault {
-                        place: text.len(),
-                        reason: ExprReason::OpenGroup,
-                    });
-                }
-                return finish(builder, text.len());
-            }
-            NextToken::Is(token, next) => {
-                if is_stray(&builder, &token) {
-                    return Err(ExprFault {
-                        place: at,
-                        reason: ExprReason::StrayClose,
-                    });
-                }
-                if builder.take(token).is_err() {
-                    return Err(NO_MEMORY);
-                }
-                before = Some(token);
-                at = next;
-            }
+    match read_into(&mut builder, kind, folded, text, delimiter) {
+        Err(fault) => Err(fault),
+        Ok(()) => {
+            let Builder { stack, opened, .. } = builder;
+            Ok(Expr::of(stack.nodes, opened))
         }
     }
 }

@@ -3,6 +3,7 @@ ghost use Rattle.std.specs.Prelude.{◌≡◌, ◌≤◌};
 ghost use Rattle.sedre.specs.Reasons.{name, number};
 
 use crate::byte_set::ByteSet;
+use std::fmt::{self, Debug, Formatter};
 
 /// The two kinds of regular expressions.
 #[derive(Clone, Copy, Debug, PartialEq, Eq)]
@@ -14,38 +15,56 @@ pub enum Kind {
 }
 
 /// Why a text is no expression, E1 to E14.
-#[derive(Clone, Copy, Debug, PartialEq, Eq)]
+#[derive(Clone, Copy, PartialEq, Eq)]
 pub enum ExprReason {
     /// E1: a bracket expression, or a form in it, isn't closed
-    OpenBracket,
+    OpenBracket = 1,
     /// E2: the name of a character class is unknown
-    UnknownClass,
+    UnknownClass = 2,
     /// E3: more than one byte is in `[.` or `[=`
-    LongCollating,
+    LongCollating = 3,
     /// E4: a range is invalid: an end of it is no single byte, as a class or `[=a=]`, its last byte lies before its
     /// first, or it goes on as `a-c-e` does
-    BadRange,
+    BadRange = 4,
     /// E5: a group isn't closed
-    OpenGroup,
+    OpenGroup = 5,
     /// E6: a closing comes where no group is open
-    StrayClose,
+    StrayClose = 6,
     /// E7: an interval is malformed
-    BadInterval,
+    BadInterval = 7,
     /// E8: nothing comes before a repetition that it could repeat; with ERE also a `?` directly after a repetition
-    NothingToRepeat,
+    NothingToRepeat = 8,
     /// E9: a backslash is the last byte
-    LastBackslash,
+    LastBackslash = 9,
     /// E10: this byte has no meaning after a backslash
-    UnknownEscape,
+    UnknownEscape = 10,
     /// E11: back-references are left out
-    BackReference,
+    BackReference = 11,
     /// E12: there are more nodes than allowed
-    TooManyNodes,
+    TooManyNodes = 12,
     /// E13: the expression nests deeper than 600 levels
-    TooDeep,
+    TooDeep = 13,
     /// E14: a request for memory was refused
-    NoMemory,
+    NoMemory = 14,
 }
+
+/// The names of the reasons, in the order of their numbers.
+const NAMES: [&str; 14] = [
+    "OpenBracket",
+    "UnknownClass",
+    "LongCollating",
+    "BadRange",
+    "OpenGroup",
+    "StrayClose",
+    "BadInterval",
+    "NothingToRepeat",
+    "LastBackslash",
+    "UnknownEscape",
+    "BackReference",
+    "TooManyNodes",
+    "TooDeep",
+    "NoMemory",
+];
 
 impl ExprReason {
     /// Its number, 1 to 14.
@@ -53,44 +72,20 @@ impl ExprReason {
         ensures is { result ≡ number self }
         ensures within { (1 ≤ result) × (result ≤ 14) }
     {
-        match self {
-            ExprReason::OpenBracket => 1,
-            ExprReason::UnknownClass => 2,
-            ExprReason::LongCollating => 3,
-            ExprReason::BadRange => 4,
-            ExprReason::OpenGroup => 5,
-            ExprReason::StrayClose => 6,
-            ExprReason::BadInterval => 7,
-            ExprReason::NothingToRepeat => 8,
-            ExprReason::LastBackslash => 9,
-            ExprReason::UnknownEscape => 10,
-            ExprReason::BackReference => 11,
-            ExprReason::TooManyNodes => 12,
-            ExprReason::TooDeep => 13,
-            ExprReason::NoMemory => 14,
-        }
+        self as u8
     }
 
     /// Its name, as `OpenBracket`.
     pub fn name(self) -> &'static str
         ensures { result.now ≡ name self }
     {
-        match self {
-            ExprReason::OpenBracket => "OpenBracket",
-            ExprReason::UnknownClass => "UnknownClass",
-            ExprReason::LongCollating => "LongCollating",
-            ExprReason::BadRange => "BadRange",
-            ExprReason::OpenGroup => "OpenGroup",
-            ExprReason::StrayClose => "StrayClose",
-            ExprReason::BadInterval => "BadInterval",
-            ExprReason::NothingToRepeat => "NothingToRepeat",
-            ExprReason::LastBackslash => "LastBackslash",
-            ExprReason::UnknownEscape => "UnknownEscape",
-            ExprReason::BackReference => "BackReference",
-            ExprReason::TooManyNodes => "TooManyNodes",
-            ExprReason::TooDeep => "TooDeep",
-            ExprReason::NoMemory => "NoMemory",
-        }
+        NAMES[usize::from(self.number()) - 1]
+    }
+}
+
+impl Debug for ExprReason {
+    fn fmt<W: fmt::Write>(&self, f: &mut Formatter<W>) -> fmt::Result {
+        f.write_str(self.name())
     }
 }
 
