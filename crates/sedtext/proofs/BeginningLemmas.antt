@@ -1,4 +1,4 @@
--- How the spans of a node begin, by the part that stands first in it.
+-- How the spans of a node begin, by the part that comes first in it.
 use Rattle.std.proofs.Common.{◌≡◌, ℕ, ◌+◌, ◌<◌, ◌≤◌, Bool, false, List, Some, None, IsTrue, ◌∙◌, subst, ⊎_elim, arith, Option}
 use Rattle.std.proofs.lemmas.Bool.{both_ways, cases_lt}
 use Rattle.std.proofs.lemmas.Option.{slice_get_within}

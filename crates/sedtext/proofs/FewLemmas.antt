@@ -76,7 +76,7 @@ module _ (w rest : List ℕ) (p : ℕ) (from : p ≤ length w) (e : rest ≡ tak
     pub few_some : (k : ℕ) → FirstFew few rest 0 (Some k) → FirstFew few w p (Some (p + k))
     few_some k first = (omega arith, from_rest k first.1, λ h low lt at. first.2 (h - p) (omega arith) (omega arith) (to_rest h low at))
 
--- a place at which one stands is in the text
+-- a place at which one occurs is in the text
 pub few_inside : (few : Few) (w : List ℕ) (i : ℕ) → FewAt few w i → i < length w
 few_inside few w i at = slice_get_within w i at.0 at.1
 

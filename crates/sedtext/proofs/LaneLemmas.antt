@@ -1,4 +1,4 @@
--- What the lanes of a vector tell.
+-- What the lanes of a vector hold.
 use Rattle.std.proofs.Common.{◌≡◌, ◌≢◌, ◌+◌, ◌*◌, ◌/◌, ◌%◌, ◌^◌, ◌<◌, ℕ, false, true, not, List, length, map, cond, eqb, ap, sym, subst, ◌∙◌, refl, Bool, get_or, bit_and, replicate, arith, w8, zero, suc, ⊎_elim, true≢false, ◌≤◌}
 use Rattle.std.specs.Int.{bit_at}
 use Rattle.std.specs.Simd.Lanes.{mask_l, top, zip2}
@@ -18,7 +18,7 @@ lanes_with f a x p =
     let h = lanes_zip f a (replicate 32 x) p (length-replicate 32 x) in
     (h.0, λ k lt. h.1 k lt ∙ ap (f (get_or a k 0)) (get_or-replicate 32 k x 0 lt))
 
--- what a table that stands in both halves of a vector holds for each lane
+-- what a table that is in both halves of a vector holds for each lane
 pub lanes_looked_up : (table wide js : List ℕ) → HasLanes wide (λ k. get_or table (k % 16) 0) → length js ≡ 32 → ((k : ℕ) → k < 32 → get_or js k 0 < 16) →
     HasLanes (swz_l w8 16 wide 0 js) (λ k. get_or table (get_or js k 0) 0)
 lanes_looked_up table wide js has long small = (

@@ -1,4 +1,4 @@
--- Which bytes stand at a fixed distance after the beginning of every span.
+-- Which bytes are at a fixed distance after the beginning of every span.
 use Rattle.std.proofs.Common.{◌≡◌, ℕ, ◌+◌, ◌-◌, ◌<◌, ◌⊎◌, Bool, List, Option, Some, subst, inl, inr, ⊎_elim, arith}
 use Rattle.sedre.specs.declared.types.Node.{Node}
 use Rattle.sedtext.specs.Bytes.{MemberAt}

@@ -87,7 +87,7 @@ pub up_to_some : (x r : ℕ) (o : Option ℕ) → o ≡ Some r → IfSome o (λ 
 up_to_some x r o e h = subst (λ p. IfSome p (λ y. y ≤ x)) e h
 
 module _ (w rest : List ℕ) (p : ℕ) (from : p ≤ length w) (e : rest ≡ take (length w - p) (drop p w)) (literal : List ℕ) where
-  -- where the literal stands in the text from p on, it does in the rest
+  -- where the literal occurs in the text from p on, it does in the rest
   to_rest : (k : ℕ) → p ≤ k → OccursAt w literal k → OccursAt rest literal (k - p)
   to_rest k low here = record {
     fits = omega (arith, here.fits, length-rest w rest p from e);

@@ -28,7 +28,7 @@ pub longer_run : (members : List Bool) (w : List ℕ) (i place byte : ℕ) (has 
 longer_run members w i place byte has is value holds copies =
     CopiesLead-append (Matches (set members) w) place i (place + 1) copies (omega arith) (byte, is, sym value ∙ holds, refl)
 
--- no byte stands at the end of the text
+-- no byte is at the end of the text
 pub stops_behind : (members : List Bool) (w : List ℕ) (place : ℕ) → length w ≤ place → MemberAt members w place → ⊥
 stops_behind members w place long can = let inside = slice_get_within w place can.0 can.1 in absurd (omega arith)
 

@@ -1,4 +1,4 @@
--- Where bytes of three sets stand.
+-- Where bytes of three sets are.
 use Rattle.std.proofs.Common.{◌≡◌, ◌≢◌, ℕ, ◌+◌, ◌-◌, ◌<◌, ◌≤◌, List, length, ap, subst, ⊎_elim, arith, bit_and, w64, ◌∙◌, Option, Some, None}
 use Rattle.std.specs.Prelude.{IfSome}
 use Rattle.sedtext.specs.Beginnings.{NextStart}
@@ -44,7 +44,7 @@ module _ (P : ℕ → Type 0) (p marks : ℕ) (are : MarksPlaces P p marks) wher
             absurd (omega (arith, set, lowest.2 (i - p) (omega (arith, high)))),
       )
 
--- a place after which they stand is no farther from the end than the greatest distance
+-- a place after which they come is farther from the end than the greatest distance
 pub passes_within : (s : Sieve) (w : List ℕ) (i reach : ℕ) →
     ((n : ℕ) → s.first.offset < n → s.second.offset < n → s.third.offset < n → reach < n) → PassesSieve s w i → i + reach < length w
 passes_within s w i reach one is =

@@ -109,7 +109,7 @@ row_inside width rows q c len lt low there =
     let up : q + 1 ≤ rows = omega arith in
     omega (arith, mul-le-mul_left width up, low, there)
 
--- the same words, wherever they stand, have the same marks
+-- the same words, wherever they are, have the same marks
 marked_same : (words other : List ℕ) (base i : ℕ) → slice_index_or words (base + i / 64) 0 ≡ slice_index_or other (i / 64) 0 → is_set words (64 * base + i) ≡ is_set other i
 unfolding is_set
 marked_same words other base i same =

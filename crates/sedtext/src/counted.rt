@@ -61,7 +61,7 @@ impl<'a> Text<'a> {
         requires { place + count ≤ length self.now + 1 }
         ensures { result ≡ place + count }
     {
-        let _len = self.len();
+        is_short(self);
         place + count
     }
 
@@ -105,6 +105,13 @@ fn uncounted<'a>(text: &Text<'a>) -> &'a [u8]
     ensures { result.now ≡ text.now }
 {
     text.bytes
+}
+
+/// For proofs: a text has fewer than 2^63 bytes.
+fn is_short(text: &Text)
+    ensures { length text.now < 2 ^ 63 }
+{
+    let _count = text.bytes.len();
 }
 
 /// For proofs: each element of a text is below 256.
