@@ -61,7 +61,7 @@ module _ (before line behind : List ℕ) where
   passes_there : (s : Sieve) (i : ℕ) → PassesSieve s line i → PassesSieve s whole (length before + i)
   passes_there s i at = (stands_there s.first i at.0, stands_there s.second i at.1, stands_there s.third i at.2)
 
--- nothing that P tells stands before its first place
+-- P holds nowhere before its first place
 first_after : (P : ℕ → Type 0) (r : Option ℕ) (k end : ℕ) → FirstFrom P 0 r → P k → k ≤ end → IsBefore end r → ⊥
 first_after P None k end h p le ends = h k (omega arith) p
 first_after P (Some q) k end h p le ends = h.2 k (omega arith) (omega (arith, ends, le)) p
@@ -73,7 +73,7 @@ required_before e n w r required first = λ before line behind is ends found.
     let occurs : OccursAt w n.finder (length before + held.0) = subst (λ (w : List ℕ). OccursAt w n.finder (length before + held.0)) (sym is) (occurs_there before line behind n.finder held.0 held.3) in
     first_after (OccursAt w n.finder) r (length before + held.0) (length before + length line) first occurs (omega (arith, held.3.fits)) ends
 
--- what stands in each part of a text where a match of the part begins
+-- what holds in each part of a text where a match of the part begins
 module _ (e : Tree) (w : List ℕ) (r : Option ℕ) (bytes : AreBytes w) where
   told_before : (P : List ℕ → ℕ → Type 0) → ((before line behind : List ℕ) (i : ℕ) → P line i → P (before ++ (line ++ behind)) (length before + i)) →
       ((v : List ℕ) → AreBytes v → (i j : ℕ) → i ≤ length v → Matches e v i j → P v i) → FirstFrom (P w) 0 r → NoMatchBefore e w r

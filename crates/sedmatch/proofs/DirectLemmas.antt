@@ -1,4 +1,4 @@
--- Expressions whose matches a look at the text tells.
+-- Expressions whose matches a look at the text shows.
 use Rattle.std.proofs.Common.{◌≡◌, ℕ, ◌+◌, ◌-◌, ◌*◌, ◌≤◌, ◌↔◌, Bool, false, List, length, Option, Some, None, IsTrue, refl, sym, subst, true≢false, arith}
 use Rattle.std.specs.Prelude.{IfSome, is_some}
 use Rattle.sedre.specs.Tree.{Tree, WrittenExpression, expression_tree}
@@ -104,7 +104,7 @@ direct_answer e form is w bytes p (Some f) span =
       (on, within),
     )
 
--- whether there is a match, as the span tells that was found
+-- whether there is a match, as the span shows that was found
 pub answer_some : (e : Tree) (w : List ℕ) (p : ℕ) (r : Option (ℕ × ℕ)) → SpanAnswer e w p r → IsTrue (is_some r) ↔ SomeFound e w p
 answer_some e w p None answer = ((λ h. absurd (true≢false (sym h))), (λ f. absurd (answer.1 f.0 f.1 f.2 f.3 f.4)))
 answer_some e w p (Some f) answer =

@@ -341,7 +341,7 @@ pub looks_since : (passed : ℕ × ℕ → ℕ) (s t u : ℕ) (r : Option (ℕ �
 looks_since passed s t u None grows looks = tt
 looks_since passed s t u (Some f) grows looks = least_since s t u (passed f) grows looks
 
--- what a search by passes tells
+-- what a search by passes answers
 pub tells : (e : WrittenExpression) (w : List ℕ) (last : Option ℕ) (old mid new : Occurrences) (r : Option (ℕ × ℕ)) (s t : ℕ) → 1 ≤ length e.nodes → Serves e w last old → IsReady e w old mid → IsReady e w mid new →
     (old.is_fresh ≡ false → mid ≡ old) → (IsTrue old.is_fresh → owed_behind (length e.nodes) (length w) mid.seeking 0 + 43 * length e.nodes ≤ 308 * length e.nodes * (length w + 1)) → new.is_fresh ≡ false →
     r ≡ next_span (leftmost_longest (expression_tree e) w) (length w) last → IfSome r (Occurs (expression_tree e) w last) →

@@ -1,4 +1,4 @@
--- An expression that is searched by passes: what they tell of a text, its tables, and the room for them.
+-- An expression that is searched by passes: what they say of a text, its tables, and the room for them.
 use Rattle.std.proofs.Common.{◌≡◌, ◌∙◌, ℕ, ◌+◌, ◌-◌, ◌*◌, ◌/◌, ◌<◌, ◌≤◌, ◌↔◌, [], List, length, vec_capacity, Bool, Option, Some, None, IsTrue, true≢false, refl, sym, ap, subst, ⊎_elim, arith, mul-le-mul_left}
 use Rattle.std.specs.Prelude.{is_some, slice_set}
 use Rattle.std.proofs.lemmas.Bool.{cases_lt}
@@ -34,7 +34,7 @@ use Rattle.sedmatch.specs.declared.passes.OwnTables.{OwnTables}
 use Rattle.sedmatch.specs.declared.scratch.Desk.{Desk}
 use Rattle.sedpass.proofs.ForwardLemmas.{passes_later}
 
--- What is told of a text.
+-- What is said of a text.
 
 pub few_looks : (m n : ℕ) → 1 ≤ m → 3 * n ≤ 3 * m * (n + 1)
 few_looks m n some = let h = mul-le-mul_left (n + 1) some in omega (arith, h)

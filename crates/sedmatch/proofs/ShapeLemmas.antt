@@ -1,4 +1,4 @@
--- What stands before the end of the text, and after its beginning.
+-- What comes before the end of the text, and after its beginning.
 use Rattle.std.proofs.Common.{◌≡◌, ℕ, ◌↔◌, List, Option, Some, None, sym, subst, ◌∙◌}
 use Rattle.sedre.specs.declared.types.Node.{Node}
 use Rattle.sedtext.specs.Forms.{HasForm}

@@ -139,6 +139,11 @@ impl Occurrences {
         })
     }
 
+    /// Lets the room go, as `TableMatcher::close` does a matcher.
+    pub fn close(self) {
+        drop(self);
+    }
+
     /// Begins anew, for the expression of this number in a text.
     pub fn begin(&mut self, number: usize)
         ensures room { (text : ℕ) (es : List WrittenExpression) → RoomFor text es self.old → RoomFor text es self.new }

@@ -85,4 +85,9 @@ impl Scratch {
         };
         Ok(Scratch { desk, prepared })
     }
+
+    /// Lets the room go, as `TableMatcher::close` does a matcher.
+    pub fn close(self) {
+        drop(self);
+    }
 }

@@ -154,6 +154,16 @@ impl TableMatcher {
         })
     }
 
+    /// Lets it go. By this call what it holds is proved to be let go of once, and not in each crate above.
+    pub fn close(self) {
+        drop(self);
+    }
+
+    /// Lets matchers go, as `close` does one.
+    pub fn close_all(matchers: Vec<TableMatcher>) {
+        drop(matchers);
+    }
+
     /// How many bytes its own tables take at most, with the one for all occurrences in a text.
     pub fn size_of_tables(&self) -> usize {
         match &self.engine {

@@ -1,4 +1,4 @@
--- The groups that are told to be due, as the state of a decision; what nodes and regions cost.
+-- The groups that are given as due, as the state of a decision; what nodes and regions cost.
 use Rattle.std.proofs.Common.{◌≡◌, ℕ, zero, suc, ◌+◌, ◌-◌, ◌*◌, ◌<◌, ◌≤◌, ◌↔◌, ◌&&◌, not, Bool, true, false, List, [], ◌∷◌, length, Option, None, Some, IsTrue, refl, sym, ap, ◌∙◌, subst, inl, inr, ⊎_elim, true≢false, arith, mul-le-mul_left, IfSome, eqb, nat_lt, slice_get, slice_set, slice_index_or, vec_capacity}
 use Rattle.sedpass.proofs.Words.{bit_at, and_parts, and_from, cases_Bool, cases_lt, lt-ltb, le-ltb, cond_some, ext_get_or, length-set, mul-le-mul_right, Tree, WrittenExpression, tree_at, expression_tree, IsArena, IsExpr, IsPart, AreRanges, Takes, Node, NodeId, Set, Seq, Group, Star, tree_at-node, LastCut, LastCopy, CostsWithin, Groups, At, one_start, CopiesLead, node_at, close_at, Matches-forward, GroupSet, Matched, Kept, Region, Subject, Facts, Table}
 use Rattle.sedpass.specs.Decide.{spans_in, undecided, HasAll, flags_of, told_of, EndsRegion, IsAtEnd, IsGroupDesk, HasDesk, IsSetAt, AreGroupTables, HasSpace, SameTables, KeepsGroupDesk, part_cost, nodes_in, subject_text, Blank, NodeMatches}
@@ -122,7 +122,7 @@ null_cut s here a b stands same =
       greatest = λ l left right. let on = Matches-forward (tree_at nodes b.index) w l here.stop right in omega arith;
     }
 
--- a length that is told
+-- a length that is known
 long_at : (nodes : List Node) (w : List ℕ) (x c n : ℕ) (facts : Facts) → x ≡ c → IsFacts (tree_at nodes x) x facts → facts.length ≡ Some n → AllLong (At nodes w c) n
 long_at nodes w x c n facts same is told = subst (λ v. AllLong (At nodes w v) n) same (all_long (tree_at nodes x) w n (sym is.long ∙ told))
 
@@ -198,7 +198,7 @@ run_told nodes groups x facts (Some c) expr inside is told = run_within (x + 1) 
 
 -- Regions.
 
--- the match ends at the one end that a kept pass tells of
+-- the match ends at the one end that a kept pass answers for
 pub ends_there : (s : Subject) (tables : GroupTables) (kept : Kept) (here : Matched) (node : Node) → IsAtEnd s tables kept here node →
     ends_told tables.reverse_one.way.all_starts (length (subject_text s)) kept.region.end ≡ one_start here.stop
 ends_there s tables kept here node at = rw at.desk.one_end (ap one_start (sym at.ends.1))

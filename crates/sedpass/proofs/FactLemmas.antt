@@ -1,4 +1,4 @@
--- What is told of each node once, and what it means for passes.
+-- What is found out of each node once, and what it means for passes.
 use Rattle.std.proofs.Common.{◌≡◌, ℕ, zero, suc, ◌+◌, ◌*◌, ◌<◌, ◌≤◌, ◌⊎◌, ◌↔◌, Bool, true, false, ◌&&◌, List, [], ◌∷◌, ◌++◌, length, Option, Some, None, IsTrue, refl, sym, ap, ◌∙◌, subst, inl, inr, ⊎_elim, true≢false, arith, min, max, bit_and, bit_or, ◌||◌, slice_get, eqb}
 use Rattle.sedpass.proofs.Words.{bit_at, from_bool, option_eq, bit_at_and, bit_at_or, bit_at-lt, cases_lt, same_Some, slice_get_cases, none-some, size, IsArena, IsExpr, IsPart, FollowsParts, HasTwoParts, GroupsWithin, mirror, seen, Node, NodeId, Seq, Alt, Group, Star, Opt, Empty, Set, tree_at-node, tree_at-mirror, seen-length, Matches, no_copy, IsPlace, Matches-forward, node_at, Facts, PlaceKind, either-iff, both-iff}
 use Rattle.sedre.specs.Tree.{Tree, empty, set, begin, end, seq, alt, group, star, opt, WrittenExpression, tree_of, tree_at, tree_within}
@@ -56,7 +56,7 @@ nullable_mirror first last (alt a b) = rw (nullable_mirror first last a, nullabl
 nullable_mirror first last (group k a) = nullable_mirror first last a
 nullable_mirror first last other = refl
 
--- so what is told of a node serves both ways
+-- so what is known of a node serves both ways
 pub null_tells : (mirrored : Bool) (e : WrittenExpression) (kind : PlaceKind) (w : List ℕ) (p : ℕ) → IsPlace w p (at_begin mirrored kind) (at_edge mirrored kind) →
     AreNull (seen mirrored e).nodes w p (null_in e.nodes kind)
 null_tells false e kind w p there c low = nullable_is w p kind.begin kind.end there (tree_at e.nodes c)
@@ -65,7 +65,7 @@ null_tells true e kind w p there c low =
     ap (nullable kind.end kind.begin) (tree_at-mirror e.nodes c) ∙ nullable_mirror kind.end kind.begin (tree_at e.nodes c) in
     rw (← same) (nullable_is w p kind.end kind.begin there (tree_at (seen true e).nodes c))
 
--- where no node tells a kind from another, each place will do
+-- where no node distinguishes one kind from another, each place will do
 pub null_anywhere : (mirrored : Bool) (e : WrittenExpression) (kind : PlaceKind) → SameNulls e.nodes →
     (w : List ℕ) (p : ℕ) (first last : Bool) → IsPlace w p first last → AreNull (seen mirrored e).nodes w p (null_in e.nodes kind)
 null_anywhere false e kind same w p first last there c low =
@@ -136,7 +136,7 @@ range_seen true e low x range = mirror_range e low x range
 pub inside_seen : (mirrored : Bool) (e : WrittenExpression) (x : ℕ) → x < length e.nodes → x < length (seen mirrored e).nodes
 inside_seen mirrored e x inside = subst (λ n. x < n) (sym (seen-length mirrored e)) inside
 
--- what is told of a node, by what is told of its parts
+-- what is known of a node, by what is known of its parts
 
 -- a node without parts whose matches have one byte is a set
 set_by : (t : Tree) → size t ≡ 1 → option_eq eqb (length_of t) (Some 1) ≡ true → is_one_set t ≡ true
@@ -168,7 +168,7 @@ short_if (Some n) small = small n refl
 pub told_short : (a : Tree) (x : ℕ) (part : Facts) → IsFacts a x part → size a ≤ 65536 → IsShort part.length
 told_short a x part told small = short_if part.length (λ n is. omega (arith, small, length_short a n (sym told.long ∙ is)))
 
--- what is told of one more
+-- what is known of one more
 last_told : (told : List Facts) (next fact : Facts) (x : ℕ) → slice_get (told ++ next ∷ []) x ≡ Some fact → (slice_get told x ≡ Some fact) ⊎ ((x ≡ length told) × (fact ≡ next))
 last_told [] next fact zero is = inr (refl, sym (same_Some next fact is))
 last_told [] next fact (suc x) is = cc
@@ -180,7 +180,7 @@ pub facts_more : (nodes : List Node) (arena : IsArena nodes) (told : List Facts)
 facts_more nodes arena told node next facts there here x fact is =
     elim (last_told told next fact x is) [ inl old ↦ facts x fact old | inr new ↦ rw (new.0, new.1, tree_at-node nodes (length told) node arena there) here ]
 
--- where no node is told of one kind alone
+-- where no node is null at places of some kinds alone
 pub told_anywhere : (nodes : List Node) (told : List Facts) → length told ≡ length nodes → AreFacts nodes told → ((x : ℕ) (here : Facts) → slice_get told x ≡ Some here → IsOfEachKind here.null) →
     SameNulls nodes
 told_anywhere nodes told all facts each x first last inside =

@@ -304,7 +304,7 @@ passes_later e w p q s t u low grows looks over = record {
   passed = λ early. least_both s t u (q - p) (over.end - q) (over.end - p) looks (over.passed early) (omega (arith, low));
 }
 
--- where a pass tells an end, it passed over a match
+-- where a pass finds an end, it passed over a match
 pub passes_told : (e : Tree) (w : List ℕ) (p s t : ℕ) (end : Option ℕ) (told : Bool) → told ≡ is_some end → IfSome end (λ j. LooksPast e w p s t) → IsTrue told → LooksPast e w p s t
 passes_told e w p s t None told is over h = absurd (true≢false (sym h ∙ is))
 passes_told e w p s t (Some j) told is over h = over

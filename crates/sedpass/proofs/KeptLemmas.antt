@@ -18,7 +18,7 @@ pub told_last : (all_starts : Bool) (n end : ℕ) → end ≤ n → (ends_told a
 told_last true n end within = omega arith
 told_last false n end within = within
 
--- a row of the pass tells which nodes are marked
+-- a row of the pass shows which nodes are marked
 pub kept_reaches : (e : WrittenExpression) (w : List ℕ) (mirrored all_starts keeps : Bool) (r end q x : ℕ) (entered ended : ℕ → Bool) → IsArena e.nodes → IsTrue mirrored → IsTrue keeps → q ≤ length w → end ≤ length w →
     RowOfPlace (seen mirrored e).nodes (reverse w) r (starts_told all_starts (length w) end) keeps (length w - q) entered ended →
     IsTrue (ended x) ↔ ReachesEnd e.nodes w r (ends_told all_starts (length w) end) x q
@@ -85,7 +85,7 @@ kept_first e w true true keeps r end kind entered ended _ within whole begins en
 
 -- A state of a table and of what became of it.
 
--- what was a place's state is it still, where the state stands as it stood
+-- what was a place's state is it still, where the state is as it was
 pub live_kept : (p : Prepared) (w : List ℕ) (t after : Table) (root end : ℕ) (states : List ℕ) (q : ℕ) → after.way ≡ t.way → t.count ≤ after.count →
     ((s : ℕ) → s < t.count → state_of (length p.arena.expr.nodes) after s ≡ state_of (length p.arena.expr.nodes) t s) → IsLive p w t root end states q → IsLive p w after root end states q
 live_kept p w t after root end states q way grows same live =
@@ -138,7 +138,7 @@ region_kept p w t after k other shape table places long edges root end within re
   long = rw long region.long;
 }
 
--- nor does it matter what stands in the rows that were kept
+-- nor does it matter what is in the rows that were kept
 pub passes_with : (p : Prepared) (w : List ℕ) (t : Table) (k : Kept) (edges : List (List Bool)) (work : Work) (place offset : ℕ) → length edges ≡ length k.edges → ((q : ℕ) → length (row_of edges q) ≡ length (row_of k.edges q)) →
     PassesDownTo p w t k place offset → PassesDownTo p w t (record k { edges = edges; work = work }) place offset
 passes_with p w t k edges work place offset long rows passes =
@@ -386,7 +386,7 @@ pub added_few : (m : ℕ) (t after : Table) → AddsStates m t after → t.count
 added_few m t after adds none =
     ⊎_elim (λ (e : after.epoch ≡ t.epoch). let up = (adds.grows e).1 in omega arith) (λ (ne : after.epoch ≡ t.epoch → ⊥). adds.forgot ne) (cases_eq after.epoch t.epoch)
 
--- What the marks tell.
+-- What the marks say.
 
 -- the number of a place's state, as it is read
 pub kept_read : (p : Prepared) (w : List ℕ) (t : Table) (k : Kept) (q s : ℕ) → IsKept p w t k → q < k.region.to → s ≡ slice_index_or k.states.items q s → s ≡ slice_index_or k.states.items q 0
@@ -448,7 +448,7 @@ mark_spans p w t k x q s mark kept one last above before read is =
     let both = reaches_last p.arena.expr.nodes w k.region.root k.region.end x q arena last in
     (λ h. both.0 (same.0 h), λ h. same.1 (both.1 h))
 
--- what is told of the region stays so over calls
+-- what is said of the region stays so over calls
 pub told_as : (P : ℕ → Starts → Type 0) (p : Prepared) (w : List ℕ) (t after : Table) (k other : Kept) → KeepsRegion p w t after k other → P other.region.root (ends_told after.way.all_starts (length w) other.region.end) →
     P k.region.root (ends_told t.way.all_starts (length w) k.region.end)
 told_as P p w t after k other keeps told =
@@ -483,7 +483,7 @@ keeps_same p w t k other region states edges kept =
 bit_tells : (m : ℕ) (marks : List Bool) (c : ℕ) → IsTrue (bits m marks c) ↔ ((c < m) × IsTrue (slice_index_or marks c false))
 bit_tells m marks c = both-iff (nat_lt c m) (slice_index_or marks c false) (c < m) (IsTrue (slice_index_or marks c false)) (ltb-true c m, lt-ltb c m) (λ h. h, λ h. h)
 
--- two rows tell whether they have a mark in common
+-- two rows show whether they have a mark in common
 bits_meet : (m : ℕ) (front behind : List Bool) (met : Bool) → (IsTrue met ↔ ((c : ℕ) × (c < m) × IsTrue (slice_index_or front c false) × IsTrue (slice_index_or behind c false))) →
     IsTrue met ↔ ((c : ℕ) × IsTrue (bits m front c) × IsTrue (bits m behind c))
 bits_meet m front behind met tells = (

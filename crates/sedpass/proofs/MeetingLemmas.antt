@@ -1,4 +1,5 @@
--- Where a pass forwards over a part and a pass backwards over what it stands in meet, a match of the part goes on and the end is reached.
+-- Where a pass forwards over a part and a pass backwards over what holds the part meet, a match of the part goes on and
+-- the end is reached.
 use Rattle.std.proofs.Common.{◌≡◌, ℕ, zero, suc, ◌+◌, ◌-◌, ◌<◌, ◌≤◌, ◌⊎◌, ◌↔◌, Bool, List, length, Some, refl, sym, ◌∙◌, subst, inl, inr, ⊎_elim, arith, slice_get}
 use Rattle.sedpass.proofs.Words.{cases_lt, slice_get_within, IsArena, tree_at, Node, NodeId, Empty, Set, Begin, End, Seq, Alt, Group, Star, Opt, Starts, CopiesLead, no_copy, one_more, LastCut, LastCopy, only, then, IsRepetitionOf, At, BeginsWith, IsStart, one_start, Enters, at_root, with_whole, after_left, again, Matches-forward, CopiesLead-forward, CopiesLead-append, open_at, close_at, Enters-inside, star_copies, BeginsWith-part, node_at}
 use Rattle.sedpass.specs.Regions.{Leaves, with_end, before_right, before_copies, ReachesEnd, IsLastIn, all_of, MeetsAt, MatchesBeyond, CeasesAt, NextCopy, IsRunOf, repeated, in_group}
@@ -335,7 +336,7 @@ module _ (nodes : List Node) (w : List ℕ) (r : ℕ) (t : Starts) (root : ℕ) 
 
 module _ (nodes : List Node) (w : List ℕ) (r j x : ℕ) (a b : NodeId) (arena : IsArena nodes) (last : IsLastIn nodes r x) (is : slice_get nodes x ≡ Some (Seq a b))
     (c : ℕ) (members : List Bool) (run : IsRunOf nodes c a.index) (is_set : slice_get nodes c ≡ Some (Set members)) where
-  -- while the set is marked, its mark tells whether a later cut is
+  -- while the set is marked, its mark shows whether there is a later cut
   run_decides : (i q : ℕ) → i ≤ q → ((l : ℕ) → i ≤ l → l < q → ReachesEnd nodes w r (one_start j) c l) →
       ReachesEnd nodes w r (one_start j) c q ↔ ((l : ℕ) × (q < l) × At nodes w a.index i l × At nodes w b.index l j)
   run_decides i q low marked =

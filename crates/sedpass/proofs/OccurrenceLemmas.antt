@@ -24,7 +24,7 @@ further_found n at x on = grind (arith, nat_tests)
 pub further_none : (n at : ℕ) (x : Option (ℕ × ℕ)) → n ≤ at → None ≡ (if nat_lt at n then x else None)
 further_none n at x end = grind (arith, nat_tests)
 
--- the first match stands, or the other one, as the test says
+-- the first match is the answer, or the other one is, as the test says
 pub passed_by : (at : ℕ) (first sought other r : Option (ℕ × ℕ)) (b b' : Bool) → first ≡ sought → unless_null_at (λ (f : ℕ × ℕ). f) at first other ≡ (if b then other else first) → b ≡ b' →
     r ≡ (if b' then other else first) → r ≡ unless_null_at (λ (f : ℕ × ℕ). f) at sought other
 passed_by at first sought other r b b' same passed is last =

@@ -1,4 +1,4 @@
--- How the marks at a place follow from what the leaves took, and what a row tells.
+-- How the marks at a place follow from what the leaves took, and what a row shows.
 use Rattle.std.proofs.Common.{length-set, ◌≡◌, ℕ, ◌+◌, ◌-◌, ◌*◌, ◌<◌, ◌≤◌, ◌⊎◌, ◌↔◌, Bool, List, length, Option, Some, None, IsTrue, refl, sym, ap, ◌∙◌, subst, inl, inr, ⊎_elim, true≢false, true, false, ◌&&◌, ◌||◌, arith, slice_get, slice_index_or, slice_set, eqb, nat_lt, reverse}
 use Rattle.std.proofs.Math.Path.{fun_ext}
 use Rattle.sedpass.proofs.Words.{slice_get_within, get_or-set_same, get_or-set_other, and_parts, and_from, cases_lt, cases_eq, eqb-true, eq-eqb, lt-ltb, le-ltb, IsArena, IsPart, WrittenExpression, tree_at, mirror_node, seen, seen-node, old_node, Node, NodeId, Empty, Set, Begin, End, Seq, Alt, Group, Star, Opt, Starts, CopiesLead, byte_is_in, enter_parts, takes_any, AgreeBelow, At, IsStart, one_start, SomeSpan, BeginsWith, Marked, Enters, at_root, with_whole, after_left, again, Ends, Matches-forward, CopiesLead-append, CopiesLead-last, open_at, close_at, takes_some, FromNode, Enters-from, Enters-part, Enters-inside, Enters-root, BeginsWith-part, both-iff, either-iff}
@@ -187,7 +187,7 @@ set_other marks after x c v ne is = ap (λ l. slice_index_or l c false) is ∙ g
 pub set_same : (marks after : List Bool) (x : ℕ) (v : Bool) → x < length marks → after ≡ slice_set marks x v → slice_index_or after x false ≡ v
 set_same marks after x v inside is = ap (λ l. slice_index_or l x false) is ∙ get_or-set_same marks x v false inside
 
--- one more bit that tells the truth
+-- one more bit that is true exactly where P is
 one_told : (bits after : ℕ → Bool) (P : ℕ → Type 0) (x : ℕ) (v : Bool) → after x ≡ v → (IsTrue v ↔ P x) → ((c : ℕ) → (c ≡ x → ⊥) → after c ≡ bits c) → (c : ℕ) → ((c ≡ x → ⊥) → IsTrue (bits c) ↔ P c) → IsTrue (after c) ↔ P c
 one_told bits after P x v is truth others c old = ⊎_elim (λ (e : c ≡ x). rw (e, is) truth) (λ (ne : c ≡ x → ⊥). rw (others c ne) (old ne)) (cases_eq c x)
 
@@ -289,7 +289,7 @@ is_set : (node : Node) → IsTrue (takes_any node) → (m : List Bool) × (node 
 is_set (Set m) h = (m, refl)
 is_set other h = absurd (true≢false (sym h))
 
--- the bits from y on tell, by one after another
+-- the bits from y on decide P, by one after another
 tell_none : (bits : ℕ → Bool) (P : ℕ → Type 0) (y : ℕ) → ((c : ℕ) → bits c ≡ false) → ((c : ℕ) → P c → c < y) → TellFrom y bits P
 tell_none bits P y none all c = (λ h. absurd (false_bit (bits c) (none c) h), λ h. let low = h.0 in let less = all c h.1 in absurd (omega arith))
 
@@ -343,7 +343,7 @@ module _ (nodes : List Node) (w : List ℕ) (r p : ℕ) (s : Starts) (keeps : Bo
         ends = tell_all ended Kept low (λ c h. all c (enters_tree nodes w r s c h.1.0 h.1.1)) row.1;
       }
 
--- a row tells which leaves take the byte that comes
+-- a row shows which leaves take the byte that comes
 pub row_took : (nodes : List Node) (w : List ℕ) (r x p : ℕ) (s : Starts) (keeps : Bool) (entered ended : ℕ → Bool) (byte : Option ℕ) (m : List Bool) → RowOfPlace nodes w r s keeps p entered ended →
     SameBytes nodes (slice_get w p) byte → slice_get nodes x ≡ Some (Set m) → IsTrue (entered x && byte_is_in byte m) ↔ Took nodes w r s (p + 1) x m
 row_took nodes w r x p s keeps entered ended byte m row same is = (
@@ -417,7 +417,7 @@ out_of_mirror e r c (part_of y _ node is part up) =
 pub mirror_range : (e : WrittenExpression) (low r : ℕ) → IsNodeRange e.nodes low r → IsNodeRange (seen true e).nodes low r
 mirror_range e low r range c = (λ h. in_mirror e r c ((range c).0 h), λ h. (range c).1 (out_of_mirror e r c h))
 
--- what the row of a kept pass backwards tells
+-- what the row of a kept pass backwards shows
 pub behind_reaches : (e : WrittenExpression) (w : List ℕ) (r x p d : ℕ) (u t : Starts) (entered ended : ℕ → Bool) → IsArena e.nodes → Opposite (length w) u t → t.last ≤ length w → p + d ≡ length w →
     RowOfPlace (seen true e).nodes (reverse w) r u true d entered ended → IsTrue (ended x) ↔ ReachesEnd e.nodes w r t x p
 behind_reaches e w r x p d u t entered ended arena opposite inside sum row =
@@ -464,7 +464,7 @@ enters_few x (Star a first) below = let low = below in omega (arith, low)
 enters_few x (Opt a first) below = let low = below in omega (arith, low)
 enters_few x other below = omega arith
 
--- a row tells, with the byte that came, which leaves took it
+-- a row shows, with the byte that came, which leaves took it
 pub took_bits : (nodes : List Node) (w : List ℕ) (r p : ℕ) (s : Starts) (keeps : Bool) (m : ℕ) (leaves : List Bool) (before : ℕ → Bool) (byte : Option ℕ) → length nodes ≡ m → SameBytes nodes (slice_get w p) byte →
     RowOfPlace nodes w r s keeps p (bits m leaves) before → TellTook nodes w r s (p + 1) byte leaves
 took_bits nodes w r p s keeps m leaves before byte long bytes row c members inside is =

@@ -1,4 +1,4 @@
--- What the pass from the text's end tells of matches of the whole expression, and what searches cost.
+-- What the pass from the text's end says of matches of the whole expression, and what searches cost.
 use Rattle.std.proofs.Common.{inl, inr, ◌≡◌, ℕ, zero, suc, ◌+◌, ◌-◌, ◌*◌, ◌/◌, ◌<◌, ◌≤◌, ◌↔◌, Bool, true, false, max, List, length, Option, Some, None, IsTrue, refl, sym, ap, ◌∙◌, subst, ⊎_elim, true≢false, arith, mul-le-mul_left, IfSome, if◌then◌else◌}
 use Rattle.sedpass.proofs.Words.{cases_lt, IsArena, WrittenExpression, expression_tree, Tree, TakesAtLeast, SpanAnswer, Starts, At, one_start, IsLongestFrom, starts_to, AllBegin, NextStart, NoneIn, Table, Matches, IsLeftmostLongest, NotFound, SomeFound, Matches-forward, Matches-within, Region, Seeking, Prepared, least_less, least_none, least_both, least_since, Kept, Work, Way}
 use Rattle.sedtext.specs.declared.beginnings.Begins.{Begins}
@@ -85,7 +85,7 @@ module _ (p : Prepared) (w : List ℕ) (arena : IsArena p.arena.expr.nodes) wher
       (subst (Matches (expression_tree p.arena.expr) w start) end span, most))
       (cases_lt start stop)
 
--- what a kept pass over all places tells
+-- what a kept pass over all places says
 told_whole : (P : ℕ → Starts → Type 0) (p : Prepared) (n : ℕ) (b : Bool) (r end : ℕ) → IsTrue b → r ≡ p.root → P r (ends_told b n end) → P p.root (starts_to 0 n)
 told_whole P p n b r end all_starts root told = subst (λ v. P p.root (ends_told v n end)) all_starts (subst (λ v. P v (ends_told b n end)) root told)
 
@@ -228,7 +228,7 @@ trial_cost m from start place s0 s1 s2 low first pass =
     let all : 40 * m * (place + 1) ≡ 40 * m * (start + d) = ap (λ x. 40 * m * x) is in
     omega (arith, all, first, pass)
 
--- no match begins from the place on before the trial's, and it tells the longest one from there
+-- no match begins from the place on before the trial's, and it gives the longest one from there
 pub record IsTrial (e : Tree) (w : List ℕ) (from start place : ℕ) (end : Option ℕ) : Type 0 where
   pub after : from ≤ start
   pub passed : start ≤ place

@@ -86,7 +86,7 @@ leads_same e way a b byte other edge same leads =
 pub few_kinds : (a b : Bool) → kind_number a b < 4
 few_kinds a b = omega (arith, bit_low a, bit_low b)
 
--- the number tells the kind
+-- the number determines the kind
 kind_same : (one other : PlaceKind) → kind_number one.begin one.end ≡ kind_number other.begin other.end → one ≡ other
 kind_same one other e =
     let begin = sides (from_bool one.end) (from_bool other.end) one.begin other.begin (omega (arith, e)) in
@@ -459,7 +459,7 @@ module _ (p : Prepared) (t : Table) (table : IsTable p t) (P : PassState → Typ
   pub names_small : o < 2147483647
   names_small = omega (arith, offset_is, small_offset)
 
--- what stands in a cell
+-- what a cell holds
 module _ (p : Prepared) (t : Table) (table : IsTable p t) (offset byte k : ℕ) (edge : Bool) (at : IsOffset t offset) (column : IsColumn t.layout byte edge k) where
   column_inside : k < t.layout.width
   column_inside = column_below t.layout.columns t.layout.width (slice_index_or t.layout.classes byte 0) k edge t.layout.edge table.layout.columns table.layout.edge column.0 column.1
