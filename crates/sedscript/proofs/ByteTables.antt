@@ -67,7 +67,7 @@ table_step string1 string2 k d e s t h g is as_ lt =
     let those : t ∷ drop (k + 1) string2 ≡ drop k string2 = ap (λ (z : ℕ). z ∷ drop (k + 1) string2) as_ ∙ (ap (λ (z : ℕ). get_or string2 k e ∷ drop z string2) one ∙ sym (drop-cons string2 k e g)) in
     table_more s t (drop (k + 1) string1) (drop (k + 1) string2) lt ∙ (ap (λ (z : List ℕ). table_of z (t ∷ drop (k + 1) string2)) these ∙ ap (table_of (drop k string1)) those)
 
--- after the shorter string no pair stands
+-- after the shorter string no pair is left
 pub table_start : (string1 string2 : List ℕ) (k : ℕ) → k ≡ min (length string1) (length string2) → range_with_len 0 256 ≡ table_of (drop k string1) (drop k string2)
 table_start string1 string2 k e = table_none (drop k string1) (drop k string2) (elim (leb_tells (length string1) k)
     [ inl h ↦ inl (drop_of_length-le string1 h.1) | inr h ↦ inr (drop_of_length-le string2 (let above = h.1 in omega (arith, e, above))) ])

@@ -16,7 +16,7 @@ chars_step d from k e f bytes o h is force =
     ∙ (ap (λ (n : ℕ). cons_option o (chars_from d f n (drop (suc k) bytes))) (let a : suc (from + k) ≡ from + (k + 1) = omega arith in a)
     ∙ ap (λ (n : ℕ). cons_option o (chars_from d f (from + (k + 1)) (drop n bytes))) (let a : suc k ≡ k + 1 = omega arith in a))))
 
--- a byte that stands there the first time
+-- a byte that occurs there the first time
 pub repeated_more : (d from k : ℕ) (e f : Bool) (bytes before : List ℕ) (o : Option Char) (c : Char) (noted : Bool) (answer : Option ℕ) → k < length bytes →
     o ≡ char_of d e (from + k) (get_or bytes k 0) → f ≡ escapes e (get_or bytes k 0) → o ≡ Some c → noted ≡ is_among before c.byte → noted ≡ false →
     answer ≡ repeated_in before (chars_from d e (from + k) (drop k bytes)) → answer ≡ repeated_in (c.byte ∷ before) (chars_from d f (from + (k + 1)) (drop (k + 1) bytes))
@@ -25,7 +25,7 @@ repeated_more d from k e f bytes before o c noted answer h is force some among f
     ∙ (ap (λ (x : Option Char). repeated_in before (cons_option x (chars_from d f (from + (k + 1)) (drop (k + 1) bytes)))) some
     ∙ ap (λ (t : Bool). if t then Some c.place else repeated_in (c.byte ∷ before) (chars_from d f (from + (k + 1)) (drop (k + 1) bytes))) (sym among ∙ first)))
 
--- one that stands there a second time
+-- one that occurs there a second time
 pub repeated_found : (d from k : ℕ) (e : Bool) (bytes before : List ℕ) (o : Option Char) (c : Char) (noted : Bool) (answer : Option ℕ) → k < length bytes →
     o ≡ char_of d e (from + k) (get_or bytes k 0) → o ≡ Some c → noted ≡ is_among before c.byte → noted ≡ true →
     answer ≡ repeated_in before (chars_from d e (from + k) (drop k bytes)) → Some c.place ≡ answer
@@ -42,7 +42,7 @@ repeated_same d from k e f bytes before o answer h is force none so_far =
     so_far ∙ (ap (repeated_in before) (chars_step d from k e f bytes o h is force)
     ∙ ap (λ (x : Option Char). repeated_in before (cons_option x (chars_from d f (from + (k + 1)) (drop (k + 1) bytes)))) none)
 
--- the bytes of a string are the same wherever it stands
+-- the bytes of a string are the same wherever it is
 same_byte : (d at n : ℕ) (e : Bool) (b : ℕ) (cs ds : List Char) → bytes_of cs ≡ bytes_of ds → bytes_of (cons_option (char_of d e at b) cs) ≡ bytes_of (cons_option (char_of d e n b) ds)
 same_byte d at n true b cs ds h = by_byte (escaped_byte d b)
   where

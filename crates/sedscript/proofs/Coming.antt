@@ -53,7 +53,7 @@ pub fails_then : {A B : Type 0} (text : List ℕ) (kind : Kind) (m : ℕ) (r : R
 fails_then text kind m _ f _ _ x value h = h
 fails_then text kind m _ f _ a x (after_expression {k = k} {es = es} e is g) h = later e is (fails_then text kind m (k e.groups) f es a x g h)
 
--- a fault stands first
+-- a fault comes first
 pub fails_first : {A B : Type 0} (text : List ℕ) (kind : Kind) (m : ℕ) (r : Reading A) (f : A → Reading B) (x : ScriptFault) →
     Fails text kind m r x → Fails text kind m (r >>= f) x
 fails_first text kind m _ f _ own = own
@@ -122,7 +122,7 @@ pub expression_comes : (text : List ℕ) (kind : Kind) (m : ℕ) (p : Pattern) (
 expression_comes text kind m p old new e groups same read grown =
     subst (λ (n : ℕ). Comes text kind m old new as_groups (Ok n) (expression p (λ (groups : ℕ). plainly (Ok groups)))) (sym same) (e ∷ [], after_expression e read value, grown)
 
--- an address with an expression is what stands after the expression alone
+-- an address with an expression is the expression alone, and what follows it
 pub match_is : (text : List ℕ) (count d place to : ℕ) (folded : Bool) → delimiter_at text (place + 1) d ≡ Some to → to ≢ place + 1 → folded ≡ folds_at text (to + 1) →
     match_at text count d place ≡ (expression (record { from = place + 1; to = to; delimiter = d; folded = folded }) (λ (groups : ℕ). plainly (Ok groups)) >>= λ (groups : ℕ). plainly (address_found (Some (Match (Some count))) (past_flag text (to + 1)) (count + 1)))
 unfolding match_at
@@ -272,7 +272,7 @@ argument_comes text kind m at old verb result other e =
     subst (λ (reads : Bool). Comes text kind m old old as_argument result (if reads then substitute_at text (length old) at else plainly (argument_of text verb at))) (sym other)
     (comes_plain text kind m old old as_argument result (argument_of text verb at) refl (arguments_agree (length old) result (argument_of text verb at) e))
 
--- the item of a function whose letter may not stand there
+-- the item of a function whose letter may not come there
 pub item_fault : (text : List ℕ) (kind : Kind) (m count letter at : ℕ) (a : Addresses) (f : ScriptFault) → slice_get text at ≡ Some letter → allowed a at (verb_of letter) ≡ Err f →
     Fails text kind m (function_at text count a at) f ⊎ (f ≡ NO_MEMORY)
 unfolding function_at
@@ -280,7 +280,7 @@ item_fault text kind m count letter at a f there e =
     subst (λ (o : Option ℕ). Fails text kind m (item_with text count a at o) f ⊎ (f ≡ NO_MEMORY)) (sym there)
     (inl (subst (λ (r : Result Verb ScriptFault). Fails text kind m (plainly r >>= λ (v : Verb). argument_with text count v at >>= λ (found : Argument × ℕ). plainly (Ok (item_of a at v found))) f) (sym e) own))
 
--- the item of a function that may stand there
+-- the item of a function that may come there
 pub item_goes : (text : List ℕ) (kind : Kind) (m letter at : ℕ) (verb : Verb) (a : Addresses) (old new : List WrittenExpression) (result : Result ItemOrEnd ScriptFault) → slice_get text at ≡ Some letter →
     allowed a at (verb_of letter) ≡ Ok verb →
     Comes text kind m old new as_here result (argument_with text (length old) verb at >>= λ (found : Argument × ℕ). plainly (Ok (item_of a at verb found))) →

@@ -20,7 +20,7 @@ abbrev pub ReadsAsOne : Type 0
 ReadsAsOne = (kind : Kind) (folded : Bool) (delimiter : Option ℕ) (text : List ℕ) (one other : Tree) (groups more : ℕ) →
     ReadsAs kind folded delimiter text one groups → ReadsAs kind folded delimiter text other more → (one ≡ other) × (groups ≡ more)
 
--- what stands after one reading of a pattern stands after the other
+-- what follows one reading of a pattern follows the other
 pub as_other : (text : List ℕ) (kind : Kind) (m : ℕ) (p : Pattern) (d e : WrittenExpression) → ReadsAsOne → IsRead text kind m p d → IsRead text kind m p e → d.groups ≡ e.groups
 as_other text kind m p d e one h g = (one kind p.folded (Some p.delimiter) (bytes_between text p.from p.to) (expression_tree d) (expression_tree e) d.groups e.groups h.reads g.reads).1
 
@@ -41,7 +41,7 @@ no_fails text kind m _ _ a _ one (after_expression {p = p} d is g) (no_expressio
 no_fails text kind m _ _ a f one (after_expression {p = p} {k = k} {es = es} d is g) (later e is' bad) =
     no_fails text kind m (k e.groups) es a f one (subst (λ (n : ℕ). Gives text kind m (k n) es a) (as_other text kind m p d e one is is') g) bad
 
--- at the end stands nothing else
+-- at the end there is nothing else
 pub end_gives : (text : List ℕ) (kind : Kind) (m n at : ℕ) → IsEnd text at → Gives text kind m (item_at text n at) [] Ends
 unfolding item_at
 end_gives text kind m n at e = subst (λ (o : Option ℕ). Gives text kind m (item_from text n (past Separator text at) o) [] Ends) (sym e) value
@@ -50,7 +50,7 @@ end_gives text kind m n at e = subst (λ (o : Option ℕ). Gives text kind m (it
 pub is_next : (i j : Item) (a b : ℕ) → ◌≡◌ {A = ItemOrEnd} (Is i a) (Is j b) → (i ≡ j) × (a ≡ b)
 is_next i j a b e = (cc, cc)
 
--- at the end stands no item
+-- at the end there is no item
 no_item : {X : Type 0} (text : List ℕ) (kind : Kind) (m n at next : ℕ) (i : Item) (es : List WrittenExpression) → ReadsAsOne → IsEnd text at → Gives text kind m (item_at text n at) es (Is i next) → X
 no_item text kind m n at next i es one end is =
     let same = gives_one text kind m (item_at text n at) [] es Ends (Is i next) one (end_gives text kind m n at end) is in
@@ -66,7 +66,7 @@ same_rest text kind m count at next other stop i j js es gs hs one is is' rest =
     let long : length gs ≡ length es = sym both.1 in
     (same.0, long, subst (λ (k : ℕ). CutScript text kind m (count + k) next js hs stop) long (subst (λ (k : ℕ). CutScript text kind m (count + length gs) k js hs stop) (sym same.1) rest))
 
--- no fault stands after a cut that another cut goes on from
+-- no fault follows a cut that another cut goes on from
 pub cut_no_fault : (text : List ℕ) (kind : Kind) (m count at to stop : ℕ) (is js : List Item) (es fs : List WrittenExpression) (f : ScriptFault) (n : ℕ) → ReadsAsOne →
     CutScript text kind m count at is es to → IsEnd text to → CutScript text kind m count at js fs stop → n ≡ count + length fs → Fails text kind m (item_at text n stop) f → ⊥
 cut_no_fault text kind m count at to stop _ _ _ _ f n one done ends done e bad =

@@ -113,7 +113,7 @@ label_of_first text name k n (i ∷ is) = by_label (is_label text name i.verb i.
 eq_more : (j k : ℕ) → (j == j + suc k) ≡ false
 eq_more j k = elim (eqb_tells j (j + suc k)) [ inl h ↦ absurd (omega (arith, h.1)) | inr h ↦ h.0 ]
 
--- whether an earlier item has the label is told by the index of the first that has it
+-- whether an earlier item has the label follows from the index of the first that has it
 pub earlier_label : (text name : List ℕ) (k j n m t : ℕ) (is : List Item) (i : Item) → slice_get is k ≡ Some i → is_label text name i.verb i.argument ≡ true → t ≡ j + k →
     is_earlier t (first_labelled text name j m is) ≡ is_some (label_in text name n (take k is))
 earlier_label text name k j n m t [] i e l f = let g : ◌≡◌ {A = Option Item} None (Some i) = e in cc

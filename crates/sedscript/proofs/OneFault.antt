@@ -36,7 +36,7 @@ fails_one text kind m _ _ _ one once (later e is h) (no_expression {f = f} bad) 
 fails_one text kind m _ f g one once (later {p = p} {k = k} d is h) (later e is' h') =
     fails_one text kind m (k e.groups) f g one once (subst (λ (n : ℕ). Fails text kind m (k n) f) (as_other text kind m p d e one is is') h) h'
 
--- after two cuts from one place stands one fault
+-- after two cuts from one place comes one fault
 pub cut_one_fault : (text : List ℕ) (kind : Kind) (m count at to stop : ℕ) (is js : List Item) (es fs : List WrittenExpression) (f g : ScriptFault) (n k : ℕ) → ReadsAsOne → OneExprFault →
     CutScript text kind m count at is es to → n ≡ count + length es → Fails text kind m (item_at text n to) f →
     CutScript text kind m count at js fs stop → k ≡ count + length fs → Fails text kind m (item_at text k stop) g → f ≡ g

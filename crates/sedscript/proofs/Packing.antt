@@ -66,7 +66,7 @@ more_argument : (a c : ℕ) (brief : PackedArgument) (from : ℕ) → a ≤ c �
 more_argument a c b.Listed from le h = omega (arith, le, h)
 more_argument a c other from le h = tt
 
--- what is listed stands in the longer lists too
+-- what is listed is in the longer lists too
 pub all_kept : (listed_addresses hs : List Addresses) (listed_arguments ls : List Argument) (ks : List PackedItem) → Longer listed_addresses hs → Longer listed_arguments ls → All (PacksItem (length listed_addresses) (length listed_arguments)) ks → All (PacksItem (length hs) (length ls)) ks
 all_kept listed_addresses hs listed_arguments ls ks a f all =
     All-weaker (PacksItem (length listed_addresses) (length listed_arguments)) (PacksItem (length hs) (length ls))

@@ -1,4 +1,4 @@
--- Faults are told in the text or at its end, and what is read names expressions that were read.
+-- Faults are in the text or at its end, and what is read names expressions that were read.
 use Rattle.std.proofs.Common.{◌≡◌, ℕ, zero, suc, ◌+◌, ◌-◌, ◌<◌, ◌≤◌, ◌&&◌, ◌==◌, Bool, true, false, not, List, [], ◌∷◌, ◌++◌, length, Option, Some, None, is_some, is_none, option_map, option_and_then, Result, Ok, Err, refl, sym, subst, ◌∙◌, arith, if◌then◌else◌, slice_get, drop, nat_lt, length-take, length-drop, length-append, ◌⊎◌, inl, inr, OnOk, unwrap_or}
 use Rattle.std.specs.Option.{option_len, option_or}
 use Rattle.sedre.specs.declared.types.Kind.{Kind}
@@ -44,7 +44,7 @@ if_both P false x y h g = g
 
 -- places
 
--- a byte that is there stands before the end
+-- a byte that is there comes before the end
 inside : (xs : List ℕ) (i x : ℕ) → slice_get xs i ≡ Some x → i < length xs
 inside [] zero x e = cc
 inside [] (suc i) x e = cc
@@ -65,7 +65,7 @@ past_up_to sort text at le = omega (arith, le, prefix_len-le-length (belongs sor
 between_short : (text : List ℕ) (from to : ℕ) → from ≤ to → from + length (bytes_between text from to) ≤ to
 between_short text from to le = omega (arith, le, length-take (to - from) (drop from text))
 
--- a place that was found stands from one place on and before another
+-- a place that was found lies from one place on and before another
 abbrev FoundIn : (from end : ℕ) → Option ℕ → Type 0
 FoundIn from end None = Unit {0}
 FoundIn from end (Some to) = (from ≤ to) × (to < end)
@@ -112,7 +112,7 @@ text_in how at end (b ∷ bs) le =
 
 -- faults
 
--- a fault, where there is one, is told up to a place
+-- a fault, where there is one, is not past a place
 abbrev FaultUpTo : ℕ → Option ScriptFault → Type 0
 FaultUpTo n None = Unit {0}
 FaultUpTo n (Some f) = f.place ≤ n
@@ -191,7 +191,7 @@ strings_up_to text d letter from middle to n low a b high =
 
 -- what is read
 
--- a value is as it should be, and a fault is told up to a place
+-- a value is as it should be, and a fault is not past a place
 abbrev ReadUpTo : {A : Type 0} → (A → Type 0) → ℕ → Result A ScriptFault → Type 0
 ReadUpTo P n (Ok x) = P x
 ReadUpTo P n (Err f) = f.place ≤ n
@@ -209,7 +209,7 @@ unless_up_to P n (Some f) r h g = h
 abbrev Any : {A : Type 0} → A → Type 0
 Any x = Unit {0}
 
--- strings stand before a place
+-- strings lie before a place
 abbrev StringsIn : ℕ → Strings → Type 0
 StringsIn n s = (s.from ≤ s.middle) × (s.middle < s.to) × (s.to < n)
 
@@ -401,7 +401,7 @@ substituted_read text count s e limit one h =
 
 -- readings
 
--- the same of a reading, whose expressions stand up to the place: the value is as it should be for so many expressions
+-- the same of a reading, whose expressions lie up to the place: the value is as it should be for so many expressions
 abbrev ReadingUpTo : {A : Type 0} → (ℕ → A → Type 0) → ℕ → ℕ → Reading A → Type 0
 ReadingUpTo P n count (plainly r) = ReadUpTo (P count) n r
 ReadingUpTo P n count (expression p k) = (p.from ≤ p.to) × (p.to ≤ n) × ((groups : ℕ) → ReadingUpTo P n (suc count) (k groups))
@@ -423,7 +423,7 @@ reading_gives P n text kind m count _ _ x value h = subst (λ (k : ℕ). P k x) 
 reading_gives P n text kind m count _ _ x (after_expression {k = k} {es = es} e is g) h =
     subst (λ (j : ℕ). P j x) (let same : suc count + length es ≡ count + suc (length es) = omega arith in same) (reading_gives P n text kind m (suc count) (k e.groups) es x g (h.2 e.groups))
 
--- the first fault of an expression's text is told in it or at its end
+-- the first fault of an expression's text is in it or at its end
 abbrev pub ExprFaultWithin : Type 0
 ExprFaultWithin = (kind : Kind) (delimiter : Option ℕ) (text : List ℕ) (max_nodes place : ℕ) (reason : ExprReason) → ExprFaulty kind delimiter text max_nodes place reason → place ≤ length text
 
@@ -602,7 +602,7 @@ ItemsUpTo n is = Each (λ i. i.place ≤ n) is
 abbrev pub ItemsWithin : ℕ → List Item → Type 0
 ItemsWithin n is = Each (ItemWithin n) is
 
--- the items of a cut stand within the text, and what they name is among its expressions
+-- the items of a cut lie within the text, and what they name is among its expressions
 pub cut_up_to : (text : List ℕ) (kind : Kind) (m count at to n : ℕ) (is : List Item) (es : List WrittenExpression) → CutScript text kind m count at is es to → at ≤ length text → n ≡ count + length es →
     (to ≤ length text) × ItemsUpTo (length text) is × ItemsWithin n is
 cut_up_to text kind m count at to n _ _ done le e = (le, tt, tt)
@@ -624,7 +624,7 @@ target_up_to n text all before depth [] h = tt
 target_up_to n text all before depth (i ∷ is) h =
     fault_or n _ _ (target_at_up_to n text all before depth is i.place i.verb i.argument h.0) (target_up_to n text all (before ++ i ∷ []) (depth_after depth i.verb) is h.1)
 
--- the first fault of a text is told in it or at its end
+-- the first fault of a text is in it or at its end
 pub fault_within : ExprFaultWithin → (text : List ℕ) (kind : Kind) (m : ℕ) (f : ScriptFault) → Faulty text kind m f → f.place ≤ length text
 fault_within told text kind m f (early is es to cut bad) =
     let reached = cut_up_to text kind m 0 0 to (length es) is es cut (omega arith) (omega arith) in

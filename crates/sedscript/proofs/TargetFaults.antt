@@ -12,7 +12,7 @@ use Rattle.sedscript.specs.declared.items.Item.{Item}
 use Rattle.sedscript.specs.declared.script.Operands.{Operands}
 use Rattle.sedscript.proofs.Labels.{none_of, take_item, drop_item}
 
--- whether one is missing, as the test tells it
+-- whether one is missing, as the test says
 pub missing : {A : Type 0} (o : Option A) (b : Bool) → is_some o ≡ not b → b ≡ is_none o
 missing None true e = refl
 missing None false e = cc

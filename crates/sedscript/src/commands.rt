@@ -204,9 +204,8 @@ fn add_operand<'a>(
     add_text(alloc, text, &mut operands.texts, item)?;
     match item.argument {
         Argument::FlaggedPair(strings, expression, flags) => {
-            operands.substitutions.push(substitution_of(
-                alloc, text, files, strings, expression, flags,
-            )?)?;
+            let substitution = substitution_of(alloc, text, files, strings, expression, flags)?;
+            operands.substitutions.push(substitution)?;
         }
         Argument::Pair(strings) => {
             operands.tables.push(table_between(alloc, text, strings)?)?;

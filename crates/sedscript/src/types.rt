@@ -5,6 +5,7 @@ ghost use Rattle.sedscript.specs.Faults.{name_of, number_of};
 
 pub use sedre::{ExprFault, Kind};
 use std::alloc::AllocError;
+use std::fmt::{self, Debug, Formatter};
 
 /// Which pattern spaces a command is for (XCU sed, "Addresses in sed").
 #[derive(Clone, Copy)]
@@ -117,7 +118,7 @@ pub struct Command {
 }
 
 /// Why a text isn't a script, S1 to S23.
-#[derive(Clone, Copy, Debug, PartialEq, Eq)]
+#[derive(Clone, Copy, PartialEq, Eq)]
 pub enum Reason {
     /// S1: no function comes where one is expected.
     UnknownCommand,
@@ -167,6 +168,33 @@ pub enum Reason {
     FlagOnEmpty,
 }
 
+/// The names of the reasons, in the order of their numbers.
+const NAMES: [&str; 23] = [
+    "UnknownCommand",
+    "TooManyAddresses",
+    "BadAddress",
+    "MissingText",
+    "OpenDelimiter",
+    "BadDelimiter",
+    "UnknownFlag",
+    "RepeatedFlag",
+    "BadNumber",
+    "UnknownLabel",
+    "RepeatedLabel",
+    "MissingLabel",
+    "OpenBlock",
+    "StrayClose",
+    "TrailingBytes",
+    "LengthsDiffer",
+    "RepeatedByte",
+    "BadEscape",
+    "MissingName",
+    "GroupAbsent",
+    "Expression",
+    "NoMemory",
+    "FlagOnEmpty",
+];
+
 impl Reason {
     /// The fault of this reason at a place.
     pub(crate) fn at(self, place: usize) -> ScriptFault
@@ -213,30 +241,15 @@ impl Reason {
     pub fn name(self) -> &'static str
         ensures { result.now ≡ name_of self }
     {
+        NAMES[self.number() as usize - 1]
+    }
+}
+
+impl Debug for Reason {
+    fn fmt<W: fmt::Write>(&self, f: &mut Formatter<W>) -> fmt::Result {
         match self {
-            Reason::UnknownCommand => "UnknownCommand",
-            Reason::TooManyAddresses => "TooManyAddresses",
-            Reason::BadAddress => "BadAddress",
-            Reason::MissingText => "MissingText",
-            Reason::OpenDelimiter => "OpenDelimiter",
-            Reason::BadDelimiter => "BadDelimiter",
-            Reason::UnknownFlag => "UnknownFlag",
-            Reason::RepeatedFlag => "RepeatedFlag",
-            Reason::BadNumber => "BadNumber",
-            Reason::UnknownLabel => "UnknownLabel",
-            Reason::RepeatedLabel => "RepeatedLabel",
-            Reason::MissingLabel => "MissingLabel",
-            Reason::OpenBlock => "OpenBlock",
-            Reason::StrayClose => "StrayClose",
-            Reason::TrailingBytes => "TrailingBytes",
-            Reason::LengthsDiffer => "LengthsDiffer",
-            Reason::RepeatedByte => "RepeatedByte",
-            Reason::BadEscape => "BadEscape",
-            Reason::MissingName => "MissingName",
-            Reason::GroupAbsent => "GroupAbsent",
-            Reason::Expression(_) => "Expression",
-            Reason::NoMemory => "NoMemory",
-            Reason::FlagOnEmpty => "FlagOnEmpty",
+            Reason::Expression(fault) => f.debug_tuple("Expression").field(fault).finish(),
+            _ => f.write_str(self.name()),
         }
     }
 }
