@@ -150,7 +150,7 @@ from_last [] file left e = e
 from_last (x ∷ []) file left e = e
 from_last (x ∷ y ∷ files) file left e = from_last (y ∷ files) file left e
 
--- the files told first were opened and noted, and what is left of the file being read is all of the last of them
+-- the first of the files were opened and noted, and what is left of the file being read is all of the last of them
 abbrev pub Notes : Option (List (Option (List ℕ))) → Option (List (Option (List ℕ))) → Option (List ℕ) → List Bool → List Bool → Type 0
 Notes None new left before after = Unit {0}
 Notes (Some files) new left before after =

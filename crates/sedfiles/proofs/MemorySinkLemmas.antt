@@ -70,7 +70,7 @@ sink_at [] k inside = absurd (omega (arith, inside))
 sink_at (sink ∷ held) zero inside = (sink, refl)
 sink_at (sink ∷ held) (suc k) inside = sink_at held k (omega (arith, inside))
 
--- A write of no bytes that passes was not told to fail.
+-- A write of no bytes that passes was not set to fail.
 module _ (old new : HeldSinks) (k : ℕ) (inside : k < length old.held) (same : length new.held ≡ length old.held) where
   abbrev Takes : Result ℕ Broken → Type 0
   Takes r = IfSome (slice_get old.held k) (λ s. IfSome (slice_get new.held k) (λ t. TakesBytes s t old.most [] r))
@@ -81,7 +81,7 @@ module _ (old new : HeldSinks) (k : ℕ) (inside : k < length old.held) (same : 
       let taken : TakesBytes s t.0 old.most [] (Ok n) = rw (at, t.1) at h in
       taken.2 (fails ∙ sym (ap (λ (x : Sink). Some x.writes) taken.3))
 
--- what wasn't written to is told to fail as before
+-- what wasn't written to is set to fail as before
 pub NextFails-same : (old new : HeldSinks) (k : ℕ) → slice_get new.held k ≡ slice_get old.held k → NextFails new k → NextFails old k
 NextFails-same old new k same (s, at, fails) = (s, sym same ∙ at, fails)
 

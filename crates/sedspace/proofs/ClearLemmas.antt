@@ -113,7 +113,7 @@ newline_past bytes a at within none e =
     let here : a + at ≡ position_or_len is_newline bytes = omega (arith, place, both.0) in
     grind (arith, nat_tests)
 
--- the first newline, where it stands after bytes that hold none
+-- the first newline, where it comes after bytes that hold none
 pub newline_at : (bytes : List ℕ) (a : ℕ) → a < length bytes → get_or bytes a 0 ≡ 10 → HasNoNewline (take a bytes) → Some a ≡ position is_newline bytes
 newline_at bytes a inside here none =
     let at : position_or_len is_newline bytes ≡ a = position_or_len_is is_newline bytes a 0 (omega arith) (λ k l. none_before k l) (λ l. is_here) in

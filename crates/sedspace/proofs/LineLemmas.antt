@@ -37,7 +37,7 @@ pub lines_nil : split_lines [] ≡ []
 unfolding split_lines
 lines_nil = refl
 
--- the first newline, and what stands before and after it
+-- the first newline, and what comes before and after it
 pub record IsNewlineAt (bytes : List ℕ) (i : ℕ) : Type 0 where
   pub within : i < length bytes
   pub none_before : HasNoNewline (take i bytes)
@@ -110,7 +110,7 @@ first_inside bytes l =
     let pieces : 0 < length (slice_split is_newline (after_first is_newline bytes)) = omega (arith, length-slice_split is_newline (after_first is_newline bytes)) in
     ap without_empty_last (slice_split_first is_newline bytes 0 l) ∙ without_empty_last-cons _ _ pieces
 
--- a first line is what stands before the first newline
+-- a first line is what comes before the first newline
 pub lines_first : (bytes : List ℕ) → 0 < length bytes → split_lines bytes ≡ before_first is_newline bytes ∷ split_lines (after_first is_newline bytes)
 lines_first bytes some = ⊎_elim (first_at_end bytes some) (first_inside bytes) (eq-or-lt_of_le (prefix_len-le-length (λ b. not (is_newline b)) bytes))
 
@@ -135,7 +135,7 @@ lines_none (b ∷ bs) e = absurd (cons_not_nil _ _ (sym (lines_first (b ∷ bs) 
     cons_not_nil : (x : List ℕ) (xs : List (List ℕ)) → x ∷ xs ≡ [] → ⊥
     cons_not_nil x xs e = cc
 
--- where a newline stands, there is one
+-- where a newline is at a place, the bytes contain one
 pub contains_newline : (bytes : List ℕ) (i : ℕ) → IsNewlineAt bytes i → Contains bytes 10
 contains_newline bytes i n =
     let here : get_or (take i bytes ++ 10 ∷ drop (i + 1) bytes) i 10 ≡ 10 = get_or_at (take i bytes) 10 (drop (i + 1) bytes) 10 i (length-take-le i bytes (omega (arith, n.within))) in

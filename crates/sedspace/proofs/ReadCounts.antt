@@ -1,12 +1,18 @@
 -- How often a source is read for the bytes that are taken from it.
-use Rattle.std.proofs.Common.{◌≡◌, ℕ, ◌+◌, ◌≤◌, List, [], ◌++◌, length, Option, None, Some, subst, sym, arith, length-append}
+use Rattle.std.proofs.Common.{◌≡◌, ℕ, ◌+◌, ◌≤◌, List, [], ◌++◌, length, Option, None, Some, option_map, subst, sym, arith, length-append}
 use Rattle.std.specs.Io.KnownBytes.{Consumes}
 use Rattle.std.proofs.KnownBytes.{Consumes-nil, Consumes-trans}
 use Rattle.sedspace.specs.Stream.{ReadsForBytes, RisesAtMost}
+use Rattle.sedspace.specs.FailureCounts.{raised}
 
 RisesAtMost-same : (a : Option ℕ) (n : ℕ) → RisesAtMost a a n
 RisesAtMost-same None n = tt
 RisesAtMost-same (Some k) n = omega arith
+
+-- one read
+pub RisesAtMost-once : (a b : Option ℕ) → b ≡ option_map raised a → RisesAtMost a b 1
+RisesAtMost-once None b is = tt
+RisesAtMost-once (Some k) b is = subst (λ (z : Option ℕ). RisesAtMost (Some k) z 1) (sym is) (omega arith)
 
 RisesAtMost-then : (a b c : Option ℕ) (n m p : ℕ) → n + m ≤ p → RisesAtMost a b n → RisesAtMost b c m → RisesAtMost a c p
 RisesAtMost-then None b c n m p le h k = tt

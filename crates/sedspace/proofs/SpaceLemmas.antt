@@ -5,7 +5,7 @@ use Rattle.std.proofs.Math.Seq.{take-append-add}
 use Rattle.std.proofs.lemmas.List.{take-take, get_or_default}
 use Rattle.std.proofs.lemmas.List.Edits.{map_over_more}
 
--- where the first `most` bytes of the text stand after the first `end`, its first `count` do
+-- where the first `most` bytes of the text come after the first `end`, its first `count` do
 pub fewer : (now old text : List ℕ) (end count most : ℕ) → end ≤ length old → count ≤ most → take (end + most) now ≡ take end old ++ take most text → take (end + count) now ≡ take end old ++ take count text
 fewer now old text end count most inside less h =
     let front = take end old in
@@ -20,7 +20,7 @@ replaced_more table xs ys i inside long whole h =
     let b = slice_index_or ys i 0 in
     ap (λ z. slice_set ys i z) (get_or_default table b 0 b whole) ∙ map_over_more (λ b. slice_index_or table b b) xs ys i b inside h (get_or_default ys i 0 b long)
 
--- what stands at a place is first from there on
+-- what is at a place is first from there on
 pub first_of_drop : {A : Type 0} (xs : List A) (n : ℕ) → slice_get (drop n xs) 0 ≡ slice_get xs n
 first_of_drop [] zero = refl
 first_of_drop [] (suc n) = refl

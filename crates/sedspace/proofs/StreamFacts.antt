@@ -1,5 +1,6 @@
 -- What gathered parts mean for the lines to come.
-use Rattle.std.proofs.Common.{◌≡◌, ℕ, ◌+◌, ◌-◌, ◌<◌, ◌≤◌, List, [], ◌∷◌, ◌++◌, length, Option, None, Some, option_map, Bool, true, false, not, IsTrue, ◌↔◌, Result, Ok, Err, refl, sym, ap, ◌∙◌, arith, rules, inl, inr, ⊎_elim, length-append, append_assoc, append-nil, subst, is_ok, if◌then◌else◌, take, length-take, length-drop, drop, slice_index_or}
+use Rattle.std.proofs.Common.{◌≡◌, ◌==◌, ℕ, ◌+◌, ◌-◌, ◌<◌, ◌≤◌, List, [], ◌∷◌, ◌++◌, length, Option, None, Some, option_map, Bool, true, false, not, IsTrue, ◌↔◌, Result, Ok, Err, refl, sym, ap, ◌∙◌, arith, rules, inl, inr, ⊎_elim, length-append, append_assoc, append-nil, subst, is_ok, if◌then◌else◌, take, length-take, length-drop, drop, slice_index_or}
+use Rattle.std.proofs.lemmas.Bool.Decides.{nat_tests}
 use Rattle.std.proofs.Math.Seq.{take-append_seam}
 use Rattle.std.specs.List.{before_first}
 use Rattle.std.specs.Io.KnownBytes.{prepend_known, Consumes, IsAtEnd}
@@ -46,11 +47,11 @@ first_is_longer (Some xs) (Some ys) part ahead n h none long =
     first_longer (part ++ (ahead ++ ys)) n (omega (arith, long, length-before_first-append part ahead ys none))
     )
 
--- bytes between two places of a buffer are no more than stand before the second
+-- bytes between two places of a buffer are no more than those before the second
 pub ahead_within : (front filled n : ℕ) (bytes : List ℕ) → filled ≤ n → length (drop front (take filled bytes)) ≤ n
 ahead_within front filled n bytes most = omega (arith, length-drop front (take filled bytes), length-take filled bytes)
 
--- what was appended within the limit stands within it
+-- what was appended within the limit lies within it
 pub appended_fits : (old new : Contents) (bytes : List ℕ) (count : ℕ) → new ≡ record old { bytes = old.bytes ++ bytes } → length bytes ≤ count → length old.bytes + count ≤ old.limit → length new.bytes ≤ new.limit
 appended_fits old new bytes count e most fits =
     omega (arith, ap (λ (z : Contents). length z.bytes) e, ap (λ (z : Contents). z.limit) e, length-append old.bytes bytes, most, fits)
@@ -72,7 +73,7 @@ tells_same None b last h t = tt
 tells_same (Some xs) None last h t = absurd h
 tells_same (Some xs) (Some ys) last h t = subst (λ z. TellsLast (Some (split_lines z)) last) (sym h) t
 
--- what a read past an empty front tells
+-- what a read past an empty front answers
 pub tells_read : (a known : Option (List ℕ)) (ahead : List ℕ) (more : Bool) → Consumes a (prepend_known ahead known) [] → (IsTrue more ↔ (0 < length ahead)) → (more ≡ false → IsAtEnd (prepend_known ahead known)) → TellsLast (option_map split_lines a) (not more)
 tells_read a known ahead true h given end = tells_same a _ false h (tells_more known ahead (given.0 (search rules)))
 tells_read a known ahead false h given end = tells_end a _ h (end refl)
@@ -136,7 +137,7 @@ module _ {R : Type 0} (remaining : R → Option (List ℕ)) (failures : R → �
       (h.2.space ∙ ap (λ (z : List ℕ). record before { bytes = z }) (append-nil before.bytes), n.0, n.1, h.4)
   end_gathered (Err f) h e = cc
 
-  -- a line without a newline after it tells the end
+  -- a line without a newline after it shows the end
   pub last_gathered : (r : Result Got LineFault) → Gathers remaining failures old new before after r → r ≡ Ok Line → SeesEnd (left remaining old) new.ended
   last_gathered (Ok Line) h e =
       ⊎_elim
@@ -184,3 +185,11 @@ module _ {R : Type 0} (remaining : R → Option (List ℕ)) (failures : R → �
       takes_at_most _ _ h.2 _ h.3.source_is (omega (arith, size_of before after h.1 h.3.space, limit_of before after h.1 h.3.space, h.3.count, h.3.read_ahead_is, h.4, ahead))
   taken_gathered (Err Broken) h ahead =
       takes_at_most _ _ h.2 _ h.3.source_is (omega (arith, size_of before after h.1 h.3.space, limit_of before after h.1 h.3.space, h.3.count, h.3.read_ahead_is, h.4, ahead))
+
+-- what was read ahead is used up
+pub none_ahead : (ahead seen : List ℕ) → seen ≡ ahead → (length seen == 0) ≡ true → ahead ≡ []
+none_ahead ahead seen is none = sym is ∙ used_up seen none
+  where
+    used_up : (bytes : List ℕ) → (length bytes == 0) ≡ true → bytes ≡ []
+    used_up [] h = refl
+    used_up (b ∷ bytes) h = absurd (grind (arith, nat_tests))

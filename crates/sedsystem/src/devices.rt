@@ -65,11 +65,9 @@ impl SinkDevices {
         let Ok(mut all) = self.all.try_borrow_mut() else {
             return;
         };
-        if !all
-            .get(sink)
-            .is_some_and(|device| device.may_wait_to_take(bytes))
-        {
-            return;
+        match all.get(sink) {
+            Some(device) if device.may_wait_to_take(bytes) => {}
+            _ => return,
         }
         for (number, device) in all.iter_mut().enumerate() {
             if number != sink {
@@ -105,7 +103,7 @@ impl SinkDevices {
         }
     }
 
-    /// Writes out what is gathered for the sinks from this number on. A failure is told by the sink's next call.
+    /// Writes out what is gathered for the sinks from this number on. The sink's next call reports a failure.
     pub(crate) fn write_out(&self, first: usize) {
         if let Ok(mut all) = self.all.try_borrow_mut() {
             for device in all.iter_mut().skip(first) {

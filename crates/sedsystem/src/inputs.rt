@@ -21,8 +21,8 @@ enum CurrentFile {
     File(File),
 }
 
-/// The standard input and the files of the system. A file that is opened takes the place of the one before, which is closed first. They don't
-/// tell their bytes.
+/// The standard input and the files of the system. A file that is opened takes the place of the one before, which is closed first. No
+/// definition gives their bytes.
 #[derive(Drop)]
 pub struct FileInputs<'a> {
     rt: &'a HostRuntime,

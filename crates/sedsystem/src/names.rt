@@ -51,7 +51,7 @@ impl OpenText {
 }
 
 /// The files that the script reads. Each is opened where it is read from its start, and stays open to its end, so that a
-/// pipe is read on too. They don't tell their bytes.
+/// pipe is read on too. No definition gives their bytes.
 #[derive(Drop)]
 pub struct FileNames<'a> {
     rt: &'a HostRuntime,
@@ -111,15 +111,13 @@ impl<'a> Texts for FileNames<'a> {
         if !self.is_at(number, offset) {
             self.reading = self.opened(number, offset);
         }
-        let count = match &mut self.reading {
-            Some(reading) => {
-                if reading.may_wait {
-                    self.devices.write_out(0);
-                }
-                reading.read(buf)
-            }
-            None => 0,
+        let Some(reading) = &mut self.reading else {
+            return 0;
         };
+        if reading.may_wait {
+            self.devices.write_out(0);
+        }
+        let count = reading.read(buf);
         if count == 0 {
             self.reading = None;
         }

@@ -73,9 +73,10 @@ impl BufferedDevice {
 
     /// Whether it is the ordinary file of this metadata.
     pub(crate) fn is_file(&self, other: &Metadata) -> bool {
-        self.metadata.as_ref().is_some_and(|own| {
-            own.is_file() && own.dev() == other.dev() && own.ino() == other.ino()
-        })
+        match &self.metadata {
+            Some(own) => own.is_file() && own.dev() == other.dev() && own.ino() == other.ino(),
+            None => false,
+        }
     }
 
     /// Whether taking the bytes writes to a device that may wait, as any but an ordinary file does.
@@ -84,8 +85,11 @@ impl BufferedDevice {
             .writer
             .capacity()
             .saturating_sub(self.writer.buffer().len());
-        (self.is_terminal || bytes.len() > room)
-            && !self.metadata.as_ref().is_some_and(|own| own.is_file())
+        let is_file = match &self.metadata {
+            Some(own) => own.is_file(),
+            None => false,
+        };
+        (self.is_terminal || bytes.len() > room) && !is_file
     }
 
     /// Whether there are bytes that aren't written yet.

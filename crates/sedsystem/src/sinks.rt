@@ -10,7 +10,7 @@ use std::fs::File;
 use std::marker::Model;
 use std::str;
 
-/// The standard output, and the files that were created, by number. They don't tell their bytes.
+/// The standard output, and the files that were created, by number. No definition gives their bytes.
 #[derive(Drop)]
 pub struct FileSinks<'a> {
     rt: &'a HostRuntime,

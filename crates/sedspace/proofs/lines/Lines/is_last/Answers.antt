@@ -1,6 +1,6 @@
-use Rattle.std.proofs.Common.{◌<◌, ◌≤◌, Ok, ap, subst, arith, rules, length}
+use Rattle.std.proofs.Common.{◌<◌, ◌≤◌, Ok, ap, subst, arith, rules, length, sym, ◌∙◌}
 use Rattle.std.proofs.lemmas.Bool.Decides.{nat_tests}
-use Rattle.sedspace.proofs.StreamFacts.{ahead_within, tells_more, tells_read}
+use Rattle.sedspace.proofs.StreamFacts.{ahead_within, none_ahead, tells_more, tells_read}
 use Rattle.sedspace.proofs.lines.Lines.is_last.Goals as goal
 
 pub returns-then-not-is_empty-clause-last : goal.returns-then-not-is_empty-clause-last
@@ -21,3 +21,14 @@ returns-in-Some-clause-reads g c =
       search rules,
       search rules,
     )
+
+pub refill-requires : goal.refill-requires
+refill-requires g c = none_ahead c.args.self.now.ahead c.ahead.result.now c.ahead.ensures.value (sym c.is_empty.ensures ∙ c.if-not-is_empty.false)
+
+pub returns-in-Ok-clause-bytes_ahead : goal.returns-in-Ok-clause-bytes_ahead
+returns-in-Ok-clause-bytes_ahead g c = λ some.
+    absurd (omega (arith, some, ap length (none_ahead c.args.self.now.ahead c.ahead.result.now c.ahead.ensures.value (sym c.is_empty.ensures ∙ c.if-not-is_empty.false))))
+
+pub returns-in-Err-clause-bytes_ahead : goal.returns-in-Err-clause-bytes_ahead
+returns-in-Err-clause-bytes_ahead g c = λ some.
+    absurd (omega (arith, some, ap length (none_ahead c.args.self.now.ahead c.ahead.result.now c.ahead.ensures.value (sym c.is_empty.ensures ∙ c.if-not-is_empty.false))))
