@@ -128,7 +128,7 @@ module _ {R : Type 0} (remaining : R → Option (List ℕ)) (old new : Stream R)
       same = record { pattern = refl; hold = refl; queue = λ _. refl; entries = omega arith };
     }
 
-    -- the command applies; `to` is where the lines then stand
+    -- the command applies; `to` is where the lines then are
     pub reach_acting : (to : Stream R) (sinks sinks' : SinkView) (r : Result Unit Ended) (writes_text : Bool) → choice.yes ≡ true → writes_text ≡ writes_text_at c choice.end →
         PerformsSteps remaining new to ls e1.limits (run_setting e1 files) (acts (run_setting e1 files) (at_lines e1 ls) writes_text c.action) (is_next_line c.action) (at_lines e1 ls) e2 sinks sinks' r → StepsOf remaining old to ls e.limits (run_setting e files) e e2 sinks sinks' r
     reach_acting to sinks sinks' r writes_text chosen tells_is h =

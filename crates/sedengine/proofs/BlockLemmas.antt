@@ -67,7 +67,7 @@ pub length-bytes_of : (ls : List (List ℕ)) → length (bytes_of_lines ls) ≡ 
 length-bytes_of [] = refl
 length-bytes_of (l ∷ ls) = let rest = length-bytes_of ls in omega (arith, length-append l (10 ∷ bytes_of_lines ls))
 
--- each line stands in the block, with its newline
+-- each line is in the block, with its newline
 lines_of : (before : List ℕ) (ls : List (List ℕ)) → All (λ line. IsLineOf line (before ++ bytes_of_lines ls)) ls
 lines_of before [] = All-nil (λ line. IsLineOf line (before ++ []))
 lines_of before (line ∷ ls) =
@@ -135,7 +135,7 @@ clear_more ms xs i d text end r inside within before one e (k, less, is) =
         let last : get_or xs i d ≡ e = same_default xs i d e inside ∙ ap (λ k. get_or xs k e) (sym same) ∙ here in
         subst (λ (e : ℕ). ClearTo ms e text r) last (clear_whole ms (get_or xs i d) text end r within one)
 
--- what a matcher tells of lines
+-- what a matcher says of lines
 pub none_found : (ms : List WrittenExpression) (e : ℕ) (m : WrittenExpression) (text : List ℕ) (r : Option ℕ) (end : ℕ) → slice_get ms e ≡ Some m → NoMatchBefore (expression_tree m) text r → ((k : ℕ) → k < end → IsBefore k r) → ClearTo ms e text end
 none_found ms e m text r end is none low = λ before line behind parts less.
     ap (λ o. option_map_or (λ e. is_some (leftmost_longest (expression_tree e) line 0)) o false) is ∙ not_found (is_some (leftmost_longest (expression_tree m) line 0)) (λ yes. none before line (10 ∷ behind) parts (low (length before + length line) less) ((some_found-iff (expression_tree m) line 0 (omega arith)).0 yes))

@@ -121,7 +121,7 @@ straight c active None second negate applies h = ap (λ b. Some (as_selection (r
 straight c active (Some (Line n)) None negate applies h = ap (λ b. Some (as_selection (record { yes = b; end = false; active = active }) c.used)) (same_Some _ _ h)
 straight c active (Some first) second negate applies h = cc
 
--- what the line number alone tells
+-- what the line number alone decides
 pub selects_by_number : (c : CurrentLine) (a active : Bool) (command : Command) (applies : Bool) (number : ℕ) (used : Option ℕ) → a ≡ active → number ≡ c.number → used ≡ c.used →
     Some applies ≡ yes_by_number command.first command.second command.negate number → selects c active command ≡ Some (as_selection (record { yes = applies; end = false; active = a }) used)
 unfolding selects

@@ -44,7 +44,7 @@ first_done k b n bs h =
     take-to_sink k b (take (suc b) bs) ∙ ap (to_sink k) (take-take b (suc b) bs (omega arith) ∙ sym (take-take b n bs (omega arith)))
     ∙ sym (take-to_sink k b (take n bs))
 
--- A text that tells its bytes is read on: this is what a read gives, and where it gives none the text is at its end.
+-- A text whose bytes are known is read on: this is what a read gives, and where it gives none the text is at its end.
 pub reads_on : (old now : Option (List ℕ)) (bytes buf : List ℕ) (o n : ℕ) → old ≡ Some bytes → Keeps old now → ReadsAt now o n buf → length buf ≡ n → o ≤ length bytes →
     (buf ≡ take n (drop o bytes)) × (o + n ≤ length bytes)
 reads_on None now bytes buf o n told keeps read len le = cc
@@ -69,7 +69,7 @@ put_on old mid new bytes piece o n r gained is put =
     let all : to_sink 0 (take o bytes) ++ to_sink 0 piece ≡ to_sink 0 (take (o + n) bytes) = rw (take-add, to_sink-append, is) refl in
     rw (← all) (Puts-append old mid new (to_sink 0 (take o bytes)) (to_sink 0 piece) r gained put)
 
--- While bytes are written, lengths are told as at the first of them.
+-- While bytes are written, lengths are as at the first of them.
 same_copied : (s now : State) (k : ℕ) (rest : List Task) (o : ℕ) → SameLengths s now → SameLengths (copied s k rest o) now
 same_copied s now k rest o h = record { pattern = h.pattern; hold = h.hold; queue = λ goes. cc; entries = h.entries }
 

@@ -1,5 +1,5 @@
 -- The queue is written, and a cycle, or the run, ends.
-use Rattle.std.proofs.Common.{◌≡◌, ℕ, ◌+◌, ◌<◌, ◌≤◌, false, cond, List, [], ◌∷◌, ◌++◌, length, length-append, Option, Result, Ok, Err, refl, ap, ◌∙◌, arith}
+use Rattle.std.proofs.Common.{◌≡◌, ℕ, ◌+◌, ◌<◌, ◌≤◌, false, cond, List, [], ◌∷◌, ◌++◌, length, length-append, Option, Result, Ok, Err, refl, ap, subst, ◌∙◌, arith}
 use Rattle.std.specs.Prelude.{OnOk, OnErr, slice_get}
 use Rattle.std.proofs.lemmas.Option.{slice_get_past}
 use Rattle.sedspace.specs.Spaces.{Entries}
@@ -10,7 +10,7 @@ use Rattle.sedengine.specs.Ends.{WithinLimits}
 use Rattle.sedengine.specs.Held.{SameLengths}
 use Rattle.sedengine.specs.Meters.{Sent, SinkView}
 use Rattle.sedengine.specs.Calls.{Puts, WritesAll}
-use Rattle.sedengine.specs.Run.{RunState, at_lines, run_setting, starts_cycle}
+use Rattle.sedengine.specs.Run.{RunState, SameRun, at_lines, run_setting, starts_cycle}
 use Rattle.sedengine.specs.Steps.{MovesTo, at_end, Moves, MakesMove, costs, weight}
 use Rattle.sedengine.specs.Queueing.{QueuesOrFull, flushed, queued_more, with_turns}
 use Rattle.sedengine.specs.Inside.{run_state_of, tasks_of, entries_of, entry_by, IsConsistent, CommandQueues}
@@ -183,6 +183,15 @@ weight_ended e e' next_step limits later tasks =
     let same = ap (λ (l : Limits). l.turns) limits in
     omega arith
 
+-- the run ends, after what is done last
+pub falls_ended : (e e' : RunState) (r : Result Unit Ended) → e.state.tasks ≡ print_pattern ∷ flush ∷ [] → e'.limits ≡ e.limits → e.state.turns ≤ e'.state.turns → e'.state.tasks ≡ [] → OnOk r (weight e' < weight e)
+falls_ended e e' (Ok u) last limits later tasks =
+    let was : costs e.state.tasks ≡ 2 = ap costs last in
+    let now : costs e'.state.tasks ≡ 0 = ap costs tasks in
+    let same = ap (λ (l : Limits). l.turns) limits in
+    omega arith
+falls_ended e e' (Err end) last limits later tasks = tt
+
 -- the engine goes on at this place
 pub falls_going : (a : Inside) (e : RunState) (next_step : NextStep) → run_state_of a ≡ e → weight (run_state_of (record a { next_step = next_step })) ≤ weight e + 8
 falls_going a e next_step seen = rw (← seen) (weight_ended (run_state_of a) (run_state_of (record a { next_step = next_step })) next_step refl (omega arith) refl)
@@ -195,6 +204,22 @@ queues_seen a e k seen h = rw (← seen) at h
 pub writes_seen : {O : Type 0} {tally : O → SinkView} {count : O → ℕ} {o o' : O} {r : Result Unit Ended} (a : Inside) (e : RunState) (f : RunState → List (ℕ × ℕ)) → run_state_of a ≡ e → WritesAll tally count o o' (f (run_state_of a)) r → WritesAll tally count o o' (f e) r
 writes_seen a e f seen h = rw (← seen) h
 
--- an end that came while the queue was written is told of the engine, whatever it was to do next
+-- The queue was written, or the end came before: neither turns the tasks or the run.
+pub tasks_kept : (e e' : RunState) (r : Result Unit Ended) → OnOk r (e' ≡ flushed e e'.state.turns) → OnErr r (e' ≡ with_turns e e'.state.turns) → e'.state.tasks ≡ e.state.tasks
+tasks_kept e e' (Ok u) ok err = ap (λ (e : RunState). e.state.tasks) ok
+tasks_kept e e' (Err end) ok err = ap (λ (e : RunState). e.state.tasks) err
+
+pub run_kept : (e e' : RunState) (r : Result Unit Ended) → OnOk r (e' ≡ flushed e e'.state.turns) → OnErr r (e' ≡ with_turns e e'.state.turns) → SameRun e e'
+run_kept e e' (Ok u) ok err = record { script = ap (λ (e : RunState). e.script) ok; limits = ap (λ (e : RunState). e.limits) ok }
+run_kept e e' (Err end) ok err = record { script = ap (λ (e : RunState). e.script) err; limits = ap (λ (e : RunState). e.limits) err }
+
+-- These tasks were done by an engine that had its next place already.
+pub placed_ended : (a : Inside) (e e' : RunState) (next_step : NextStep) (files : ℕ → List ℕ) (ls : List (List ℕ)) (ts : List Task) (sinks sinks' : SinkView) (r : Result Unit Ended) → run_state_of a ≡ e → e'.state.tasks ≡ tasks_of next_step →
+    Moves a.limits (run_setting (run_state_of a) files) (then_do ts (at_lines (run_state_of a) ls)) (then_do (tasks_of next_step) (at_lines e' ls)) sinks sinks' r →
+    Moves e.limits (run_setting e files) (then_do ts (at_lines e ls)) (at_lines e' ls) sinks sinks' r
+placed_ended a e e' next_step files ls ts sinks sinks' r seen at h =
+    rw (← seen) (subst (λ (now : State). Moves a.limits (run_setting (run_state_of a) files) (then_do ts (at_lines (run_state_of a) ls)) now sinks sinks' r) (then_same (at_lines e' ls) (tasks_of next_step) at) h)
+
+-- an end that came while the queue was written is one of the engine, whatever it was to do next
 pub stopped_anyway : (l : Limits) (g : Setting) (s : State) (e : RunState) (ls : List (List ℕ)) (rest : List Task) (sinks sinks' : SinkView) (end : Ended) → Moves l g s (then_do rest (at_lines e ls)) sinks sinks' (Err end) → Moves l g s (at_lines e ls) sinks sinks' (Err end)
 stopped_anyway l g s e ls rest sinks sinks' end h = Stopped-as l g s (then_do rest (at_lines e ls)) (at_lines e ls) sinks sinks' end refl refl refl refl h

@@ -13,7 +13,7 @@ use Rattle.sedengine.specs.declared.ends.Ended.{Ended}
 use Rattle.sedengine.proofs.Sending.{Sent-append, Sent-none}
 use Rattle.sedengine.proofs.Moves.{chain, ran_once, ran_quietly, stopped_writing, Moves-then, move_at, after-add, written-add, Within-add, InOneCycle-add, InOneCycle-more, after_none, written_none, within_none, one_single}
 
--- texts that kept their bytes tell the same files
+-- texts that kept their bytes give the same files
 pub tells_on : (old new : ℕ → Option (List ℕ)) (files : ℕ → List ℕ) → TellsFiles old files → ((k : ℕ) → Keeps (old k) (new k)) → TellsFiles new files
 tells_on old new files told keeps = λ k. kept (old k) (new k) (files k) (told k) (keeps k)
   where
@@ -26,7 +26,7 @@ tells_on old new files told keeps = λ k. kept (old k) (new k) (files k) (told k
 abbrev pub at_entries : State → List Entry → List Task → ℕ → State
 at_entries s later tasks turns = record s { queue = later; tasks = tasks; turns = turns }
 
--- what is left of the queue fits, and is told by a state that tells the whole
+-- what is left of the queue fits, and a state that has the lengths of the whole has its lengths too
 pub fits_later : (l : Limits) (s : State) (later : List Entry) (tasks : List Task) (turns : ℕ) → WithinLimits l s → length later ≤ length s.queue → turns ≤ l.turns → WithinLimits l (at_entries s later tasks turns)
 fits_later l s later tasks turns f le most = record { pattern = f.pattern; hold = f.hold; queue = omega (arith, f.queue); turns = most }
 
@@ -55,7 +55,7 @@ module _ (l : Limits) (g : Setting) (s : State) (rest : List Task) (entry : Entr
       stopped_writing l g s next now old new (line_to 0 bytes) end f (next_entry ∙ ap (λ e. flushes s rest (e ∷ later)) is) (fits_later l s later (flush ∷ rest) s.turns f shorter f.turns)
       (same_later s now later rest s.turns same shorter) lines put
 
-  -- a file is written, by a call from the state in which it stands first
+  -- a file is written, by a call from the state in which it comes first
   pub file_written : (k : ℕ) (now : State) (old new : SinkView) (turns : ℕ) (r : Result Unit Ended) → entry ≡ file_entry k → SameLengths s now →
       (WithinLimits l (at_entries s later (copy k 0 ∷ flush ∷ rest) s.turns) → SameLengths (at_entries s later (copy k 0 ∷ flush ∷ rest) s.turns) now →
       MovesTo l g (at_entries s later (copy k 0 ∷ flush ∷ rest) s.turns) (at_entries s later (flush ∷ rest) turns) now old new r) →

@@ -53,7 +53,7 @@ module _ {O T : Type 0} {tally : O → SinkView} {count : O → ℕ} {text : T �
   pub leaves_quiet : {e e' : RunState} {o : O} {t : T} {r : Result Unit Ended} → NamesNone r → SameRun e e' → LeavesGiven tally count text e e' o o t t r
   leaves_quiet h same = record { devices = record { output = Delivers-quiet _ _ _ _ h.output; input = h.input }; same = same; kept = λ j. Keeps-refl _ }
 
-  -- one that ends the run where it stands
+  -- one that ends the run where it is
   pub leaves_stopped : {e : RunState} {o : O} {t : T} {end : Ended} → NamesNone {T = Unit {0}} (Err end) → LeavesGiven tally count text e e o o t t (Err end)
   leaves_stopped h = leaves_quiet h (record { script = refl; limits = refl })
 
@@ -69,7 +69,7 @@ module _ {O T : Type 0} {tally : O → SinkView} {count : O → ℕ} {text : T �
   pub leaves_after : {e e' : RunState} {o1 o2 o3 : O} {t t' : T} {r : Result Unit Ended} → Delivers tally count o1 o2 (Ok tt) → LeavesGiven tally count text e e' o2 o3 t t' r → LeavesGiven tally count text e e' o1 o3 t t' r
   leaves_after first h = record { devices = record { output = Delivers-then _ _ _ _ _ _ first h.devices.output; input = h.devices.input }; same = h.same; kept = h.kept }
 
--- a command that goes on where it stands
+-- a command that goes on where it is
 pub falls_none : {n : ℕ} → n ≤ n + 8
 falls_none = omega arith
 

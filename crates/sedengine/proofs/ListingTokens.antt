@@ -1,4 +1,4 @@
--- A listing tells which text it lists.
+-- A listing determines the text that it lists.
 use Rattle.std.proofs.Common.{◌≡◌, ℕ, ◌+◌, ◌-◌, ◌*◌, ◌<◌, ◌/◌, ◌%◌, Bool, true, false, cond, nat_lt, nat_le, ◌==◌, ◌&&◌, if◌then◌else◌, List, [], ◌∷◌, ◌++◌, length, refl, sym, ap, subst, ◌∙◌, arith}
 use Rattle.std.proofs.lemmas.Bool.Decides.{nat_tests}
 use Rattle.std.specs.List.{All, AllByRecursion}
@@ -25,7 +25,7 @@ of_escape a rest =
     else if a == 110 then 10
     else of_digits a rest
 
--- what a listing begins with: an item, told by its byte, a fold or the end
+-- what a listing begins with: an item, given by its byte, a fold or the end
 abbrev token : List ℕ → ℕ
 token [] = 258
 token (a ∷ []) = 258
@@ -132,7 +132,7 @@ one_made false true column a b xs ys h k more e =
     let other : 256 ≡ a = sym (ap token e) ∙ made_reads false column a xs h in absurd (omega arith)
 one_made false false column a b xs ys h k more e = one_item (λ n. column + n) a b xs ys h k more e
 
--- the end is told from any item
+-- the end differs from any item and from a fold
 not_end : (fold : Bool) (b : ℕ) → b < 256 → 257 ≡ cond fold 256 b → ⊥
 not_end true b h e = omega (arith, e)
 not_end false b h e = omega (arith, e)

@@ -1,4 +1,4 @@
--- What a metered call of the machine tells of the engine.
+-- What a metered call of the machine says of the engine.
 use Rattle.std.proofs.Common.{◌≡◌, ℕ, suc, zero, ◌+◌, ◌<◌, ◌≤◌, min, List, [], ◌∷◌, length, get_or, Option, Some, None, Result, Ok, Err, refl, subst, sym, ap, ◌∙◌, arith}
 use Rattle.std.specs.Prelude.{IfSome, IsNone, OnOk}
 use Rattle.sedscript.specs.Program.{Program}

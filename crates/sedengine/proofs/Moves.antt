@@ -19,7 +19,7 @@ pub move_at : (g : Setting) (s : State) (ts : List Task) → s.tasks ≡ ts → 
 unfolding next_move
 move_at g s ts h = ap (first_task g s) h
 
--- a state tells its own lengths
+-- a state has its own lengths
 pub same_self : (s : State) → SameLengths s s
 same_self s = record { pattern = refl; hold = refl; queue = λ goes. refl; entries = omega arith }
 
@@ -210,7 +210,7 @@ stopped_here l g s now sinks end f none cause same lines =
       lines = ap (λ (x : State). x.lines) (after_none g s) ∙ lines;
     }
 
--- what is told of a state is told of one with the same spaces and the same queue
+-- what is said of a state's lengths holds for one with the same spaces and the same queue
 same_as : (s m now : State) → m.pattern ≡ now.pattern → m.hold ≡ now.hold → m.queue ≡ now.queue → SameLengths s m → SameLengths s now
 same_as s m now p h q w =
     let entries = w.entries in

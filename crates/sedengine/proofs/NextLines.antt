@@ -71,7 +71,7 @@ looked_then {R} remaining a b c ls l g s e' sinks sinks' (Err end) taken h = rec
 abbrev pub with_pattern : RunState → List ℕ → RunState
 with_pattern e bytes = record e { state = record e.state { pattern = bytes } }
 
--- what a call that brings a line tells, without whether there was one
+-- what a call that brings a line answers, without whether there was one
 abbrev pub told : Result Got Ended → Result Unit Ended
 told (Ok got) = Ok tt
 told (Err end) = Err end
@@ -284,7 +284,7 @@ pub next_goes : (e e' : RunState) (files : ℕ → List ℕ) (ls : List (List �
     next_line (at_lines e ls) ≡ quietly (then_do (print_pattern ∷ flush ∷ empty_pattern ∷ fetch ∷ e.state.tasks) (at_lines e ls))
 next_goes e e' files ls last told is = rw (sym told ∙ is) refl
 
--- What is left of the tasks after the queue was written: F tells them by those of the engine.
+-- What is left of the tasks after the queue was written: F gives them from those of the engine.
 pub flushed_steps : {R : Type 0} (remaining : R → Option (List ℕ)) (o n : Stream R) (ls : List (List ℕ)) (files : ℕ → List ℕ) (F : List Task → List Task) (s : State) (e e1 e' : RunState) (turns : ℕ) (old mid new : SinkView) (r : Result Unit Ended) →
     e1 ≡ flushed e turns → starts_cycle (F e.state.tasks) ≡ false → s.lines ≡ ls → Ran e.limits (run_setting e files) s (then_do (F e.state.tasks) (at_lines e1 ls)) old mid →
     StepsFrom remaining o n ls e1.limits (run_setting e1 files) (then_do (F e1.state.tasks) (at_lines e1 ls)) e' mid new r → StepsFrom remaining o n ls e.limits (run_setting e files) s e' old new r

@@ -348,7 +348,7 @@ line_parts ahead start n less is =
 pub whole_through : (ahead : List ℕ) (start n : ℕ) → start + n < length ahead → get_or ahead (start + n) 0 ≡ 10 → AreWholeLines (take (start + n + 1) ahead)
 whole_through ahead start n less is = inr (take (start + n) ahead, take_more ahead (start + n) 0 less ∙ ap (λ b. take (start + n) ahead ++ b ∷ []) is)
 
--- it stands no earlier than what holds none
+-- it comes no earlier than what holds none
 pub newline_after : (ahead : List ℕ) (start n done : ℕ) → done ≤ length ahead → get_or ahead (start + n) 0 ≡ 10 → HasNoNewline (drop start (take done ahead)) → (start + n < done → ⊥)
 newline_after ahead start n done within is clear = λ less.
     let inside : n < length (drop start (take done ahead)) = omega (arith, less, length-drop start (take done ahead), length-take-le done ahead within) in
@@ -426,7 +426,7 @@ module _ {R : Type 0} (remaining : R → Option (List ℕ)) (from to : Stream R)
 
 -- a sink that took no more is no input that failed
 no_input : (end : Ended) → named_sink end ≡ Some 0 → (r : Result Unit Ended) → r ≡ Err end → r ≡ Err InputBroken → ⊥
-no_input end names r at is = let same : end ≡ InputBroken = cc in let wrong : None ≡ Some 0 = sym (ap named_sink same) ∙ names in cc
+no_input end names r at is = let same : end ≡ InputBroken = cc in let wrong : named_sink InputBroken ≡ Some 0 = sym (ap named_sink same) ∙ names in cc
 
 pub reads_broken : {R : Type 0} (remaining : R → Option (List ℕ)) (failures : R → ℕ) (reference : R → List GName) (from to : Stream R) (e e' : RunState) (done bytes : ℕ) (end : Ended) → BreaksOffBy from to e e' done bytes → named_sink end ≡ Some 0 → ReadsLines {T = Unit {0}} remaining failures reference from to (Err end)
 reads_broken {R} remaining failures reference from to e e' done bytes end off names =

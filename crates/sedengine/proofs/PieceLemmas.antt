@@ -39,7 +39,7 @@ literals_alone : (bytes : List ℕ) → PieceGroupsWithin 9 (map literal bytes +
 literals_alone [] = tt
 literals_alone (b ∷ bytes) = literals_alone bytes
 
--- a part that is no group of the match tells nothing of groups
+-- a part that is no group of the match names no group
 no_group : (p : ReplacementPart) (ps : List ReplacementPart) → ((k : ℕ) → p ≡ Group k → ⊥) →
     names_group (pieces_in (p ∷ ps)) ≡ names_group (pieces_in ps)
 no_group (Literal bytes) ps other = literals_have bytes.items (pieces_in ps)
@@ -96,7 +96,7 @@ put_next w m parts k p inside is =
     ap (λ (ps : List ReplacementPart). put_for w m (pieces_in ps)) (drop_next parts k p inside is)
     ∙ put_parts w m p (drop (k + 1) parts)
 
--- the groups of a match tell only where the replacement has one
+-- the groups of a match matter only where the replacement has one
 pub put_same : (w : List ℕ) (span : ℕ × ℕ) (g h : Groups) (ps : List Piece) → (names_group ps ≡ true → g ≡ h) →
     put_for w (with_groups span g) ps ≡ put_for w (with_groups span h) ps
 put_same w span g h [] same = refl

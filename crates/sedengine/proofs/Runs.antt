@@ -24,13 +24,13 @@ use Rattle.sedengine.proofs.Moves.{after-add, written-add, Within-add, Cause-add
 same_without : (s : State) (e : RunState) (ls : List (List ℕ)) → SameLengths s (at_lines e ls) → SameLengths s e.state
 same_without s e ls h = record { pattern = h.pattern; hold = h.hold; queue = h.queue; entries = h.entries }
 
--- the lengths don't tell the lines
+-- the lengths don't depend on the lines
 pub without_lines : (g : Setting) (s : State) (t : ℕ) (e : RunState) (ls : List (List ℕ)) (o : Option ℕ) → HoldsAt g s t (at_lines e ls) o → HoldsAt g s t e.state o
 without_lines g s t e ls None h = same_without _ e ls h
 without_lines g s t e ls (Some k) (inl h) = inl (same_without _ e ls h)
 without_lines g s t e ls (Some k) (inr h) = inr (same_without _ e ls h)
 
--- What the first t moves led to: `at` is where the lines stand, `from` where they stood.
+-- What the first t moves led to: `at` is where the lines are, `from` where they were.
 pub record Reached {R : Type 0} (remaining : R → Option (List ℕ)) (from at : Stream R) (l : Limits) (g : Setting) (s : State) (e : RunState) (old new : SinkView) : Type 0 where
   pub t : ℕ
   pub rest : List (List ℕ)

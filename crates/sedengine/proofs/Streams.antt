@@ -196,7 +196,7 @@ source_takes ahead ahead' (Some xs) (Some ys) n m (k, (taken, is, count)) (gone,
     let whole = ap length all in
     (taken, is, omega (arith, first, whole, length-append taken ys, length-append ahead xs, length-append gone (ahead' ++ ys), length-append ahead' ys))
 
--- no line is left where that is told
+-- no line is left where that is the answer
 pub last_told : (o : Option (List (List ℕ))) (ls : List (List ℕ)) (last : Bool) → o ≡ Some ls → TellsLast o last → last ≡ true → ls ≡ []
 last_told None ls last known told is = cc
 last_told (Some ms) ls last known told is =
@@ -219,7 +219,7 @@ some_told (Some ms) ls last known told is =
     none_or_any [] last told is = grind (arith, told)
     none_or_any (m ∷ ms) last told is = refl
 
--- a call that may read, whatever it told
+-- a call that may read, whatever it answered
 pub ReadsLines-told : {R T : Type 0} (remaining : R → Option (List ℕ)) (failures : R → ℕ) (reference : R → List GName) (a b : Stream R) (x : T) → ReadsLines remaining failures reference a b (Ok x) → ReadsLines {T = Unit} remaining failures reference a b (Ok tt)
 ReadsLines-told {R} {T} remaining failures reference a b x h = record { same_read_ahead = h.same_read_ahead; same_reference = h.same_reference; ahead = h.ahead; shrinks = h.shrinks; sound = h.sound; failed = h.failed; broken = λ is none. cc }
 
@@ -320,7 +320,7 @@ reads_on x r none h =
 abbrev pub faulted : (A : Type 0) → LineFault → Result A LineFault
 faulted A f = Err f
 
--- a line that is too long was told before where that is kept, and no source that failed tells it
+-- a line that is too long was reported before where that is kept, and no source that failed reports it
 pub kept_long : (A : Type 0) {f : LineFault} {o : Option LineFault} → (faulted A f ≡ faulted A TooLong → o ≡ Some TooLong) → f ≡ TooLong → o ≡ None → ⊥
 kept_long A kept long none = let some = kept (ap (faulted A) long) in cc
 

@@ -182,7 +182,7 @@ module _ (r r' : RunState) (ls : List (List ℕ)) (before : WithinLimits r.limit
   pub replaced_nothing : Makes r.limits o t (at_lines r ls) (at_lines r' ls) (Ok false) → MakesMove r.limits g o (at_lines r ls) (at_lines r' ls) old old (Ok tt)
   replaced_nothing is = λ s c first. ran_quietly r.limits g s (at_lines r' ls) old c.fits (first ∙ is) there
 
-  -- something was, and is written where the flag `p` stands
+  -- something was, and is written by the flags `p` and `w`
   pub replaced_some : (told : Result Unit Ended) → Makes r.limits o t (at_lines r ls) (at_lines r' ls) (Ok true) → Puts old new (written_by t r'.state.pattern) told →
       MakesMove r.limits g o (at_lines r ls) (at_lines r' ls) old new told
   replaced_some told is put = λ s c first. moves_writing r.limits g s (at_lines r' ls) old new (written_by t r'.state.pattern) told c.fits (first ∙ is) there c.lines put

@@ -67,7 +67,7 @@ pub longer : {n : ℕ} (ls : List (List ℕ)) → FirstIsLonger (Some ls) n → 
 longer [] h = absurd h
 longer (line ∷ rest) h = (line, rest, refl, h)
 
--- The fields a of an engine that stands before a cycle; `sinks` are what sinks hold, of which none gains anything.
+-- The fields a of an engine that is before a cycle; `sinks` are what sinks hold, of which none gains anything.
 module _ {R : Type 0} (remaining : R → Option (List ℕ)) (old new : Stream R) (a : Inside) (e : RunState) (seen : run_state_of a ≡ e) (i : IsConsistent a) (at : e.state.tasks ≡ begin ∷ [])
     (ls : List (List ℕ)) (known : lines_left remaining old ≡ Some ls) (files : ℕ → List ℕ) (sinks : SinkView) where
   -- the fields that a line leads to, and those where there is none
@@ -156,7 +156,7 @@ module _ {R : Type 0} (remaining : R → Option (List ℕ)) (old new : Stream R)
       subst Q seen (λ t. halts_here remaining old new a.limits (run_setting (run_state_of a) files) (at_lines (run_state_of a) ls) (run_state_of a) sinks InputBroken (fits_of a ls i) refl
       (ap (reads (run_setting (run_state_of a) files)) t) (record { pattern = refl; hold = refl; queue = λ _. refl; entries = omega arith }) (LosesPart-none _ _ _ (TakesAtMost-kept _ _ kept))) at
 
--- An engine with the fields a that stands before command k, or before the end of the script.
+-- An engine with the fields a that is before command k, or before the end of the script.
 module _ (a : Inside) (e : RunState) (seen : run_state_of a ≡ e) (i : IsConsistent a) (files : ℕ → List ℕ) (ls : List (List ℕ)) (k : ℕ) (at : e.state.tasks ≡ do_at k ∷ []) where
   -- a command with no turn left
   pub reach_spent : (sinks : SinkView) → k < length a.script.commands → a.turns ≡ a.limits.turns →

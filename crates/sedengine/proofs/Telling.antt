@@ -1,4 +1,4 @@
--- What telling the groups of the occurrences in a text takes together.
+-- What reporting the groups of the occurrences in a text takes together.
 use Rattle.std.proofs.Common.{◌≡◌, ℕ, zero, suc, ◌+◌, ◌-◌, ◌*◌, ◌≤◌, Option, Some, None, subst, arith, mul-le-mul_left}
 use Rattle.std.specs.Prelude.{IfSome}
 use Rattle.sedre.specs.Steps.{Takes}
@@ -32,7 +32,7 @@ told_paid m n s t (Some q) span lies told =
     ≤ place_cost m * places) parted paid in
     (told.0, omega (arith, told.1, all))
 
--- where none are told, no more is owed after the occurrence that comes next
+-- where none are reported, no more is owed after the occurrence that comes next
 pub untold_paid : (m n s : ℕ) (last : Option ℕ) (r : Option (ℕ × ℕ)) → IfSome r (LiesOn n last) →
     CostsWithin s s (owed_groups m n last) (owed_groups_after m n r)
 untold_paid m n s last None lies = (omega arith, omega arith)
@@ -60,7 +60,7 @@ owed_most m n (Some q) =
     let fewer : n - q ≤ n = omega arith in
     omega (arith, mul-le-mul_left (place_cost m) fewer, owed_in_all m n)
 
--- what telling the groups of all that is replaced takes
+-- what reporting the groups of all that is replaced takes
 pub all_took : (m n a b c : ℕ) (last : Option ℕ) (first : ℕ × ℕ) →
     CostsWithin a b (owed_groups m n last) (owed_groups_after m n (Some first)) → Takes b c (owed_groups m n (Some first.1)) →
     Takes a c (172 * m * m * (n + 1))

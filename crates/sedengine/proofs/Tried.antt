@@ -54,7 +54,7 @@ replaces_by ms e m w t limit made r inside is h =
     let P : Option WrittenExpression → Type 0 = λ o. ReplacesThese w t.replacement (to_replace t.number t.global (each_occurrence (λ from. option_and_then (λ e. search_for e w from) o) (length w))) limit made r in
     subst P (sym (slice_get_read ms (length ms) e m refl inside is)) h
 
--- the matcher of a number is the one that stands there
+-- the matcher of a number is the one that is there
 pub matcher_at : (ms : List WrittenExpression) (e : ℕ) (m : WrittenExpression) → e < length ms → m ≡ get_or ms e m → slice_get ms e ≡ Some m
 matcher_at ms e m inside is = slice_get_read ms (length ms) e m refl inside is
 

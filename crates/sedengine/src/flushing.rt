@@ -31,7 +31,7 @@ fn copy_file<O: MeteredSinks, T: Texts>(
     let mut offset: u64 = 0;
     'pieces: loop {
         let left = limits.turns() - *turns;
-        // At least one byte is asked for, which tells whether a turn is due.
+        // At least one byte is asked for, which shows whether a turn is due.
         let most = left.min(limits.space() as u64).max(1) as usize;
         let count = build.fill(texts, file, offset, most);
         if count == 0 {

@@ -124,13 +124,8 @@ impl ListingBuffer {
     {
         match byte {
             b'\\' => self.put_item(b"\\\\"),
-            7 => self.put_item(b"\\a"),
-            8 => self.put_item(b"\\b"),
-            12 => self.put_item(b"\\f"),
-            13 => self.put_item(b"\\r"),
-            9 => self.put_item(b"\\t"),
-            11 => self.put_item(b"\\v"),
-            10 => self.put_item(b"\\n"),
+            // From the alert to the carriage return.
+            7..=13 => self.put_item(&[b'\\', b"abtnvfr"[byte as usize - 7]]),
             32..=126 => self.put_item(&[byte]),
             _ => self.put_item(&[
                 b'\\',

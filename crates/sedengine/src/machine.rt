@@ -173,9 +173,9 @@ impl Machine {
         drop(hold);
         drop(build);
         drop(queue);
-        drop(scratch);
-        drop(seeking);
-        drop(matchers);
+        scratch.close();
+        seeking.close();
+        TableMatcher::close_all(matchers);
         drop(ranges);
         drop(idle);
     }

@@ -26,16 +26,13 @@ pub(crate) fn matchers_of(
     let mut steps = Steps::new();
     let mut matchers = Vec::with_capacity(alloc, count)?;
     for k in 0..count {
-        // The matchers are let go of by calls: in place they are proved field by field.
+        // The matchers are let go of by a call: in place they are proved field by field.
         let Ok(matcher) = TableMatcher::new(alloc, script.expr(k), room, &mut steps) else {
-            drop(matchers);
+            TableMatcher::close_all(matchers);
             return Err(AllocError);
         };
         room.bytes = room.bytes.saturating_sub(matcher.size_of_tables());
-        if let Err(refused) = matchers.push(matcher) {
-            drop(matchers);
-            return Err(refused.into());
-        }
+        matchers.push_reserved(matcher);
     }
     Ok(matchers)
 }

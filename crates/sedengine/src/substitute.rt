@@ -28,24 +28,24 @@ type GroupSpans = [Option<(usize, usize)>; 10];
 struct Replacing<'a> {
     substitution: &'a Substitution,
     text: &'a [u8],
-    // Whether the replacement has a group, so that groups are to be told.
+    // Whether the replacement has a group, so that groups are to be found.
     wanted: bool,
 }
 
-/// What is told of the occurrences of substitutions, one after another, and what telling it took.
+/// The groups of the last occurrence of substitutions, one after another, and the steps that occurrences took.
 // A machine keeps one, since making it for each line costs as much as a short search.
 #[derive(Drop)]
 pub(crate) struct Findings {
-    /// The groups of the last occurrence of which they were told, perhaps in an earlier text.
+    /// The groups of the last occurrence in which they were found, perhaps in an earlier text.
     groups: GroupSpans,
     /// The steps of the searches.
     steps: Steps,
-    /// The steps of telling groups.
+    /// The steps of finding groups.
     group_steps: Steps,
 }
 
 impl Findings {
-    /// Nothing was told yet.
+    /// Nothing was found yet.
     pub(crate) fn new() -> Self
         ensures { (result.steps ≡ 0) × (result.group_steps ≡ 0) }
     {
@@ -60,7 +60,7 @@ impl Findings {
 /// Writes into `build` the text with the occurrences that the substitution chooses replaced, and answers whether there are
 /// any.
 ///
-/// Its searches together take steps in proportion to the text. GroupSpans are told within each occurrence that is replaced; their
+/// Its searches together take steps in proportion to the text. Groups are found within each occurrence that is replaced; their
 /// steps, counted by themselves, are in proportion to the text together too.
 pub(crate) fn build_text(
     substitution: &Substitution,
@@ -154,7 +154,7 @@ fn needs_groups(parts: &[ReplacementPart]) -> bool
     false
 }
 
-/// The next occurrence, after the one that ended at `last`, if there was one. Its groups are told if they are `wanted`.
+/// The next occurrence, after the one that ended at `last`, if there was one. Its groups are found if they are `wanted`.
 // Inlined, since on a line with many occurrences the cost of the call itself matters.
 #[inline(always)]
 fn next_occurrence(

@@ -1,10 +1,11 @@
 //! The commands (XCU sed, "Editing Commands in sed"): `act` and the calls that it passes commands on to have a case for each.
-ghost use Rattle.std.specs.Prelude.{◌≡◌, ◌<◌, ◌≤◌, ◌+◌, ◌^◌, [], ◌∷◌, Ok, Err, Bool, List, true, false, length, slice_get};
+ghost use Rattle.std.specs.Prelude.{◌≡◌, ◌<◌, ◌≤◌, ◌+◌, ◌^◌, [], ◌∷◌, Ok, Err, Bool, List, ℕ, true, false, length, slice_get};
 ghost use Rattle.sedscript.specs.Script.{ActionWithin};
 ghost use Rattle.sedscript.specs.declared.types.Action.TheVariants.{Plain};
 ghost use Rattle.sedengine.specs.State.{do_at, flush, print_pattern};
 ghost use Rattle.sedengine.specs.Move.{acts, line_to, writes_text_at};
-ghost use Rattle.sedengine.specs.Ends.{is_next_line};
+ghost use Rattle.sedengine.specs.Ends.{WithinLimits, is_next_line};
+ghost use Rattle.sedengine.specs.Run.{at_lines};
 ghost use Rattle.sedengine.specs.Inside.{keeps_in_hold};
 ghost use Rattle.sedengine.specs.Passing.{NeedWithin, behind_by, need_of_action, passed_over};
 ghost use Rattle.sedengine.specs.Calls.{WritesAll};
@@ -183,13 +184,13 @@ impl Machine {
         texts: &mut T,
     ) -> Result<(), Ended>
         requires at { reaches self.old.state.tasks ≡ true }
+        requires limits { (ls : List (List ℕ)) → WithinLimits self.old.limits (at_lines self.old ls) }
         requires action { HasAction (slice_get self.old.script.commands k) (Plain simple) }
         requires here { takes_further_line (Plain simple) ≡ false }
         requires sink { 0 < O.count outputs.old }
         ensures { (writes_text : Bool) → ActsHere O.tally O.count T.text (λ g s. acts g s writes_text (Plain simple)) self.old self.new
             outputs.old outputs.new texts.old texts.new result }
     {
-        self.is_within_limits();
         match simple {
             Simple::AppendHold => self.act_append_hold(),
             Simple::CopyHold => {

@@ -1,8 +1,7 @@
 //! What is known of every machine: calls for proofs alone, which say a fact by their names and do nothing when they run.
 //!
 //! A fact that always holds of a type's fields is known where one of them is looked at, as these calls do.
-ghost use Rattle.std.specs.Prelude.{◌≡◌, ◌<◌, ◌≤◌, ◌^◌, [], ◌∷◌, List, ℕ, length};
-ghost use Rattle.sedengine.specs.State.{begin};
+ghost use Rattle.std.specs.Prelude.{◌≡◌, ◌<◌, ◌≤◌, ◌^◌, List, ℕ, length};
 ghost use Rattle.sedengine.specs.Ends.{WithinLimits};
 ghost use Rattle.sedengine.specs.Run.{at_lines};
 
@@ -16,15 +15,6 @@ impl Machine {
         ensures { (ls : List (List ℕ)) → WithinLimits self.now.limits (at_lines self.now ls) }
     {
         let _turns = self.turns;
-    }
-
-    /// For proofs: the pattern space is empty where a cycle is to begin with a line.
-    #[inline(always)]
-    pub(super) fn is_emptied(&self)
-        requires { self.now.state.tasks ≡ begin ∷ [] }
-        ensures { self.now.state.pattern ≡ [] }
-    {
-        let _next_step = self.next_step;
     }
 
     /// For proofs: there are no more lines than turns, and the turns stay below their limit, which fits their type.

@@ -111,7 +111,7 @@ impl Seekers {
         match room_to_search(alloc, script, &matchers, limits) {
             Ok(scratch) => Seekers::of(alloc, script, limits, matchers, scratch),
             Err(refused) => {
-                drop(matchers);
+                TableMatcher::close_all(matchers);
                 Err(refused)
             }
         }
@@ -137,8 +137,8 @@ impl Seekers {
                 seeking,
             }),
             Err(refused) => {
-                drop(matchers);
-                drop(scratch);
+                TableMatcher::close_all(matchers);
+                scratch.close();
                 Err(refused)
             }
         }

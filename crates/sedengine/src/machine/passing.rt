@@ -1,8 +1,10 @@
 //! Lines that no command touches are passed over, a block at a time.
-ghost use Rattle.std.specs.Prelude.{◌≡◌, ◌<◌, ◌≤◌, ◌+◌, ◌*◌, [], ◌∷◌, IfSome, IsTrue, ℕ, is_some, length, take, true};
+ghost use Rattle.std.specs.Prelude.{◌≡◌, ◌<◌, ◌≤◌, ◌+◌, ◌*◌, [], ◌∷◌, IfSome, IsTrue, List, ℕ, is_some, length, take, true};
 ghost use Rattle.sedscript.specs.Ranges.{IsOneOf};
 ghost use Rattle.sedspace.specs.Stream.{AreWholeLines};
 ghost use Rattle.sedengine.specs.State.{begin};
+ghost use Rattle.sedengine.specs.Ends.{WithinLimits};
+ghost use Rattle.sedengine.specs.Run.{at_lines};
 ghost use Rattle.sedengine.specs.Passing.{AllowsLines, BreaksOffBy, PassesLines, PassesLinesOver, WritesLines, counted_block, need_at};
 
 use super::Machine;
@@ -42,7 +44,7 @@ impl Machine {
         Some(most.min(turns / (idle.reached as u64 + 1)))
     }
 
-    /// The first of the lines ahead that no command touches, as far as is told at a look.
+    /// The first of the lines ahead that no command touches, as far as a look shows.
     fn idle_block(&self, ahead: &[u8]) -> Option<IdleLines>
         ensures { IfSome result (PassesLinesOver self.now ahead.now) }
     {
@@ -135,12 +137,12 @@ impl Machine {
         outputs: &mut O,
     ) -> Result<(), Ended>
         requires begins { self.old.state.tasks ≡ begin ∷ [] }
+        requires emptied { self.old.state.pattern ≡ [] }
+        requires limits { (ls : List (List ℕ)) → WithinLimits self.old.limits (at_lines self.old ls) }
         requires sink { 0 < O.count outputs.old }
         ensures { PassesLines R.remaining R.failures R.reference O.tally O.count self.old self.new
             lines.old lines.new outputs.old outputs.new result }
     {
-        self.is_within_limits();
-        self.is_emptied();
         let ahead = lines.ahead();
         let Some(block) = self.find_block(ahead) else {
             return Ok(());
@@ -162,6 +164,7 @@ impl Machine {
     #[inline(always)]
     fn may_pass(&mut self) -> bool
         ensures begins { IsTrue result → self.old.state.tasks ≡ begin ∷ [] }
+        ensures emptied { IsTrue result → self.old.state.pattern ≡ [] }
         ensures same { self.new ≡ self.old }
     {
         matches!(self.next_step, NextStep::Begin) && self.patience.is_due()

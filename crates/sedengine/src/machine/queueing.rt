@@ -77,9 +77,8 @@ impl Machine {
         ensures { EndsCycle O.tally O.count T.text next_step self.old self.new
             outputs.old outputs.new texts.old texts.new result }
     {
-        self.flush(outputs, texts)?;
         self.next_step = next_step;
-        Ok(())
+        self.flush(outputs, texts)
     }
 }
 

@@ -1,8 +1,10 @@
 //! The commands `s`, `t` and `y`: substitutions, what `t` sees of them, and tables (XCU sed, "Editing Commands in
 //! sed").
-ghost use Rattle.std.specs.Prelude.{◌≡◌, ◌<◌, [], ◌∷◌, false, true, length, map, slice_get, if◌then◌else◌};
+ghost use Rattle.std.specs.Prelude.{◌≡◌, ◌<◌, [], ◌∷◌, List, ℕ, false, true, length, map, slice_get, if◌then◌else◌};
 ghost use Rattle.sedengine.specs.State.{do_at};
 ghost use Rattle.sedengine.specs.Move.{in_table, substitutes};
+ghost use Rattle.sedengine.specs.Ends.{WithinLimits};
+ghost use Rattle.sedengine.specs.Run.{at_lines};
 ghost use Rattle.sedengine.specs.Calls.{WritesAll};
 ghost use Rattle.sedengine.specs.Steps.{reaches, ActsAlone};
 ghost use Rattle.sedengine.specs.SubstituteCalls.{ReplacesOccurrences, written_of};
@@ -24,12 +26,12 @@ impl Machine {
         outputs: &mut O,
     ) -> Result<(), Ended>
         requires at { reaches self.old.state.tasks ≡ true }
+        requires limits { (ls : List (List ℕ)) → WithinLimits self.old.limits (at_lines self.old ls) }
         requires number { k < length self.old.script.substitutions }
         requires sinks { length self.old.script.wfiles < O.count outputs.old }
         ensures { ActsAlone O.tally O.count (λ g s. substitutes g s (slice_get self.old.script.substitutions k))
             self.old self.new outputs.old outputs.new result }
     {
-        self.is_within_limits();
         if self.replace_occurrences(k)? {
             self.write_replaced(k, outputs)
         } else {

@@ -83,8 +83,7 @@ impl Machine {
         requires sink { 0 < O.count outputs.old }
         ensures { AdvancesHere O.tally O.count T.text self.old self.new outputs.old outputs.new texts.old texts.new result }
     {
-        self.print_and_flush(outputs, texts)?;
         self.next_step = NextStep::Ended;
-        Ok(())
+        self.print_and_flush(outputs, texts)
     }
 }

@@ -87,6 +87,7 @@ returns-in-Substitute g c =
 pub act_plain-requires : goal.act_plain-requires
 act_plain-requires g c = record {
   at = c.requires.at;
+  limits = c.is_within_limits.ensures;
   action = rw c.in-Plain.is at c.requires.action;
   here = rw c.in-Plain.is at c.requires.here;
   sink = some_sink c.requires.sinks;
@@ -121,6 +122,7 @@ invariant_of-self g c = placed c.self.inside c.self.inside.pattern (p.Do c.in-Br
 pub act_substitute-requires : goal.act_substitute-requires
 act_substitute-requires g c = record {
   at = c.requires.at;
+  limits = c.is_within_limits.ensures;
   number = rw c.in-Substitute.is at c.requires.within;
   sinks = c.requires.sinks;
 }

@@ -1,34 +1,29 @@
-use Rattle.std.proofs.Common.{◌≤◌, ◌∷◌, ◌∙◌, ap, sym, refl, subst}
-use Rattle.std.proofs.lemmas.Result.{err_from_is_err_and}
-use Rattle.sedengine.proofs.Leaving.{falls_more, falls_turned, same_flushed, same_turned}
-use Rattle.sedengine.proofs.Runs.{SameRun-then, same_seen}
-use Rattle.sedengine.specs.State.{State, flush}
-use Rattle.sedengine.specs.Move.{then_do}
-use Rattle.sedengine.specs.Run.{RunState, at_lines, run_setting}
-use Rattle.sedengine.specs.Steps.{Ran}
+use Rattle.std.proofs.Common.{◌≤◌, ◌∷◌, ◌∙◌, ap, refl, subst}
+use Rattle.sedengine.specs.State.{flush}
+use Rattle.sedengine.specs.Run.{RunState}
 use Rattle.sedengine.specs.Inside.{run_state_of, tasks_of}
-use Rattle.sedengine.proofs.Ending.{stopped_anyway, weight_ended}
+use Rattle.sedengine.proofs.Ending.{placed_ended, run_kept, tasks_kept, weight_ended}
+use Rattle.sedengine.proofs.Leaving.{leaves_seen}
+use Rattle.sedengine.proofs.Tasks.{placed}
 use Rattle.sedengine.proofs.machine.Machine.end_cycle.Goals as goal
 
 pub returns : goal.returns
-returns g c = record {
-  moves = λ files told ls.
-      let e = c.args.self.now in
-      let s : State = then_do (flush ∷ tasks_of c.args.next_step) (at_lines e ls) in
-      let Q : RunState → Type 0 = λ e'. Ran e.limits (run_setting e files) s (then_do (tasks_of c.args.next_step) (at_lines e' ls)) (g.O.MeteredSinks.tally c.args.outputs.now) (g.O.MeteredSinks.tally c.flush.new.outputs) in
-      subst Q (sym c.self.view_is) (c.in_ok-flush.ensures.moves files told ls (tasks_of c.args.next_step));
-  falls = let e = c.args.self.now in
-      let L : RunState → Type 0 = λ e'. e.state.turns ≤ e'.state.turns in
-      weight_ended e (run_state_of (record c.self.inside { next_step = c.args.next_step })) c.args.next_step (ap (λ (e : RunState). e.limits) (c.self.view_is ∙ c.in_ok-flush.ensures.ok)) (subst L (sym c.self.view_is) c.in_ok-flush.ensures.later) refl;
-  leaves = record { devices = c.in_ok-flush.ensures.devices; same = SameRun-then (same_flushed c.args.self.now c.flush.new.self _ c.in_ok-flush.ensures.ok) (same_seen c.self.inside c.flush.new.self _ c.self.view_is refl refl); kept = c.in_ok-flush.ensures.kept };
-}
-
-pub returns-in_err-flush : goal.returns-in_err-flush
-returns-in_err-flush g c =
-    let p = err_from_is_err_and c.from_residual.result c.from_residual.ensures.1 in
+returns g c =
+    let a = c.self.inside in
+    let e = c.args.self.now in
+    let e' = c.flush.new.self in
+    let next_step = c.args.next_step in
+    let e1 = run_state_of (record a { next_step = next_step }) in
+    let w = c.flush.ensures in
+    let at = tasks_kept e1 e' c.flush.result w.ok w.err in
+    let run = run_kept e1 e' c.flush.result w.ok w.err in
+    let L : RunState → Type 0 = λ e. e.state.turns ≤ e'.state.turns in
     record {
-      moves = λ files told ls.
-          rw (p.1, p.2) (stopped_anyway _ _ _ c.flush.new.self ls (tasks_of c.args.next_step) _ _ c.in_err-flush.field-0.0 (c.in_err-flush.ensures.moves files told ls (tasks_of c.args.next_step)));
-      falls = falls_more (falls_turned c.args.self.now c.flush.new.self _ c.in_err-flush.ensures.err c.in_err-flush.ensures.later);
-      leaves = rw (p.1, p.2) (record { devices = c.in_err-flush.ensures.devices; same = same_turned c.args.self.now c.flush.new.self _ c.in_err-flush.ensures.err; kept = c.in_err-flush.ensures.kept });
+      moves = λ files told ls. placed_ended a e e' next_step files ls (flush ∷ tasks_of next_step) _ _ c.flush.result c.self.view_is at (w.moves files told ls (tasks_of next_step));
+      falls = weight_ended e e' next_step (run.limits ∙ ap (λ (e : RunState). e.limits) c.self.view_is) (subst L c.self.view_is w.later) at;
+      leaves = leaves_seen a e e1 c.self.view_is refl refl (record { devices = w.devices; same = run; kept = w.kept });
     }
+
+pub invariant_of-self : goal.invariant_of-self
+invariant_of-self g c =
+    placed c.self.inside c.self.inside.pattern c.args.next_step c.self.invariant refl c.self.invariant.pattern (rw (← c.self.view_is) at c.requires.emptied)

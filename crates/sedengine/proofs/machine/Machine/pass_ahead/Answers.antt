@@ -9,7 +9,7 @@ use Rattle.sedengine.proofs.machine.Machine.pass_ahead.Goals as goal
 pub returns-in_default : goal.returns-in_default
 returns-in_default g c = record {
   steps = λ ls known files.
-      nothing_passed g.R.ByteSource.remaining c.args.lines.now ls c.args.self.now c.find_block.new.self _ _ known (c.is_within_limits.ensures ls) c.in_default.ensures.same;
+      nothing_passed g.R.ByteSource.remaining c.args.lines.now ls c.args.self.now c.find_block.new.self _ _ known (c.requires.limits ls) c.in_default.ensures.same;
   input = ReadsLines-none _ _ _ _;
   output = Delivers-none _ _ _;
   falls = rw c.in_default.ensures.same le_same;
@@ -20,7 +20,7 @@ pub returns-in-Ok : goal.returns-in-Ok
 returns-in-Ok g c = record {
   steps = λ ls known files.
       passes_seen g.R.ByteSource.remaining c.args.lines.now c.take_lines.new.self ls c.args.self.now c.find_block.new.self c.count_block.new.self files c.in-Some.block c.ahead-ahead.result.now _ _ known c.in-Some.ensures.same c.ahead-ahead.ensures.value c.in-Some.ensures.block
-      (c.is_within_limits.ensures ls) c.requires.begins c.is_emptied.ensures c.take_lines.ensures.taken c.count_block.ensures c.in-Ok.ensures.puts;
+      (c.requires.limits ls) c.requires.begins c.requires.emptied c.take_lines.ensures.taken c.count_block.ensures c.in-Ok.ensures.puts;
   input = reads_ahead g.R.ByteSource.remaining g.R.ByteSource.failures g.R.ByteSource.reference c.args.lines.now c.take_lines.new.self _ _ c.take_lines.ensures.taken (omega (arith, length-drop c.in-Some.block.bytes c.args.lines.now.ahead)) (names_ok {x = tt {0}}).input;
   output = c.in-Ok.ensures.devices;
   falls = counted_falls c.args.self.now c.find_block.new.self c.count_block.new.self c.in-Some.block c.count_block.ensures c.in-Some.ensures.same;
@@ -31,7 +31,7 @@ pub returns-in-Err : goal.returns-in-Err
 returns-in-Err g c = record {
   steps = λ ls known files.
       breaks_seen g.R.ByteSource.remaining c.args.lines.now c.break_off.new.lines ls c.args.self.now c.find_block.new.self c.break_off.new.self files c.in-Some.block c.ahead-ahead.result.now c.in-Err.cut _ _ known c.in-Some.ensures.same c.ahead-ahead.ensures.value c.in-Some.ensures.block
-      (c.is_within_limits.ensures ls) c.requires.begins c.is_emptied.ensures c.break_off.ensures c.in-Err.ensures.puts;
+      (c.requires.limits ls) c.requires.begins c.requires.emptied c.break_off.ensures c.in-Err.ensures.puts;
   input = reads_broken g.R.ByteSource.remaining g.R.ByteSource.failures g.R.ByteSource.reference c.args.lines.now c.break_off.new.lines c.find_block.new.self c.break_off.new.self c.in-Err.cut.done c.in-Some.block.bytes c.in-Err.cut.end c.break_off.ensures c.in-Err.ensures.puts.1.1;
   output = c.in-Err.ensures.devices;
   falls = tt;

@@ -19,4 +19,9 @@ returns g c = record {
 }
 
 pub pass_ahead-requires : goal.pass_ahead-requires
-pass_ahead-requires g c = record { begins = rw c.may_pass.ensures.same (c.may_pass.ensures.begins c.if-may_pass.true); sink = c.requires }
+pass_ahead-requires g c = record {
+  begins = rw c.may_pass.ensures.same (c.may_pass.ensures.begins c.if-may_pass.true);
+  emptied = rw c.may_pass.ensures.same (c.may_pass.ensures.emptied c.if-may_pass.true);
+  limits = rw c.may_pass.ensures.same c.is_within_limits.ensures;
+  sink = c.requires;
+}

@@ -35,6 +35,6 @@ returns-in_err-print_by_default g c =
       ok = rw p.1 tt;
       err = rw p.1 refl;
       later = le_same;
-      devices = rw (p.1, p.2) (writes_alone c.in_err-print_by_default.ensures);
+      devices = rw (p.1, p.2) (writes_alone {r = Err c.in_err-print_by_default.field-0.0} c.in_err-print_by_default.ensures);
       kept = λ j. Keeps-refl _;
     }
