@@ -1,4 +1,4 @@
--- From what a call came to to what it tells.
+-- From what a call came to to what it reports.
 use Rattle.std.proofs.Common.{◌≡◌, ℕ, List, pos, take}
 use Rattle.sededit.proofs.EditLemmas.{BeginsOutput-at}
 use Rattle.csed.specs.declared.asked.SedLimits.{SedLimits}

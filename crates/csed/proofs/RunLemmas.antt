@@ -99,7 +99,7 @@ module _ (room : ℕ) (held held' : Option (List ℕ)) (bytes : List ℕ) (befor
         full = full_by l.output end out is sent;
       }
 
--- what a run comes to whose bytes stand at the front of the output
+-- what a run comes to whose bytes are at the front of the output
 pub Runs-to : (l : Limits) (p : Program) (input output bytes : List ℕ) (end : Ended) (n : ℕ) → take n output ≡ bytes →
     (end ≡ Done → IsOutput (setting_of p no_files) (start_over p input) (to_sink 0 bytes)) →
     (end ≢ Done → RunStops (record l { output = Some (length output) }) (setting_of p no_files) (start_over p input) (length output) bytes end) →

@@ -98,6 +98,8 @@ pub(crate) fn run(
 {
     let room = output.len();
     let Ok(mut standard) = StandardOutput::with_room(alloc, room) else {
+        // by a call: where it goes out of scope, it is proved field by field
+        program.close();
         return CallOutcome::NoMemory;
     };
     let mut source = LentBytes::new(input);

@@ -32,31 +32,38 @@ pub(crate) fn program_limits() -> Limits
 /// directly. What is gathered is written out before a read that may wait, and before the status is given; a terminal gets
 /// each line as it is written. Where that fails, as on a full disk, a closed pipe or a closed standard output, the status
 /// is 4 and the message `sed: F7 OutputBroken 0`, with the sink's number; a run that writes nothing doesn't notice. After
-/// another end than the ordinary one its own message stands alone. A closed standard input and a directory in a file's
+/// another end than the ordinary one its own message is the only one. A closed standard input and a directory in a file's
 /// place are `sed: F6 InputBroken`.
 pub(crate) fn run(rt: &HostRuntime) -> u8
     ensures { (result ≡ 0) ⊎ ((result ≡ 1) ⊎ ((result ≡ 2) ⊎ (result ≡ 4))) }
 {
     let _closed = placeholders(rt);
+    run_process(rt)
+}
+
+/// Runs the program over the words of the process.
+fn run_process(rt: &HostRuntime) -> u8
+    ensures { (result ≡ 0) ⊎ ((result ≡ 1) ⊎ ((result ≡ 2) ⊎ (result ≡ 4))) }
+{
     let Ok(mut errors) = Messages::new(rt.alloc(), rt.stderr()) else {
-        let _ = say_no_memory(&mut rt.stderr());
-        return REFUSED;
+        return no_memory(&mut rt.stderr());
     };
     match words(rt) {
         Ok(words) => run_words(rt, words.as_slice(), &mut errors),
-        Err(error) => {
-            let _ = match error.kind() {
-                ErrorKind::OutOfMemory => say_no_memory(&mut errors),
-                _ => writeln!(errors, "sed: a word of the command line is not UTF-8"),
-            };
+        Err(error) if error.kind() == ErrorKind::OutOfMemory => no_memory(&mut errors),
+        Err(_) => {
+            let _ = writeln!(errors, "sed: a word of the command line is not UTF-8");
             REFUSED
         }
     }
 }
 
-/// Says that a request for memory was refused.
-fn say_no_memory<E: Write>(errors: &mut E) -> io::Result<()> {
-    writeln!(errors, "sed: no memory")
+/// Says that a request for memory was refused, and gives the status of that.
+fn no_memory<E: Write>(errors: &mut E) -> u8
+    ensures { result ≡ 1 }
+{
+    let _ = writeln!(errors, "sed: no memory");
+    REFUSED
 }
 
 /// The words after the program's name.
@@ -71,16 +78,13 @@ fn run_words<E: Write>(rt: &HostRuntime, words: &[String], errors: &mut E) -> u8
         IsCommandLine (map string_bytes words.now) ⊎ AsksHelp (map string_bytes words.now) }
 {
     let Ok(devices) = SinkDevices::new(rt, rt.stdout()) else {
-        let _ = say_no_memory(errors);
-        return REFUSED;
+        return no_memory(errors);
     };
     let Ok(mut sinks) = FileSinks::new(rt, &devices) else {
-        let _ = say_no_memory(errors);
-        return REFUSED;
+        return no_memory(errors);
     };
     let Ok(mut inputs) = FileInputs::new(rt, &devices) else {
-        let _ = say_no_memory(errors);
-        return REFUSED;
+        return no_memory(errors);
     };
     let mut names = FileNames::new(rt, &devices);
     command(

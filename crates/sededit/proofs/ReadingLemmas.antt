@@ -6,7 +6,7 @@ use Rattle.sedfiles.specs.Files.{FilesAhead, KeepsFiles, OnlyReadsScripts, Whole
 use Rattle.sededit.specs.Types.{File, Part, Script}
 use Rattle.sededit.specs.Program.{MakesText}
 
--- files that tell the same make the same text
+-- files that give the same make the same text
 pub MakesText-same : (f g : WholeFiles) (before : List ℕ) (parts : List Part) (whole : List ℕ) → ((name : List ℕ) → g name ≡ f name) →
     MakesText g before parts whole → MakesText f before parts whole
 MakesText-same f g before [] whole same h = h

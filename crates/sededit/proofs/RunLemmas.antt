@@ -21,7 +21,7 @@ use Rattle.sedfiles.proofs.JoinLemmas.{all_joined}
 abbrev Writes : (Setting → State → List (ℕ × ℕ) → Type 0) → Run → (old new : ℕ → Option (List ℕ)) → Type 0
 Writes P run old new = WhereTold run (λ g s. (out : List (ℕ × ℕ)) × Gained old new out × P g s out)
 
--- what sinks gained stands where they hold the same afterwards
+-- what sinks gained stays so where they hold the same afterwards
 pub Gained-same : (old mid new : ℕ → Option (List ℕ)) (out : List (ℕ × ℕ)) → ((k : ℕ) → new k ≡ mid k) → Gained old mid out → Gained old new out
 Gained-same old mid new out same h = record { each = λ k. rw (same k) (h.each k) }
 
@@ -137,7 +137,7 @@ pub Ran-as : (l : Limits) (p : Program) (texts c0 c1 : ℕ → Option (List ℕ)
     HasRun l (record { refusals = r0'; reads = i0'; contents = c0; failures = n0 }) (record { refusals = r1'; reads = i1'; contents = c1; failures = n1 }) rest (record { script = p; input = y; texts = texts }) status
 Ran-as l p texts c0 c1 n0 n1 rest status x y r0 r1 i0 i1 r0' r1' i0' i1' input refused refused' same same' h = rw (input, refused, refused', same, same') h
 
--- a run over what was made ready for it, said of how things stood before
+-- a run over what was made ready for it, said of how things were before
 pub record Ready (files0 files1 : Option (List (Option (List ℕ)))) (texts0 texts1 sinks0 sinks1 : ℕ → Option (List ℕ)) : Type 0 where
   pub kept : KeepsFiles files0 files1
   pub same_texts : (k : ℕ) → texts1 k ≡ texts0 k
