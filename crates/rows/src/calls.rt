@@ -1,4 +1,4 @@
-//! Calls of the program over files in memory: what they write, and their status. The head of the table tells its fields.
+//! Calls of the program over files in memory: what they write, and their status. The head of the table names its fields.
 //!
 //! Each row runs with reads of any length and of 1, 2 and 3 bytes, with writes of any length and of one byte, and with 1
 //! and 65,536 bytes read ahead; where a read or a write fails, as the program reads and writes. A flush is a write too. A
@@ -8,9 +8,9 @@ ghost use Rattle.std.specs.Prelude.{◌≡◌, ◌<◌, [], IfSome};
 
 use crate::devices::Behaviour;
 use crate::job::limits_of;
-use crate::options::Options;
-use crate::report::{Differences, NO_MEMORY};
-use crate::table::SheetRow;
+use crate::options::{Options, name_and_value};
+use crate::report::{NO_MEMORY, Report};
+use crate::table::{SheetRow, add_copy};
 use sededit::{MemoryFile, MemoryInputs, MemoryNames, MemorySinks, command};
 use sedengine::Limits;
 use sedspace::Outputs;
@@ -30,41 +30,43 @@ struct EditDevices {
 const READS: [usize; 4] = [usize::MAX, 1, 2, 3];
 
 /// Runs a row, to the first difference.
-pub(crate) fn run(row: &SheetRow, report: &mut Differences) {
+pub(crate) fn run(row: &SheetRow, report: &mut Report) {
     let options = row.options(4);
     let way = Behaviour::of(options);
     if !options.has(b"fails") && !options.has(b"refuses") {
+        let mut piecemeal = way;
+        piecemeal.write = 1;
         for read in READS {
-            run_read(row, Behaviour { read, ..way }, report);
+            piecemeal.read = read;
+            piecemeal.look = 1;
+            run_way(row, piecemeal, report);
+            piecemeal.look = way.look;
+            run_way(row, piecemeal, report);
         }
     }
     run_way(row, way, report);
 }
 
-/// Runs it with writes of one byte, and one byte ahead or as many as the program.
-fn run_read(row: &SheetRow, way: Behaviour, report: &mut Differences) {
-    let way = Behaviour { write: 1, ..way };
-    run_way(row, Behaviour { look: 1, ..way }, report);
-    run_way(row, way, report);
+/// Runs it so, where no difference was found before.
+fn run_way(row: &SheetRow, way: Behaviour, report: &mut Report) {
+    if report.is_empty() {
+        match limits_of(row.options(4), way.look) {
+            Ok(limits) => run_limited(row, way, limits, report),
+            Err(message) => report.tell(message),
+        }
+        way.note(report);
+    }
 }
 
-/// Runs it so, where nothing was told before.
-fn run_way(row: &SheetRow, way: Behaviour, report: &mut Differences) {
-    if !report.is_empty() {
-        return;
+/// Runs it so within these limits.
+fn run_limited(row: &SheetRow, way: Behaviour, limits: Limits, report: &mut Report) {
+    let Some(words) = words_of(row.alloc, row.field(0)) else {
+        return report.tell("a word is no text");
+    };
+    match devices_of(row, way) {
+        Some(mut devices) => run_words(row, words.as_slice(), limits, &mut devices, report),
+        None => report.tell(NO_MEMORY),
     }
-    match (
-        limits_of(row.options(4), way.look),
-        words_of(row.alloc, row.field(0)),
-    ) {
-        (Ok(limits), Some(words)) => match devices_of(row, way) {
-            Some(mut devices) => run_words(row, words.as_slice(), limits, &mut devices, report),
-            None => report.tell(NO_MEMORY),
-        },
-        (Err(message), _) => report.tell(message),
-        (_, None) => report.tell("a word is no text"),
-    }
-    way.note(report);
 }
 
 /// Calls the program with these words over these devices.
@@ -73,7 +75,7 @@ fn run_words(
     words: &[String],
     limits: Limits,
     devices: &mut EditDevices,
-    report: &mut Differences,
+    report: &mut Report,
 )
     requires created { devices.old.sinks.created ≡ 0 }
     requires named { devices.old.names.named ≡ [] }
@@ -117,12 +119,18 @@ fn devices_of(row: &SheetRow, way: Behaviour) -> Option<EditDevices>
     ensures created { IfSome result (λ d. d.sinks.created ≡ 0) }
     ensures named { IfSome result (λ d. d.names.named ≡ []) }
 {
-    Some(EditDevices {
-        inputs: inputs_of(row, way)?,
-        sinks: sinks_of(row, way)?,
-        names: MemoryNames::new(row.alloc, files_of(row)?),
-        errors: Vec::new(row.alloc),
-    })
+    if let Some(files) = files_of(row)
+        && let Some(inputs) = inputs_of(row, way)
+        && let Some(sinks) = sinks_of(row, way)
+    {
+        return Some(EditDevices {
+            inputs,
+            sinks,
+            names: MemoryNames::new(row.alloc, files),
+            errors: Vec::new(row.alloc),
+        });
+    }
+    None
 }
 
 /// The inputs.
@@ -136,25 +144,37 @@ fn inputs_of(row: &SheetRow, way: Behaviour) -> Option<MemoryInputs> {
 
 /// The files of the options `f:NAME=TEXT`.
 fn files_of(row: &SheetRow) -> Option<Vec<MemoryFile>> {
-    let options = row.options(4);
     let mut files = Vec::new(row.alloc);
-    for k in 0..options.files(b"f:") {
-        let (name, text) = options.file(b"f:", k)?;
-        let text = text.to_vec(row.alloc).ok()?;
-        let name = String::from_str(row.alloc, str::from_utf8(name).ok()?).ok()?;
-        files.push(MemoryFile::new(name, text)).ok()?;
+    for option in row.options(4).written {
+        if let Some(file) = option.as_slice().strip_prefix(b"f:") {
+            let (name, text) = name_and_value(file);
+            files.push(file_of(row.alloc, name, text)?).ok()?;
+        }
     }
     Some(files)
 }
 
-/// The sinks. None where no sink of that number can be told to fail, and for want of memory.
+/// A file of this name and text.
+fn file_of(alloc: Global, name: &[u8], text: &[u8]) -> Option<MemoryFile> {
+    if let Ok(name) = str::from_utf8(name)
+        && let Ok(name) = String::from_str(alloc, name)
+        && let Ok(text) = text.to_vec(alloc)
+    {
+        return Some(MemoryFile::new(name, text));
+    }
+    None
+}
+
+/// The sinks. None where no sink of that number can be made to fail, and for want of memory.
 fn sinks_of(row: &SheetRow, way: Behaviour) -> Option<MemorySinks>
     ensures { IfSome result (λ s. s.created ≡ 0) }
 {
     let names = names_of(row)?;
     let count = names.len();
     let room = row.options(4).number_or(b"room", 4096);
-    let mut sinks = MemorySinks::with_room(row.alloc, names, room).ok()?;
+    let Ok(mut sinks) = MemorySinks::with_room(row.alloc, names, room) else {
+        return None;
+    };
     sinks.take_at_most(way.write.max(1));
     if way.failing_sink > count {
         return None;
@@ -165,17 +185,17 @@ fn sinks_of(row: &SheetRow, way: Behaviour) -> Option<MemorySinks>
 
 /// The names of the options `w:NAME=TEXT`.
 fn names_of(row: &SheetRow) -> Option<Vec<Vec<u8>>> {
-    let options = row.options(4);
     let mut names = Vec::new(row.alloc);
-    for k in 0..options.files(b"w:") {
-        let (name, _) = options.file(b"w:", k)?;
-        names.push(name.to_vec(row.alloc).ok()?).ok()?;
+    for option in row.options(4).written {
+        if let Some(file) = option.as_slice().strip_prefix(b"w:") {
+            add_copy(&mut names, name_and_value(file).0)?;
+        }
     }
     Some(names)
 }
 
 /// Whether all files are created, and have what they should.
-fn compare_files(sinks: &MemorySinks, options: Options<'_>, report: &mut Differences) {
+fn compare_files(sinks: &MemorySinks, options: Options<'_>, report: &mut Report) {
     let count = options.files(b"w:");
     for k in 0..count {
         if let Some((_, wanted)) = options.file(b"w:", k) {
@@ -185,13 +205,13 @@ fn compare_files(sinks: &MemorySinks, options: Options<'_>, report: &mut Differe
     report.compare_numbers("files created", sinks.sinks() as u128 - 1, count);
 }
 
-/// Whether what was written is what is wanted, or begins as is told.
+/// Whether what was written is what is wanted, or begins with it.
 fn compare_stream(
     what: &str,
     written: &[u8],
     wanted: &[u8],
     beginning: Option<&[u8]>,
-    report: &mut Differences,
+    report: &mut Report,
 ) {
     match beginning {
         Some(begun) if written.starts_with(begun) => {}

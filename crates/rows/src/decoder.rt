@@ -5,7 +5,7 @@
 //! | `%n`, `%t`, `%s`, `%%` | a newline, a tab, a blank, a `%` |
 //! | `%x1b` | the byte of this number |
 //! | `%e` | nothing: a field without bytes |
-//! | `%600{ab}` | 600 copies of what stands in the braces |
+//! | `%600{ab}` | 600 copies of what is in the braces |
 //! | `%+`, `%-` | within the braces, the number of the copy, from 0 upwards or down to 0 |
 //!
 //! Any other byte stands for itself, a backslash too, so that an expression or a script stands as it is typed.
@@ -40,21 +40,22 @@ fn put_field(sheet: &mut Sheet, written: &[u8]) -> Option<()> {
     Some(())
 }
 
-/// Writes the copies that a number asks for of what stands in braces after it. Gives what follows them.
+/// Writes the copies that a number asks for of what is in braces after it. Gives what follows them.
 fn put_copies<'a>(sheet: &mut Sheet, written: &'a [u8]) -> Option<&'a [u8]> {
-    let (count, rest) = parted(written, b'{')?;
-    let (part, rest) = parted(rest, b'}')?;
-    let count = number_in(count)?;
-    if count > MAX_COPIES {
-        return None;
-    }
-    for number in 0..count {
-        let mut left = part;
-        for _ in 0..part.len() {
-            left = put_item(sheet, left, Some((number, count - number - 1)))?;
+    if let Some((count, rest)) = parted(written, b'{')
+        && let Some((part, rest)) = parted(rest, b'}')
+        && let Some(count) = number_in(count)
+        && count <= MAX_COPIES
+    {
+        for number in 0..count {
+            let mut left = part;
+            for _ in 0..part.len() {
+                left = put_item(sheet, left, Some((number, count - number - 1)))?;
+            }
         }
+        return Some(rest);
     }
-    Some(rest)
+    None
 }
 
 /// Writes what the first byte or escape stands for, if there is one; in a copy where its number, and how many follow it, are
@@ -66,11 +67,8 @@ fn put_item<'a>(
 ) -> Option<&'a [u8]> {
     match written {
         [b'%', b'x', high, low, rest @ ..] => {
-            sheet.put_byte(
-                digit_of(*high)?
-                    .wrapping_mul(16)
-                    .wrapping_add(digit_of(*low)?),
-            );
+            let (high, low) = (digit_of(*high)?, digit_of(*low)?);
+            sheet.put_byte(high.wrapping_mul(16).wrapping_add(low));
             Some(rest)
         }
         [b'%', letter, rest @ ..] => {

@@ -1,4 +1,4 @@
-//! The devices of a run, in memory. Of the options of a row these tell of them:
+//! The devices of a run, in memory. These options of a row set how they behave:
 //!
 //! * `read=1`: a read of the input gives one byte; `lines`: it gives one line; `fails=2`: the second read fails
 //! * `room=3`: a sink takes three bytes and then fails; `refuses=1`: the first write to this sink fails, or with
@@ -7,8 +7,8 @@
 ghost use Rattle.std.specs.Prelude.{◌<◌, length, None, IfOk};
 
 use crate::options::Options;
-use crate::report::{Differences, Message, NO_MEMORY};
-use crate::table::SheetRow;
+use crate::report::{Made, NO_MEMORY, Report};
+use crate::table::{SheetRow, add_copy};
 use sedengine::Ended;
 use sedscript::Script;
 use sedspace::{MemoryOutputs, MemorySource, MemoryTexts, Outputs, Texts};
@@ -45,8 +45,8 @@ impl Behaviour {
         }
     }
 
-    /// Adds to what is told, where anything is, the way by which it came.
-    pub(crate) fn note(self, report: &mut Differences) {
+    /// Adds to the difference, where there is one, the way by which it came.
+    pub(crate) fn note(self, report: &mut Report) {
         report.note("; bytes of a read: ", self.read);
         report.note(", of a write: ", self.write);
         report.note(", ahead: ", self.look);
@@ -91,7 +91,7 @@ pub(crate) struct PiecedTexts {
 }
 
 impl Texts for PiecedTexts {
-    // It doesn't tell its bytes, since a read may fail.
+    // Its bytes are given by no definition, since a read may fail.
     ghost text = { λ t k. None };
 
     fn read_at(&mut self, number: usize, offset: u64, buf: &mut [u8]) -> usize {
@@ -105,31 +105,30 @@ impl Texts for PiecedTexts {
 }
 
 /// The devices of a script: with a sink for the standard output and for each file that it writes.
-pub(crate) fn devices_of(
-    row: &SheetRow,
-    script: &Script,
-    way: Behaviour,
-) -> Result<Devices, Message>
+pub(crate) fn devices_of(row: &SheetRow, script: &Script, way: Behaviour) -> Made<Devices>
     ensures { IfOk result (λ d. length script.now.wfiles < length d.outputs.held) }
 {
     let options = row.options(3);
-    let source = source_of(row, way)?;
     let held = texts_of(row.alloc, script.rfiles(), options).ok_or(NO_MEMORY)?;
-    let outputs = outputs_of(row, script, way)?;
-    Ok(Devices {
-        source,
-        outputs,
-        texts: PiecedTexts {
-            held,
-            most: way.write,
-            reads: 0,
-            fails: options.number_or(b"lost", 0),
-        },
-    })
+    let texts = PiecedTexts {
+        held,
+        most: way.write,
+        reads: 0,
+        fails: options.number_or(b"lost", 0),
+    };
+    let source = source_of(row, way)?;
+    match outputs_of(row, script, way) {
+        Ok(outputs) => Ok(Devices {
+            source,
+            outputs,
+            texts,
+        }),
+        Err(message) => Err(message),
+    }
 }
 
 /// The input.
-fn source_of(row: &SheetRow, way: Behaviour) -> Result<MemorySource, Message> {
+fn source_of(row: &SheetRow, way: Behaviour) -> Made<MemorySource> {
     let most = row.options(3).number_or(b"read", way.read);
     if most == 0 {
         return Err("no input comes in reads of no byte");
@@ -168,14 +167,13 @@ fn line_ends(alloc: Global, input: &[u8]) -> Option<Vec<usize>> {
 fn texts_of(alloc: Global, names: &[Vec<u8>], options: Options<'_>) -> Option<MemoryTexts> {
     let mut texts = Vec::new(alloc);
     for name in names {
-        let text = options.text_read(name.as_slice()).to_vec(alloc).ok()?;
-        texts.push(text).ok()?;
+        add_copy(&mut texts, options.text_read(name.as_slice()))?;
     }
     Some(MemoryTexts::new(texts))
 }
 
 /// The sinks.
-fn outputs_of(row: &SheetRow, script: &Script, way: Behaviour) -> Result<MemoryOutputs, Message>
+fn outputs_of(row: &SheetRow, script: &Script, way: Behaviour) -> Made<MemoryOutputs>
     ensures { IfOk result (λ o. length script.now.wfiles < length o.held) }
 {
     let options = row.options(3);

@@ -1,13 +1,13 @@
 //! Expressions: the nodes that they are written out as, or their fault; what their bracket expressions list; and where
 //! one ends between its delimiters.
 //!
-//! The nodes stand in their order, each after its parts: a byte for itself, `.` other sets, `0` the null string, `B` and
+//! The nodes are written in their order, each after its parts: a byte for itself, `.` other sets, `0` the null string, `B` and
 //! `E` the anchors, `;` one after the other, `|` an alternation, `G` and its number a group, `*` and `?` the first of a
 //! repetition, `s` and `o` its rest. Where there are many, `601 nodes` says only how many.
 
 use crate::faults::put_expression_fault;
 use crate::options::delimiter_in;
-use crate::report::Differences;
+use crate::report::Report;
 use crate::sheet::Sheet;
 use crate::table::SheetRow;
 use sedre::{Expr, ExprFault, Kind, Node, Steps, delimited, read};
@@ -22,7 +22,7 @@ pub(crate) fn kind_named(name: &[u8]) -> Kind {
 }
 
 /// Runs a row.
-pub(crate) fn run(row: &SheetRow, report: &mut Differences) {
+pub(crate) fn run(row: &SheetRow, report: &mut Report) {
     let options = row.options(4);
     let (kind, nodes) = (kind_named(row.field(0)), options.nodes_or(65536));
     match read(row.alloc, kind, row.field(1), options.delimiter(), nodes) {
@@ -32,7 +32,7 @@ pub(crate) fn run(row: &SheetRow, report: &mut Differences) {
 }
 
 /// Whether the expression is the wanted one.
-fn compare_expression(row: &SheetRow, expr: &Expr, report: &mut Differences) {
+fn compare_expression(row: &SheetRow, expr: &Expr, report: &mut Report) {
     let mut came = Sheet::new(row.alloc);
     put_nodes(&mut came, expr, row.field(2).ends_with(b" nodes"));
     report.compare_sheet("the nodes", &came, row.field(2));
@@ -40,7 +40,7 @@ fn compare_expression(row: &SheetRow, expr: &Expr, report: &mut Differences) {
 }
 
 /// Whether the fault is the wanted one.
-fn compare_fault(row: &SheetRow, fault: &ExprFault, report: &mut Differences) {
+fn compare_fault(row: &SheetRow, fault: &ExprFault, report: &mut Report) {
     let mut came = Sheet::new(row.alloc);
     put_expression_fault(&mut came, fault);
     report.compare_faults(&came, row.field(2));
@@ -74,7 +74,7 @@ fn put_node(sheet: &mut Sheet, node: Node) {
 }
 
 /// Runs a row of lists: a bracket expression is read as a basic and as an extended expression, alone and with what follows.
-pub(crate) fn run_list(row: &SheetRow, report: &mut Differences) {
+pub(crate) fn run_list(row: &SheetRow, report: &mut Report) {
     let text = row.field(0);
     let end = row.number(1);
     if end > text.len() {
@@ -87,18 +87,19 @@ pub(crate) fn run_list(row: &SheetRow, report: &mut Differences) {
 }
 
 /// Whether the list that the text begins with, and is where `is_alone`, has the wanted bytes.
-fn compare_list(row: &SheetRow, kind: Kind, text: &[u8], is_alone: bool, report: &mut Differences) {
-    match read(row.alloc, kind, text, row.options(4).delimiter(), 100) {
-        Ok(expr) if expr.nodes() > 0 && (expr.nodes() == 1) == is_alone => {
-            compare_set(row, expr.look(expr.id(0), &mut Steps::new()), report);
-        }
-        Ok(_) => report.tell("the list ends at another place"),
-        Err(_) => report.tell("the text is no expression"),
+fn compare_list(row: &SheetRow, kind: Kind, text: &[u8], is_alone: bool, report: &mut Report) {
+    let Ok(expr) = read(row.alloc, kind, text, row.options(4).delimiter(), 100) else {
+        return report.tell("the text is no expression");
+    };
+    if expr.nodes() > 0 && (expr.nodes() == 1) == is_alone {
+        compare_set(row, expr.look(expr.id(0), &mut Steps::new()), report);
+    } else {
+        report.tell("the list ends at another place");
     }
 }
 
 /// Whether the set has the bytes that are listed, or those that are not.
-fn compare_set(row: &SheetRow, node: Node, report: &mut Differences) {
+fn compare_set(row: &SheetRow, node: Node, report: &mut Report) {
     let Node::Set(set) = node else {
         return report.tell("the expression doesn't begin with a set");
     };
@@ -112,7 +113,7 @@ fn compare_set(row: &SheetRow, node: Node, report: &mut Differences) {
 }
 
 /// Runs a row of delimiters.
-pub(crate) fn run_delimited(row: &SheetRow, report: &mut Differences) {
+pub(crate) fn run_delimited(row: &SheetRow, report: &mut Report) {
     let mut came = Sheet::new(row.alloc);
     if let Some(delimiter) = delimiter_in(row.field(2)) {
         match delimited(row.field(0), row.number(1), delimiter) {

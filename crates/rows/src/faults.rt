@@ -23,15 +23,20 @@ pub(crate) fn put_script_fault(sheet: &mut Sheet, fault: &ScriptFault) {
 
 /// How a run ended, as `F1 line 2` or `F7 sink 0`.
 pub(crate) fn put_end(sheet: &mut Sheet, end: Ended) {
-    match end {
-        Ended::Done => sheet.put(b"F0"),
-        Ended::PatternFull(line) => sheet.put_text(format_args!("F1 line {line}")),
-        Ended::HoldFull(line) => sheet.put_text(format_args!("F2 line {line}")),
-        Ended::QueueFull(line) => sheet.put_text(format_args!("F3 line {line}")),
-        Ended::TurnsSpent => sheet.put(b"F4"),
-        Ended::NoPrevious(line) => sheet.put_text(format_args!("F5 line {line}")),
-        Ended::InputBroken => sheet.put(b"F6"),
-        Ended::OutputBroken(sink) => sheet.put_text(format_args!("F7 sink {sink}")),
-        Ended::OutputFull(sink) => sheet.put_text(format_args!("F8 sink {sink}")),
+    let (number, place) = match end {
+        Ended::Done => (0, None),
+        Ended::PatternFull(line) => (1, Some(line)),
+        Ended::HoldFull(line) => (2, Some(line)),
+        Ended::QueueFull(line) => (3, Some(line)),
+        Ended::TurnsSpent => (4, None),
+        Ended::NoPrevious(line) => (5, Some(line)),
+        Ended::InputBroken => (6, None),
+        Ended::OutputBroken(sink) => (7, Some(sink as u64)),
+        Ended::OutputFull(sink) => (8, Some(sink as u64)),
+    };
+    sheet.put(&[b'F', b'0' + number]);
+    if let Some(place) = place {
+        sheet.put(if number < 7 { b" line " } else { b" sink " });
+        sheet.put_text(place);
     }
 }

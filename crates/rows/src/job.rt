@@ -2,14 +2,14 @@
 ghost use Rattle.std.specs.Prelude.{◌≤◌, IfOk};
 
 use crate::options::Options;
-use crate::report::{Differences, Message};
+use crate::report::{Made, Report};
 use crate::table::SheetRow;
 use sededit::script;
 use sedengine::Limits;
 use sedscript::Script;
 
 /// Runs a row of limits: those on spaces, queue, read-ahead, turns and nodes are accepted or refused.
-pub(crate) fn run_limits(row: &SheetRow, report: &mut Differences) {
+pub(crate) fn run_limits(row: &SheetRow, report: &mut Report) {
     let (space, queue, look) = (row.number(0), row.number(1), row.number(2));
     let came = match Limits::new(space, queue, look, row.number(3) as u64, row.number(4)) {
         Some(_) => b"accepted",
@@ -19,24 +19,23 @@ pub(crate) fn run_limits(row: &SheetRow, report: &mut Differences) {
 }
 
 /// The limits, with so many bytes read ahead where the options don't say.
-pub(crate) fn limits_of(options: Options<'_>, look: usize) -> Result<Limits, Message> {
+pub(crate) fn limits_of(options: Options<'_>, look: usize) -> Made<Limits> {
     let space = options.number_or(b"space", 1 << 20);
     let queue = options.number_or(b"queue", 4096);
     let look = options.number_or(b"look", look);
     let turns = options.number_or(b"turns", usize::MAX);
     let nodes = options.number_or(b"nodes", 16384);
-    match (
-        Limits::new(space, queue, look, turns as u64, nodes),
-        options.number(b"output"),
-    ) {
-        (Some(limits), Some(bytes)) => Ok(limits.with_output(bytes as u64)),
-        (Some(limits), None) => Ok(limits),
-        (None, _) => Err("a limit is out of its range"),
+    let Some(limits) = Limits::new(space, queue, look, turns as u64, nodes) else {
+        return Err("a limit is out of its range");
+    };
+    match options.number(b"output") {
+        Some(bytes) => Ok(limits.with_output(bytes as u64)),
+        None => Ok(limits),
     }
 }
 
 /// The script, which keeps to the limits.
-pub(crate) fn script_of(row: &SheetRow, limits: &Limits) -> Result<Script, Message>
+pub(crate) fn script_of(row: &SheetRow, limits: &Limits) -> Made<Script>
     ensures { IfOk result (λ s. s.max_nodes ≤ limits.now.nodes) }
 {
     let options = row.options(3);
@@ -55,20 +54,17 @@ pub(crate) fn script_of(row: &SheetRow, limits: &Limits) -> Result<Script, Messa
 
 /// Sees that the script is accepted, and that the options name its files, each once and in its order: all that it writes,
 /// and some that it reads.
-pub(crate) fn check_script(row: &SheetRow, report: &mut Differences) {
+pub(crate) fn check_script(row: &SheetRow, report: &mut Report) {
     let options = row.options(3);
-    match script(
-        row.alloc,
-        row.field(0),
-        options.kind(),
-        options.nodes_or(16384),
-    ) {
+    let nodes = options.nodes_or(16384);
+    match script(row.alloc, row.field(0), options.kind(), nodes) {
         Ok(script) => {
             let (written, read) = (script.wfiles(), script.rfiles());
             let (count, read_count) = (options.files(b"w:"), options.files(b"r:"));
             report.compare_numbers("files of the script", written.len() as u128, count);
             report.compare_numbers("files written", named(written, b"w:", options), count);
             report.compare_numbers("files read", named(read, b"r:", options), read_count);
+            script.close();
         }
         Err(fault) => report.tell(fault.reason.name()),
     }

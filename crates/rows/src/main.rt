@@ -20,13 +20,12 @@ mod runner;
 mod runs;
 mod shape;
 mod sheet;
-mod subject;
 mod table;
 
 use anyhow::{Context, Result, ensure};
-use report::Differences;
+use report::Report;
+use shape::have_shape;
 use std::{fs, str};
-use subject::{run, shape_of};
 use table::{SheetRow, rows_of};
 
 /// The rows of the table in a file.
@@ -35,20 +34,39 @@ fn table_in(rt: &HostRuntime, name: &str) -> Result<Vec<SheetRow>> {
     rows_of(rt.alloc(), text.as_str())
 }
 
+/// Runs a row of a subject.
+fn run(subject: &str, row: &SheetRow, report: &mut Report) {
+    match subject {
+        "expressions" => expressions::run(row, report),
+        "lists" => expressions::run_list(row, report),
+        "delimiters" => expressions::run_delimited(row, report),
+        "matches" => matches::run(row, Some(row.number(3)), report),
+        "occurrences" => matches::run(row, None, report),
+        "refusals" => refusals::run(row, report),
+        "readings" => readings::run(row, report),
+        "runs" => runs::run(row, report),
+        "failing" => runs::run_failing(row, report),
+        "cycles" => runs::run_cycle(row, report),
+        "limits" => job::run_limits(row, report),
+        "calls" => calls::run(row, report),
+        _ => report.tell("no rows are of this kind"),
+    }
+}
+
 /// Runs a row of a table, and names it where it fails. Says whether it holds.
 fn run_row(rt: &HostRuntime, subject: &str, name: &str, row: &SheetRow) -> Result<bool> {
     let line = row.line;
-    let (rules, options) = shape_of(subject, row).context("no rows are of this kind")?;
+    let keeps = have_shape(row.fields.as_slice(), subject).context("no rows are of this kind")?;
     ensure!(
-        row.keeps(rules, options),
+        keeps,
         "line {line}: a field or an option isn't as it has to be"
     );
-    let mut report = Differences::new(rt.alloc());
+    let mut report = Report::new(rt.alloc());
     run(subject, row, &mut report);
     if report.is_empty() {
         return Ok(true);
     }
-    let difference = str::from_utf8(report.sheet.bytes.as_slice()).unwrap_or("a difference");
+    let difference = str::from_utf8(report.bytes.as_slice()).unwrap_or("a difference");
     println!(rt; "{name}:{line}: {difference}")?;
     Ok(false)
 }

@@ -1,7 +1,7 @@
 //! Expressions over texts: the match and its groups, or all occurrences, one after another, each with its groups. The heads
-//! of the tables tell their fields.
+//! of the tables name their fields.
 //!
-//! By tables `is_match` has to tell the same as `find`, and from the text's beginning on the occurrences and their groups have
+//! By tables `is_match` has to answer the same as `find`, and from the text's beginning on the occurrences and their groups have
 //! to: by tables of 513 states, of 64, of two, which are emptied again and again, and of none.
 
 ghost use Rattle.std.specs.Prelude.{◌≡◌, ◌≤◌, ◌^◌, [], ◌∷◌, IfOk, IfSome, length};
@@ -10,7 +10,7 @@ ghost use Rattle.sedmatch.specs.SearchRoom.{FitInto};
 
 use crate::expressions::kind_named;
 use crate::options::Options;
-use crate::report::{Differences, NO_MEMORY};
+use crate::report::{NO_MEMORY, Report};
 use crate::sheet::Sheet;
 use crate::table::SheetRow;
 use sedmatch::{Occurrences, Scratch, TableMatcher, TableRoom, Text, find};
@@ -26,18 +26,8 @@ struct Occurred {
     group_steps: u128,
 }
 
-/// Runs a row of matches.
-pub(crate) fn run(row: &SheetRow, report: &mut Differences) {
-    run_from(row, Some(row.number(3)), report);
-}
-
-/// Runs a row of occurrences.
-pub(crate) fn run_all(row: &SheetRow, report: &mut Differences) {
-    run_from(row, None, report);
-}
-
-/// Reads the expression, and seeks the match from a place on, or all occurrences where none is given.
-fn run_from(row: &SheetRow, from: Option<usize>, report: &mut Differences) {
+/// Runs a row: reads the expression, and seeks the match from a place on, or all occurrences where none is given.
+pub(crate) fn run(row: &SheetRow, from: Option<usize>, report: &mut Report) {
     let kind = kind_named(row.field(0));
     match read(row.alloc, kind, row.field(1), None, 65536) {
         Ok(expr) => run_over(row, &expr, row.field(2), from, report),
@@ -46,13 +36,7 @@ fn run_from(row: &SheetRow, from: Option<usize>, report: &mut Differences) {
 }
 
 /// Searches the text by an expression that is used once, where there is a place, and by tables of each size.
-fn run_over(
-    row: &SheetRow,
-    expr: &Expr,
-    text: &[u8],
-    from: Option<usize>,
-    report: &mut Differences,
-) {
+fn run_over(row: &SheetRow, expr: &Expr, text: &[u8], from: Option<usize>, report: &mut Report) {
     let nodes = expr.nodes();
     let place = from.unwrap_or(0);
     if nodes < 1 || nodes > 65536 || text.len() > 1 << 20 || place > text.len() {
@@ -68,18 +52,17 @@ fn run_over(
     run_table(row, expr, 64, text, from, &mut scratch, report);
     run_table(row, expr, 2, text, from, &mut scratch, report);
     run_table(row, expr, 0, text, from, &mut scratch, report);
-    // by a call: what is let go of where it stands is proved field by field
-    drop(scratch);
+    scratch.close();
 }
 
-/// Whether the search for an expression that is used once tells what the row says.
+/// Whether the search for an expression that is used once answers what the row says.
 fn run_once(
     row: &SheetRow,
     expr: &Expr,
     text: &Text,
     from: usize,
     scratch: &mut Scratch,
-    report: &mut Differences,
+    report: &mut Report,
 )
     requires from { from ≤ length text.now }
     requires fits { FitInto (length text.now) (length expr.now.nodes) scratch.old }
@@ -96,7 +79,7 @@ fn run_once(
     report.compare_sheet("the match", &came, row.field(4));
 }
 
-/// Searches by tables of at most so many states, where nothing was told before.
+/// Searches by tables of at most so many states, where no difference was found before.
 fn run_table(
     row: &SheetRow,
     expr: &Expr,
@@ -104,7 +87,7 @@ fn run_table(
     text: &[u8],
     from: Option<usize>,
     scratch: &mut Scratch,
-    report: &mut Differences,
+    report: &mut Report,
 )
     requires from { IfSome from (λ place. place ≤ length text.now) }
     requires fits { FitInto (length text.now) (length expr.now.nodes) scratch.old }
@@ -124,13 +107,13 @@ fn run_table(
     if let Some(place) = from {
         let is_match = matcher.is_match(&Text::new(text), place, scratch, &mut Steps::new());
         if is_match == (row.field(4) == b"none".as_slice()) {
-            report.tell("is_match tells otherwise");
+            report.tell("is_match answers otherwise");
         }
     }
     if from.unwrap_or(0) == 0 {
         seek(row, expr, &mut matcher, text, from, scratch, report);
     }
-    drop(matcher);
+    matcher.close();
     report.note(" by tables of at most so many states: ", states);
 }
 
@@ -157,7 +140,7 @@ fn seek(
     text: &[u8],
     from: Option<usize>,
     scratch: &mut Scratch,
-    report: &mut Differences,
+    report: &mut Report,
 )
     requires matcher { matcher.old ≡ expr.now }
     requires fits { FitInto (length text.now) (length matcher.old.nodes) scratch.old }
@@ -166,7 +149,6 @@ fn seek(
     ensures { scratch.new ≡ scratch.old }
 {
     let most = if from.is_some() { 1 } else { text.len() + 2 };
-    let groups = expr.groups();
     match room_to_seek(row.alloc, expr, matcher, text) {
         Ok(mut seeking) => {
             let text = Text::new(text);
@@ -174,14 +156,14 @@ fn seek(
             let all = all_of(
                 &mut came,
                 matcher,
-                groups,
+                expr.groups(),
                 &text,
                 most,
                 &mut seeking,
                 scratch,
             );
             compare(row, from, came, &all, report);
-            drop(seeking);
+            seeking.close();
         }
         Err(_) => report.tell(NO_MEMORY),
     }
@@ -212,7 +194,10 @@ fn all_of(
             break;
         };
         let spans = matcher.groups_of(text, start, end, scratch, &mut group_steps);
-        put_occurrence(sheet, &spans, groups);
+        if count > 0 {
+            sheet.put(b" ");
+        }
+        put_spans(sheet, &spans, groups);
         count = count.saturating_add(1);
         last = Some(end);
     }
@@ -229,11 +214,10 @@ fn compare(
     from: Option<usize>,
     mut came: Sheet,
     all: &Occurred,
-    report: &mut Differences,
+    report: &mut Report,
 ) {
-    let (steps, group_steps) = (all.steps, all.group_steps);
     if from.is_some() {
-        let steps = steps.saturating_add(group_steps);
+        let steps = all.steps.saturating_add(all.group_steps);
         compare_steps("most", "least", steps, row.options(5), report);
         if all.count == 0 {
             came.put(b"none");
@@ -241,23 +225,23 @@ fn compare(
         return report.compare_sheet("the match", &came, row.field(4));
     }
     let (wanted, options) = (row.field(3), row.options(4));
-    compare_steps("most", "least", steps, options, report);
-    compare_steps("groups_most", "groups_least", group_steps, options, report);
+    compare_steps("most", "least", all.steps, options, report);
+    compare_steps(
+        "groups_most",
+        "groups_least",
+        all.group_steps,
+        options,
+        report,
+    );
     if wanted.ends_with(b" occurrences") {
-        came = Sheet::new(row.alloc);
+        came.bytes.clear();
         came.put_text(format_args!("{} occurrences", all.count));
     }
     report.compare_sheet("the occurrences", &came, wanted);
 }
 
 /// Whether there are as many steps as the options of these names say.
-fn compare_steps(
-    most: &str,
-    least: &str,
-    steps: u128,
-    options: Options<'_>,
-    report: &mut Differences,
-) {
+fn compare_steps(most: &str, least: &str, steps: u128, options: Options<'_>, report: &mut Report) {
     let least = options.number_or(least.as_bytes(), 0);
     let most = options.number_or(most.as_bytes(), usize::MAX);
     if steps < least as u128 || (most as u128) < steps {
@@ -265,17 +249,9 @@ fn compare_steps(
     }
 }
 
-/// Writes the spans of an occurrence, after a blank where others stand before it.
-fn put_occurrence(sheet: &mut Sheet, spans: &[Option<(usize, usize)>; 10], groups: usize) {
-    if !sheet.is_empty() {
-        sheet.put(b" ");
-    }
-    put_spans(sheet, spans, groups);
-}
-
 /// The spans of a match and of so many groups, of nine at most.
 fn put_spans(sheet: &mut Sheet, spans: &[Option<(usize, usize)>; 10], groups: usize) {
-    for span in spans.iter().take(groups.min(9).saturating_add(1)) {
+    for span in &spans[..groups.min(9) + 1] {
         match *span {
             Some((start, end)) => sheet.put_text(format_args!("({start},{end})")),
             None => sheet.put(b"(?,?)"),

@@ -14,15 +14,16 @@ pub(crate) struct Options<'a> {
 }
 
 impl<'a> Options<'a> {
-    /// What a name is set to, the last time that it stands there.
+    /// What a name is set to, the last time that it occurs.
     pub(crate) fn value(self, wanted: &[u8]) -> Option<&'a [u8]> {
-        let named = self
-            .written
-            .iter()
-            .map(|option| name_and_value(option.as_slice()))
-            .filter(|named| named.0 == wanted)
-            .last()?;
-        Some(named.1)
+        let mut value = None;
+        for option in self.written {
+            let (name, text) = name_and_value(option.as_slice());
+            if name == wanted {
+                value = Some(text);
+            }
+        }
+        value
     }
 
     /// Whether the word is among them.
@@ -67,31 +68,37 @@ impl<'a> Options<'a> {
 
     /// `F1 line 2`: the end of a run.
     pub(crate) fn end(self) -> &'a [u8] {
-        let ends = self
-            .written
-            .iter()
-            .filter(|option| option.starts_with(b"F"));
-        match ends.last() {
-            Some(end) => end.as_slice(),
-            None => b"F0",
+        for option in self.written {
+            if option.starts_with(b"F") {
+                return option.as_slice();
+            }
         }
+        b"F0"
     }
 
     /// How many options begin so, as `w:NAME=TEXT` with `w:`.
     pub(crate) fn files(self, kind: &[u8]) -> usize {
-        self.written
-            .iter()
-            .filter(|option| option.starts_with(kind))
-            .count()
+        let mut count = 0usize;
+        for option in self.written {
+            if option.starts_with(kind) {
+                count = count.saturating_add(1);
+            }
+        }
+        count
     }
 
     /// The name and the text of the file of a kind that has this number, counted from 0.
     pub(crate) fn file(self, kind: &[u8], number: usize) -> Option<(&'a [u8], &'a [u8])> {
-        let mut files = self
-            .written
-            .iter()
-            .filter_map(|option| option.as_slice().strip_prefix(kind));
-        Some(name_and_value(files.nth(number)?))
+        let mut left = number;
+        for option in self.written {
+            if let Some(file) = option.as_slice().strip_prefix(kind) {
+                if left == 0 {
+                    return Some(name_and_value(file));
+                }
+                left -= 1;
+            }
+        }
+        None
     }
 
     /// The text of the file `r:NAME=TEXT` of a name; one that isn't given is empty.
@@ -109,14 +116,18 @@ impl<'a> Options<'a> {
 }
 
 /// The name of an option, and what follows its `=`.
-fn name_and_value(option: &[u8]) -> (&[u8], &[u8]) {
+pub(crate) fn name_and_value(option: &[u8]) -> (&[u8], &[u8]) {
     parted(option, b'=').unwrap_or((option, b""))
 }
 
-/// What stands before the first such byte, and after it.
+/// The bytes before the first such byte, and those after it.
 pub(crate) fn parted(bytes: &[u8], wanted: u8) -> Option<(&[u8], &[u8])> {
-    let place = bytes.iter().position(|b| *b == wanted)?;
-    Some((&bytes[..place], &bytes[place + 1..]))
+    for place in 0..bytes.len() {
+        if bytes[place] == wanted {
+            return Some((&bytes[..place], &bytes[place + 1..]));
+        }
+    }
+    None
 }
 
 /// The delimiter that the bytes are, if they are one.

@@ -1,8 +1,8 @@
-//! Scripts as they are read: their commands, written out as the head of the table tells.
+//! Scripts as they are read: their commands, written out as the head of the table says.
 
 ghost use Rattle.std.specs.Prelude.{◌<◌, length};
 
-use crate::report::Differences;
+use crate::report::Report;
 use crate::sheet::Sheet;
 use crate::table::SheetRow;
 use sededit::script;
@@ -13,15 +13,18 @@ use sedscript::{Action, Address, Command, ReplacementPart, Script, Substitution}
 const MOST_NODES: usize = 65536;
 
 /// Runs a row.
-pub(crate) fn run(row: &SheetRow, report: &mut Differences) {
+pub(crate) fn run(row: &SheetRow, report: &mut Report) {
     match script(row.alloc, row.field(0), row.options(2).kind(), MOST_NODES) {
-        Ok(script) => compare(row, &script, report),
+        Ok(script) => {
+            compare(row, &script, report);
+            script.close();
+        }
         Err(_) => report.tell("the script isn't accepted"),
     }
 }
 
 /// Whether the script is read as the row says.
-fn compare(row: &SheetRow, script: &Script, report: &mut Differences) {
+fn compare(row: &SheetRow, script: &Script, report: &mut Report) {
     if script.quiet() != row.options(2).has(b"-n") {
         report.tell("-n isn't as expected");
     }
@@ -32,7 +35,7 @@ fn compare(row: &SheetRow, script: &Script, report: &mut Differences) {
 }
 
 /// Whether the files of the script are those that the options name.
-fn compare_files(row: &SheetRow, script: &Script, report: &mut Differences) {
+fn compare_files(row: &SheetRow, script: &Script, report: &mut Report) {
     let mut wanted = Sheet::new(row.alloc);
     for option in row.options(2).written {
         if !option.starts_with(b"-") {

@@ -1,38 +1,28 @@
-//! Scripts with a fault, and scripts without one. The heads of the tables tell their fields.
+//! Scripts with a fault, and scripts without one. The heads of the tables name their fields.
 
 use crate::faults::put_script_fault;
-use crate::report::Differences;
+use crate::report::Report;
 use crate::sheet::Sheet;
 use crate::table::SheetRow;
 use sededit::script;
 use sedscript::{Reason, ScriptFault};
 
-/// The rules for the fields and the options of a row.
-pub(crate) fn shape_of(row: &SheetRow) -> (&'static str, &'static str) {
-    if row.field(1) == b"none".as_slice() {
-        ("* none", "-E nodes=+")
-    } else {
-        ("* * #", "-E nodes=+ inside=#")
-    }
-}
-
 /// Runs a row.
-pub(crate) fn run(row: &SheetRow, report: &mut Differences) {
+pub(crate) fn run(row: &SheetRow, report: &mut Report) {
     let options = row.options(2);
     // the program's most nodes, where the row doesn't say
-    match script(
-        row.alloc,
-        row.field(0),
-        options.kind(),
-        options.nodes_or(16384),
-    ) {
-        Ok(_) => report.compare("the fault", b"none", row.field(1)),
+    let nodes = options.nodes_or(16384);
+    match script(row.alloc, row.field(0), options.kind(), nodes) {
+        Ok(script) => {
+            script.close();
+            report.compare("the fault", b"none", row.field(1));
+        }
         Err(fault) => compare_fault(row, &fault, report),
     }
 }
 
 /// Whether the fault is the wanted one, and at its place.
-fn compare_fault(row: &SheetRow, fault: &ScriptFault, report: &mut Differences) {
+fn compare_fault(row: &SheetRow, fault: &ScriptFault, report: &mut Report) {
     let mut came = Sheet::new(row.alloc);
     put_script_fault(&mut came, fault);
     report.compare_faults(&came, row.field(1));

@@ -1,13 +1,15 @@
 //! The run of a row's script, by `edit` or by an engine.
-ghost use Rattle.std.specs.Prelude.{◌≡◌, ◌<◌, length};
+ghost use Rattle.std.specs.Prelude.{◌≡◌, ◌<◌, ◌≤◌, length};
 
 use crate::devices::{Behaviour, Devices, PiecedTexts, devices_of};
 use crate::job::{limits_of, script_of};
-use crate::report::{Message, NO_MEMORY};
+use crate::report::{Made, NO_MEMORY};
 use crate::table::SheetRow;
 use sededit::edit;
-use sedengine::{Ended, Engine, Progress};
+use sedengine::{Ended, Engine, Limits, Progress};
+use sedscript::Script;
 use sedspace::{Lines, MemoryOutputs, MemorySource, Outputs};
+use std::alloc::Global;
 
 /// What a run came to.
 #[derive(Drop)]
@@ -19,7 +21,7 @@ pub(crate) struct RunOutcome {
     pub cycle: Cycle,
 }
 
-/// What stands after one cycle of an engine.
+/// What an engine holds and has taken after one cycle.
 #[derive(Clone, Copy, Default)]
 pub(crate) struct Cycle {
     /// The bytes that the standard output has.
@@ -31,17 +33,28 @@ pub(crate) struct Cycle {
     pub held: u128,
 }
 
-/// Runs it by `edit`. An error tells why the row can't be run.
-pub(crate) fn run_edit(row: &SheetRow, way: Behaviour) -> Result<RunOutcome, Message> {
+/// Runs it by an engine, or else by `edit`.
+pub(crate) fn run(row: &SheetRow, way: Behaviour, by_engine: bool) -> Made<RunOutcome> {
     let limits = limits_of(row.options(3), way.look)?;
     let script = script_of(row, &limits)?;
-    let mut devices = devices_of(row, &script, way)?;
-    let Devices {
-        source,
-        outputs,
-        texts,
-    } = &mut devices;
-    let Ok(end) = edit(row.alloc, script, limits, source, outputs, texts) else {
+    match devices_of(row, &script, way) {
+        Ok(devices) if by_engine => run_engine(row.alloc, script, limits, devices),
+        Ok(devices) => run_edit(row.alloc, script, limits, devices),
+        Err(message) => {
+            script.close();
+            Err(message)
+        }
+    }
+}
+
+/// Runs it by `edit`.
+fn run_edit(alloc: Global, script: Script, limits: Limits, devices: Devices) -> Made<RunOutcome>
+    requires nodes { script.max_nodes ≤ limits.nodes }
+    requires sinks { length script.wfiles < length devices.outputs.held }
+{
+    let mut devices = devices;
+    let (source, outputs) = (&mut devices.source, &mut devices.outputs);
+    let Ok(end) = edit(alloc, script, limits, source, outputs, &mut devices.texts) else {
         return Err(NO_MEMORY);
     };
     Ok(RunOutcome {
@@ -52,21 +65,17 @@ pub(crate) fn run_edit(row: &SheetRow, way: Behaviour) -> Result<RunOutcome, Mes
     })
 }
 
-/// Runs it by an engine, which is made last: each way out that lets go of one is dear to prove. An error tells why the row
-/// can't be run.
-pub(crate) fn run_engine(row: &SheetRow, way: Behaviour) -> Result<RunOutcome, Message> {
-    let limits = limits_of(row.options(3), way.look)?;
-    let script = script_of(row, &limits)?;
-    let Devices {
-        source,
-        outputs,
-        texts,
-    } = devices_of(row, &script, way)?;
-    let Ok(lines) = Lines::new(row.alloc, source, limits.look()) else {
+/// Runs it by an engine, which is made last: each way out that lets go of one is dear to prove.
+fn run_engine(alloc: Global, script: Script, limits: Limits, devices: Devices) -> Made<RunOutcome>
+    requires nodes { script.max_nodes ≤ limits.nodes }
+    requires sinks { length script.wfiles < length devices.outputs.held }
+{
+    let Ok(lines) = Lines::new(alloc, devices.source, limits.look()) else {
+        script.close();
         return Err(NO_MEMORY);
     };
-    match Engine::open(row.alloc, script, limits) {
-        Ok(engine) => Ok(run_to_end(engine, lines, outputs, texts)),
+    match Engine::open(alloc, script, limits) {
+        Ok(engine) => Ok(run_to_end(engine, lines, devices.outputs, devices.texts)),
         Err(_) => Err(NO_MEMORY),
     }
 }
@@ -92,7 +101,7 @@ fn run_to_end(
     let calls = calls_of(lines.source(), &outputs, &texts);
     let again = engine.run(&mut lines, &mut outputs, &mut texts);
     let progress = engine.cycle(&mut lines, &mut outputs, &mut texts);
-    let is_ended = again == end && progress == Progress::Ended(end);
+    let is_ended = again == end && matches!(progress, Progress::Ended(last) if last == end);
     let stays = is_ended && calls_of(lines.source(), &outputs, &texts) == calls;
     // by a call: at the end of its scope all its fields would be proved to be let go of
     engine.close();

@@ -1,4 +1,4 @@
-//! Scripts over inputs: what is written, and how the run ends. The heads of the tables tell their fields and options.
+//! Scripts over inputs: what is written, and how the run ends. The heads of the tables name their fields and options.
 //!
 //! * A row of runs runs with the input whole and in reads of 1, 2, 3 and 5 bytes, with writes and pieces of files that are
 //!   read of any length and of one byte, and with 1, 2, 7 and 65,536 bytes read ahead. Where a read of the input fails, the
@@ -8,14 +8,14 @@
 //!   failure; then the same of the writes to each sink. The input is read a byte at a time. Each run has to end as the row
 //!   says, or by the failure; each sink has to have what the row says, or by the failure a beginning of it; and the engine
 //!   has to stay at its end and to call no device, though these work again.
-//! * A row of cycles tells what one cycle writes, takes from the input and holds.
+//! * A row of cycles says what one cycle writes, takes from the input and holds.
 
 use crate::devices::Behaviour;
 use crate::faults::put_end;
 use crate::job::check_script;
 use crate::options::Options;
-use crate::report::{Differences, Message};
-use crate::runner::{RunOutcome, run_edit, run_engine};
+use crate::report::{Made, Report};
+use crate::runner::{self, RunOutcome};
 use crate::sheet::Sheet;
 use crate::table::SheetRow;
 use sedengine::Ended;
@@ -31,38 +31,43 @@ const LOOKS: [usize; 4] = [1, 2, 7, 65536];
 const MOST_CALLS: usize = 1000;
 
 /// Runs a row of runs, to the first difference.
-pub(crate) fn run(row: &SheetRow, report: &mut Differences) {
+pub(crate) fn run(row: &SheetRow, report: &mut Report) {
     check_script(row, report);
     let way = Behaviour::of(row.options(3));
-    let piecemeal = Behaviour { write: 1, ..way };
+    let mut piecemeal = way;
     for read in READS {
-        run_looks(row, Behaviour { read, ..way }, report);
-        run_looks(row, Behaviour { read, ..piecemeal }, report);
+        piecemeal.read = read;
+        piecemeal.write = way.write;
+        run_looks(row, piecemeal, report);
+        piecemeal.write = 1;
+        run_looks(row, piecemeal, report);
     }
     if row.options(3).has(b"cuts") {
         run_cuts(row, way, report);
     }
     if !row.options(3).has(b"lost") {
-        compare(row, run_engine(row, way), false, report);
+        compare(row, runner::run(row, way, true), false, report);
     }
 }
 
 /// Runs it over the input cut at each two places.
-fn run_cuts(row: &SheetRow, way: Behaviour, report: &mut Differences) {
+fn run_cuts(row: &SheetRow, way: Behaviour, report: &mut Report) {
+    let mut cut = way;
     for start in 0..row.field(1).len() {
         for end in start..row.field(1).len() {
-            let cuts = (start, end);
-            run_looks(row, Behaviour { cuts, ..way }, report);
+            cut.cuts = (start, end);
+            run_looks(row, cut, report);
         }
     }
 }
 
 /// Runs it with each number of bytes ahead, to the first difference, where the row asks for it.
-fn run_looks(row: &SheetRow, way: Behaviour, report: &mut Differences) {
+fn run_looks(row: &SheetRow, way: Behaviour, report: &mut Report) {
+    let mut way = way;
     for look in LOOKS {
-        let way = Behaviour { look, ..way };
+        way.look = look;
         if report.is_empty() && is_asked(row.options(3), way) {
-            compare(row, run_edit(row, way), false, report);
+            compare(row, runner::run(row, way, false), false, report);
             way.note(report);
         }
     }
@@ -82,7 +87,7 @@ fn is_asked(options: Options<'_>, way: Behaviour) -> bool {
 }
 
 /// Runs a row of failing, to the first difference.
-pub(crate) fn run_failing(row: &SheetRow, report: &mut Differences) {
+pub(crate) fn run_failing(row: &SheetRow, report: &mut Report) {
     check_script(row, report);
     fail_device(row, None, report);
     for sink in 0..=row.options(3).files(b"w:") {
@@ -91,19 +96,20 @@ pub(crate) fn run_failing(row: &SheetRow, report: &mut Differences) {
 }
 
 /// Has each call of a device fail in turn, of this sink or else of the input, until a run meets no failure.
-fn fail_device(row: &SheetRow, sink: Option<usize>, report: &mut Differences) {
+fn fail_device(row: &SheetRow, sink: Option<usize>, report: &mut Report) {
+    let mut way = Behaviour::of(row.options(3));
+    way.read = 1;
+    way.failing_sink = sink.unwrap_or(0);
     for call in 1..MOST_CALLS {
         if !report.is_empty() {
             return;
         }
-        let way = Behaviour {
-            read: 1,
-            failing_read: if sink.is_none() { call } else { 0 },
-            failing_sink: sink.unwrap_or(0),
-            failing_write: if sink.is_some() { call } else { 0 },
-            ..Behaviour::of(row.options(3))
-        };
-        let is_met = compare(row, run_engine(row, way), true, report);
+        if sink.is_some() {
+            way.failing_write = call;
+        } else {
+            way.failing_read = call;
+        }
+        let is_met = compare(row, runner::run(row, way, true), true, report);
         way.note(report);
         if !is_met {
             return;
@@ -114,12 +120,7 @@ fn fail_device(row: &SheetRow, sink: Option<usize>, report: &mut Differences) {
 
 /// Whether the run came to its end, and the sinks have what they should; or where a device may fail, whether it ended by the
 /// failure and wrote a beginning. Says whether that failure was met.
-fn compare(
-    row: &SheetRow,
-    came: Result<RunOutcome, Message>,
-    may_fail: bool,
-    report: &mut Differences,
-) -> bool {
+fn compare(row: &SheetRow, came: Made<RunOutcome>, may_fail: bool, report: &mut Report) -> bool {
     let outcome = match came {
         Ok(outcome) => outcome,
         Err(message) => {
@@ -136,19 +137,14 @@ fn compare(
 }
 
 /// Whether the engine stayed at its end.
-fn compare_stays(outcome: &RunOutcome, report: &mut Differences) {
+fn compare_stays(outcome: &RunOutcome, report: &mut Report) {
     if !outcome.stays {
         report.tell("the engine goes on after its end");
     }
 }
 
 /// Whether each sink has what the row says, or a beginning of it where that is enough.
-fn compare_sinks(
-    row: &SheetRow,
-    outputs: &MemoryOutputs,
-    is_enough: bool,
-    report: &mut Differences,
-) {
+fn compare_sinks(row: &SheetRow, outputs: &MemoryOutputs, is_enough: bool, report: &mut Report) {
     for sink in 0..outputs.sinks() {
         let written = outputs.bytes(sink);
         let wanted = wanted_of(row, sink);
@@ -171,7 +167,7 @@ fn wanted_of(row: &SheetRow, sink: usize) -> &[u8] {
 }
 
 /// Whether the run ended by the device that failed, where one is given, and else as the row says.
-fn compare_end(row: &SheetRow, end: Ended, failed: Option<Ended>, report: &mut Differences) {
+fn compare_end(row: &SheetRow, end: Ended, failed: Option<Ended>, report: &mut Report) {
     let mut came = Sheet::new(row.alloc);
     put_end(&mut came, end);
     let mut wanted = Sheet::new(row.alloc);
@@ -183,16 +179,16 @@ fn compare_end(row: &SheetRow, end: Ended, failed: Option<Ended>, report: &mut D
 }
 
 /// Runs a row of cycles.
-pub(crate) fn run_cycle(row: &SheetRow, report: &mut Differences) {
+pub(crate) fn run_cycle(row: &SheetRow, report: &mut Report) {
     check_script(row, report);
-    match run_engine(row, Behaviour::of(row.options(3))) {
+    match runner::run(row, Behaviour::of(row.options(3)), true) {
         Ok(outcome) => compare_cycle(row, &outcome, report),
         Err(message) => report.tell(message),
     }
 }
 
 /// Whether the cycle wrote what the row says, and the counts are those of the options.
-fn compare_cycle(row: &SheetRow, outcome: &RunOutcome, report: &mut Differences) {
+fn compare_cycle(row: &SheetRow, outcome: &RunOutcome, report: &mut Report) {
     let cycle = outcome.cycle;
     if outcome.devices.outputs.sinks() > 0 {
         let bytes = outcome.devices.outputs.bytes(0);
@@ -208,7 +204,7 @@ fn compare_cycle(row: &SheetRow, outcome: &RunOutcome, report: &mut Differences)
 }
 
 /// Whether a count is that of the options, where they have one.
-fn compare_count(row: &SheetRow, name: &str, came: u128, report: &mut Differences) {
+fn compare_count(row: &SheetRow, name: &str, came: u128, report: &mut Report) {
     if let Some(wanted) = row.options(3).number(name.as_bytes()) {
         report.compare_numbers(name, came, wanted);
     }

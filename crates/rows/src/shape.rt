@@ -1,14 +1,46 @@
-//! What the rows of a subject look like, so that a mistake in a table is told before its row runs.
+//! What the rows of a subject look like, so that a mistake in a table is found before its row runs.
 //!
-//! A field keeps to a rule: `*` any bytes, `#` a number, `+` a number of nodes, 1 to 65,536, `/` a delimiter, else one of the
-//! words that `|` parts. An option keeps to one of the rules `-n`, a word; `space=#`, a name and the rule of what it is set
-//! to; `w:*`, a beginning.
+//! A field keeps to a rule: `#` a number, `+` a number of nodes, 1 to 65,536, `/` a delimiter, `S*` any bytes that begin so,
+//! else one of the words that `|` parts. An option keeps to one of the rules `space=#`, a name and the rule of what it is set
+//! to, or else to one as a field does: `-n`, `w:*`.
 
 use crate::options::{delimiter_in, parted};
 use std::str;
 
-/// Whether fields keep to the rules for them, and those that follow to the rules of options. Blanks part the rules.
-pub(crate) fn have_shape(fields: &[Vec<u8>], rules: &str, options: &str) -> bool {
+/// The shapes of rows, a line each: the subject, the rules of its fields, and after a `;` those of its options.
+const SHAPES: &str = "expressions basic|extended * * #;delimiter=/ nodes=+
+lists * # is|not *;delimiter=/
+delimiters * # / *;
+matches basic|extended * * # *;most=# least=#
+occurrences basic|extended * * *;most=# least=# groups_most=# groups_least=#
+refusals * none;-E nodes=+
+refusals * S* #;-E nodes=+ inside=#
+readings * *;-E -n r:* w:*
+runs * * *;-n -E cuts F* r:* w:* space=# queue=# look=# turns=# nodes=+ output=# fails=# read=# room=# refuses=# lost=#
+failing * * *;-n -E F* r:* w:* space=# queue=# look=# turns=# nodes=+ output=#
+cycles * * *;-n -E lines taken=# calls=# all=# held=# r:* w:* space=# queue=# look=# turns=# nodes=+ output=# fails=# read=# room=# refuses=#
+limits # # # # # accepted|refused;
+calls * * * #;errors=* errors_begin=* output_begins=* f:* w:* space=# queue=# turns=# nodes=+ output=# fails=# room=# refuses=# write=#";
+
+/// Whether the fields of a row of the subject keep to one of its shapes. None where there is no such subject.
+pub(crate) fn have_shape(fields: &[Vec<u8>], subject: &str) -> Option<bool> {
+    let mut is_known = None;
+    for line in SHAPES.lines() {
+        if let Some((name, shape)) = line.split_once(' ')
+            && name == subject
+        {
+            if keep_to(fields, shape) {
+                return Some(true);
+            }
+            is_known = Some(false);
+        }
+    }
+    is_known
+}
+
+/// Whether fields keep to the rules of a shape for them, and those that follow to the rules of options.
+fn keep_to(fields: &[Vec<u8>], shape: &str) -> bool {
+    let (rules, options) = shape.split_once(';').unwrap_or((shape, ""));
     let mut rest = fields;
     for rule in rules.split(' ') {
         match rest.split_first() {
@@ -16,29 +48,39 @@ pub(crate) fn have_shape(fields: &[Vec<u8>], rules: &str, options: &str) -> bool
             _ => return false,
         }
     }
-    rest.iter().all(|option| options
-        .split(' ')
-        .any(|rule| allows(rule, option.as_slice())))
+    are_allowed(rest, options)
+}
+
+/// Whether one of the rules allows each option.
+fn are_allowed(options: &[Vec<u8>], rules: &str) -> bool {
+    'options: for option in options {
+        for rule in rules.split(' ') {
+            if allows(rule, option.as_slice()) {
+                continue 'options;
+            }
+        }
+        return false;
+    }
+    true
 }
 
 /// Whether the rule allows the option.
 fn allows(rule: &str, option: &[u8]) -> bool {
-    if let Some(beginning) = rule.strip_suffix('*') {
-        return option.starts_with(beginning.as_bytes());
-    }
     match (rule.split_once('='), parted(option, b'=')) {
         (Some((wanted, rule)), Some((name, value))) => {
             name == wanted.as_bytes() && keeps(value, rule)
         }
-        (None, _) => option == rule.as_bytes(),
+        (None, _) => keeps(option, rule),
         _ => false,
     }
 }
 
 /// Whether the bytes keep to the rule.
 fn keeps(bytes: &[u8], rule: &str) -> bool {
+    if let Some(beginning) = rule.strip_suffix('*') {
+        return bytes.starts_with(beginning.as_bytes());
+    }
     match rule.as_bytes() {
-        [b'*'] => true,
         [b'#'] => number_in(bytes).is_some(),
         [b'+'] => matches!(number_in(bytes), Some(1..=65536)),
         [b'/'] => delimiter_in(bytes).is_some(),

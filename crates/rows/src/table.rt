@@ -1,12 +1,12 @@
 //! Tables as they are written.
 //!
-//! A row is a line. Its fields are parted by two blanks or more, so a single blank may stand in one; `decoder` says
+//! A row is a line. Its fields are parted by two blanks or more, so one may have single blanks; `decoder` says
 //! what stands for the bytes of a field. Lines that are empty, or begin with `#` and a blank, are no rows.
 //! A row begins with the fields that its subject asks for; options follow, as `-n` or `space=3`.
 
 use crate::decoder::decoded;
 use crate::options::Options;
-use crate::shape::{have_shape, number_in};
+use crate::shape::number_in;
 use anyhow::{Context, Result};
 use std::alloc::Global;
 
@@ -17,17 +17,11 @@ pub(crate) struct SheetRow {
     pub line: usize,
     /// Where its run takes memory from.
     pub alloc: Global,
-    fields: Vec<Vec<u8>>,
+    pub fields: Vec<Vec<u8>>,
 }
 
 impl SheetRow {
-    /// Whether its fields and options keep to the rules. What follows tells of a field that doesn't, or is missing, that
-    /// it is empty or 0.
-    pub(crate) fn keeps(&self, rules: &str, options: &str) -> bool {
-        have_shape(self.fields.as_slice(), rules, options)
-    }
-
-    /// The field of a number, counted from 0.
+    /// The field of a number, counted from 0. What follows gives one that is missing, or isn't as it has to be, as empty or 0.
     pub(crate) fn field(&self, k: usize) -> &[u8] {
         match self.fields.get(k) {
             Some(field) => field.as_slice(),
@@ -76,4 +70,12 @@ fn fields_of(alloc: Global, line: &str) -> Result<Vec<Vec<u8>>> {
         }
     }
     Ok(fields)
+}
+
+/// Adds a copy of the bytes. None for want of memory.
+pub(crate) fn add_copy(list: &mut Vec<Vec<u8>>, bytes: &[u8]) -> Option<()> {
+    match bytes.to_vec(*list.allocator()) {
+        Ok(copy) => list.push(copy).ok(),
+        Err(_) => None,
+    }
 }
