@@ -15,12 +15,17 @@ use std::env;
 
 fn main(rt: HostRuntime) -> Result<()> {
     let words: Vec<String> = env::args(&rt)?.skip(1).collect(rt.alloc())?;
-    let Some((first, words)) = words.as_slice().split_first() else {
+    run(&rt, words.as_slice())
+}
+
+/// Does what the words after the program's name ask for.
+fn run(rt: &HostRuntime, words: &[String]) -> Result<()> {
+    let Some((first, words)) = words.split_first() else {
         bail!("the first word is make or match")
     };
     match first.as_str() {
-        "make" => requests::make_all(&rt, words),
-        "match" => matching::bench(&rt, words),
+        "make" => requests::make_all(rt, words),
+        "match" => matching::bench(rt, words),
         _ => bail!("the first word is make or match"),
     }
 }

@@ -96,7 +96,6 @@ impl Call {
 }
 
 /// What pieces are searched with.
-#[derive(Drop)]
 struct Searcher {
     tables: TableMatcher,
     seeking: Occurrences,
@@ -116,7 +115,7 @@ impl Searcher {
         match Occurrences::new(alloc, size, MAX_NODES, slice::from_ref(&tables)) {
             Ok(seeking) => Searcher::of(alloc, tables, seeking, size),
             Err(refused) => {
-                drop(tables);
+                tables.close();
                 Err(refused.into())
             }
         }
@@ -142,12 +141,24 @@ impl Searcher {
                 size,
             }),
             Err(refused) => {
-                // by calls: what is let go of where it stands is proved field by field
-                drop(tables);
-                drop(seeking);
+                tables.close();
+                seeking.close();
                 Err(refused.into())
             }
         }
+    }
+
+    /// Lets what it holds go, each by its own call: at the end of its scope it is proved field by field.
+    fn close(self) {
+        let Searcher {
+            tables,
+            seeking,
+            scratch,
+            size: _,
+        } = self;
+        tables.close();
+        seeking.close();
+        scratch.close();
     }
 
     /// Where the first occurrence begins and ends.
@@ -190,61 +201,63 @@ fn kind_named(name: &str) -> Result<Kind> {
     }
 }
 
-/// What the words after the program's name ask for.
-#[derive(Drop)]
+/// The expression of a text.
+fn expression_of(alloc: Global, kind: Kind, text: &str) -> Result<Expr> {
+    match read(alloc, kind, text.as_bytes(), None, MAX_NODES) {
+        Ok(expr) => Ok(expr),
+        Err(fault) => bail!("EXPRESSION has a fault at byte {}", fault.place),
+    }
+}
+
+/// Which call is made over pieces of which size, and how often.
+#[derive(Clone, Copy)]
 struct Job {
     call: Call,
-    expr: Expr,
     size: usize,
     rounds: u32,
 }
 
 impl Job {
-    /// Reads the words.
-    fn of(alloc: Global, words: &[String]) -> Result<Job> {
-        let [call, kind, expression, size, rounds] = words else {
-            bail!("the words are CALL KIND EXPRESSION LENGTH ROUNDS");
-        };
-        let call = Call::named(call)?;
-        let kind = kind_named(kind)?;
-        let expr = match read(alloc, kind, expression.as_bytes(), None, MAX_NODES) {
-            Ok(expr) => expr,
-            Err(fault) => bail!("EXPRESSION has a fault at byte {}", fault.place),
-        };
+    /// Reads the numbers.
+    fn of(call: Call, size: &str, rounds: &str) -> Result<Job> {
         let size = size.parse().context("LENGTH is a number")?;
         let rounds = rounds.parse().context("ROUNDS is a number")?;
-        Ok(Job {
-            call,
-            expr,
-            size,
-            rounds,
-        })
+        Ok(Job { call, size, rounds })
     }
 
     /// Does what is asked for, and counts the hits.
-    fn run(&self, alloc: Global, text: &[u8]) -> Result<u64> {
+    fn run(self, alloc: Global, expr: &Expr, text: &[u8]) -> Result<u64> {
         ensure!(
             1 <= self.size && self.size <= MAX_LENGTH,
             "LENGTH is 1 to {MAX_LENGTH}"
         );
-        let nodes = self.expr.nodes();
-        ensure!(nodes <= MAX_NODES, "EXPRESSION has too many nodes");
-        let mut searcher = Searcher::new(alloc, &self.expr, self.size)?;
-        let hits = self
-            .call
-            .rounds(self.rounds, &self.expr, &mut searcher, text);
-        // by a call: what is let go of where it stands is proved field by field
-        drop(searcher);
+        ensure!(expr.nodes() <= MAX_NODES, "EXPRESSION has too many nodes");
+        let mut searcher = Searcher::new(alloc, expr, self.size)?;
+        let hits = self.call.rounds(self.rounds, expr, &mut searcher, text);
+        searcher.close();
         Ok(hits)
     }
 }
 
-/// Does what the words ask for, over the text of the standard input.
-pub(crate) fn bench(rt: &HostRuntime, words: &[String]) -> Result<()> {
-    let job = Job::of(rt.alloc(), words)?;
+/// Makes the call over the text of the standard input, and writes the hits.
+fn measure(rt: &HostRuntime, call: Call, expr: &Expr, size: &str, rounds: &str) -> Result<()> {
+    let job = Job::of(call, size, rounds)?;
     let mut text = Vec::new(rt.alloc());
     rt.stdin().read_to_end(&mut text)?;
-    let hits = job.run(rt.alloc(), text.as_slice())?;
+    let hits = job.run(rt.alloc(), expr, text.as_slice())?;
     println!(rt; "{hits}")?;
     Ok(())
+}
+
+/// Does what the words ask for, over the text of the standard input.
+pub(crate) fn bench(rt: &HostRuntime, words: &[String]) -> Result<()> {
+    let [call, kind, expression, size, rounds] = words else {
+        bail!("the words are CALL KIND EXPRESSION LENGTH ROUNDS");
+    };
+    let call = Call::named(call)?;
+    let kind = kind_named(kind)?;
+    let expr = expression_of(rt.alloc(), kind, expression)?;
+    let done = measure(rt, call, &expr, size, rounds);
+    drop(expr);
+    done
 }

@@ -4,7 +4,7 @@
 //!     benches make CALL TEXT [CALL TEXT].. > ANSWERS
 //!
 //! Writes for each call what it answered. Requests are refused between the marks that it writes on the standard error
-//! (`marks`): what a call is given is made before, and what it answered is told after.
+//! (`marks`): what a call is given is made before, and what it answered is written after.
 
 mod editing;
 mod given;
@@ -18,14 +18,24 @@ use anyhow::{Result, bail};
 /// Makes the call of this name, over a text.
 fn make(rt: &HostRuntime, name: &str, text: &str) -> Result<()> {
     print!(rt; "{name}: ")?;
-    let is_made = reading::make(rt, name, text)?
-        || editing::make(rt, name, text)?
-        || program::make(rt, name, text)?
-        || spaces::make(rt, name)?;
-    if !is_made {
-        bail!("there is no call {name}");
+    let bytes = text.as_bytes();
+    match name {
+        "read" => reading::read(rt, bytes),
+        "read_folded" => reading::read_folded(rt, bytes),
+        "script" => reading::script(rt, bytes),
+        "add_part" => reading::add_part(rt, bytes),
+        "Scratch::new" => reading::scratch(rt),
+        "Occurrences::new" => reading::occurrences(rt, bytes),
+        "TableMatcher::new" => reading::matcher(rt, bytes),
+        "Engine::open" => editing::open(rt, bytes),
+        "edit" => editing::run_edit(rt, bytes),
+        "cycles" => editing::run_cycles(rt, bytes),
+        "line" => program::read_line(rt, text),
+        "joined" => program::join(rt),
+        "MemorySinks::with_room" => program::make_sinks(rt),
+        "command" => program::run_command(rt, text),
+        _ => spaces::make(rt, name),
     }
-    Ok(())
 }
 
 /// Makes the calls that words name, each over the text after it.

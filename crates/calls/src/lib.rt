@@ -1,4 +1,4 @@
-//! Tests of single calls of the libraries, of what no row of a table can say. They stand in a crate of their own, so that
+//! Tests of single calls of the libraries, of what no row of a table can say. They are a crate of their own, so that
 //! no other crate is proved a second time with them.
 #![tactic(auto)]
 

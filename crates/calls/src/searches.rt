@@ -1,5 +1,6 @@
 //! The parts of a match, what counts as a step, and the one fault that no text has.
 
+use super::spaces::same;
 use sedmatch::{Found, Marks, Text};
 use sedre::Steps;
 use std::process::Abort;
@@ -7,27 +8,16 @@ use std::test::Fail;
 
 #[test]
 fn parts(rt: HostRuntime) {
-    let found = Found {
-        start: 1,
-        end: 3,
-        groups: [
-            Some((1, 3)),
-            Some((2, 2)),
-            None,
-            None,
-            None,
-            None,
-            None,
-            None,
-            None,
-            Some((1, 2)),
-        ],
-    };
-    let text: &[u8] = b"abcd";
-    assert_eq!(rt; found.part(text, 0), b"bc".as_slice());
-    assert_eq!(rt; found.part(text, 1), b"".as_slice());
-    assert_eq!(rt; found.part(text, 2), b"".as_slice());
-    assert_eq!(rt; found.part(text, 9), b"b".as_slice());
+    let mut groups = [None; 10];
+    groups[0] = Some((1, 3));
+    groups[1] = Some((2, 2));
+    groups[9] = Some((1, 2));
+    let (start, end, text) = (1, 3, b"abcd");
+    let found = Found { start, end, groups };
+    same(&rt, found.part(text, 0), b"bc");
+    same(&rt, found.part(text, 1), b"");
+    same(&rt, found.part(text, 2), b"");
+    same(&rt, found.part(text, 9), b"b");
 }
 
 #[test]
@@ -35,15 +25,12 @@ fn looks(rt: HostRuntime) -> Result<(), Fail> {
     let alloc = rt.alloc();
     let mut steps = Steps::new();
     let text = Text::new(b"abcab");
-    assert_eq!(rt; text.len(), 5);
-    assert_eq!(rt; text.byte(2, &mut steps), b'c');
-    assert_eq!(rt; text.find_byte(b'a', 1, &mut steps), Some(3));
-    assert_eq!(rt; text.find_byte(b'x', 1, &mut steps), None);
-    assert_eq!(rt; steps.count(), 8);
+    assert!(rt; text.len() == 5 && text.byte(2, &mut steps) == b'c');
+    assert!(rt; text.find_byte(b'a', 1, &mut steps) == Some(3));
+    assert!(rt; text.find_byte(b'x', 1, &mut steps).is_none() && steps.count() == 8);
     let mut marks = Marks::new(alloc, 70)?;
     marks.set(69, true, &mut steps);
-    assert!(rt; marks.get(69, &mut steps) && !marks.get(68, &mut steps));
-    assert_eq!(rt; steps.count(), 11);
+    assert!(rt; marks.get(69, &mut steps) && !marks.get(68, &mut steps) && steps.count() == 11);
     Ok(())
 }
 
@@ -51,6 +38,5 @@ fn looks(rt: HostRuntime) -> Result<(), Fail> {
 #[test]
 fn memory_refused(rt: HostRuntime) {
     let fault = sedre::NO_MEMORY;
-    assert_eq!(rt; fault.reason.number(), 14);
-    assert_eq!(rt; fault.reason.name(), "NoMemory");
+    assert!(rt; fault.reason.number() == 14 && fault.reason.name() == "NoMemory");
 }

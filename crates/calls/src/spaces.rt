@@ -1,6 +1,6 @@
 //! Spaces and queues: calls that succeed, and their values.
 
-use sedspace::{Full, Queue, Space};
+use sedspace::{Queue, Space};
 use std::process::Abort;
 use std::test::Fail;
 
@@ -11,17 +11,14 @@ pub fn same(rt: &impl Abort, found: &[u8], wanted: &[u8]) {
 #[test]
 fn a_space_within_its_limit(rt: HostRuntime) -> Result<(), Fail> {
     let mut space = Space::new(rt.alloc(), 5)?;
-    space.append(b"ab")?;
-    space.append_line(b"cd")?;
-    assert!(rt; space.append(b"e") == Err(Full));
-    assert!(rt; space.append_line(b"") == Err(Full));
-    assert!(rt; space.set(b"abcdef") == Err(Full));
+    assert!(rt; space.append(b"ab").is_ok() && space.append_line(b"cd").is_ok());
+    assert!(rt; space.append(b"e").is_err() && space.append_line(b"").is_err());
+    assert!(rt; space.set(b"abcdef").is_err());
     same(&rt, space.line(), b"ab\ncd\n");
     same(&rt, space.first_line(), b"ab\n");
     assert!(rt; space.cut_line() && !space.cut_line());
     same(&rt, space.first_line(), b"cd\n");
-    space.append(b"ef")?;
-    space.append(b"g")?;
+    assert!(rt; space.append(b"ef").is_ok() && space.append(b"g").is_ok());
     same(&rt, space.line(), b"cdefg\n");
     assert!(rt; space.len() == 5 && space.limit() == 5);
     Ok(())
@@ -31,8 +28,7 @@ fn a_space_within_its_limit(rt: HostRuntime) -> Result<(), Fail> {
 fn a_space_grows_short(rt: HostRuntime) -> Result<(), Fail> {
     let mut space = Space::new(rt.alloc(), 5)?;
     let mut other = Space::new(rt.alloc(), 5)?;
-    space.set(b"cdefg")?;
-    other.set(b"\n")?;
+    assert!(rt; space.set(b"cdefg").is_ok() && other.set(b"\n").is_ok());
     space.truncate(9);
     space.truncate(3);
     space.swap(&mut other);
@@ -50,8 +46,7 @@ fn a_space_by_a_table(rt: HostRuntime) -> Result<(), Fail> {
     table[b'c' as usize] = b'\n';
     table[b'\xff' as usize] = b'\0';
     let mut space = Space::new(rt.alloc(), 9)?;
-    space.set(b"ab\ncd\xff\n")?;
-    assert!(rt; space.cut_line());
+    assert!(rt; space.set(b"ab\ncd\xff\n").is_ok() && space.cut_line());
     space.translate(&table);
     same(&rt, space.line(), b"\n.\0.\n");
     space.truncate(0);
@@ -63,13 +58,10 @@ fn a_space_by_a_table(rt: HostRuntime) -> Result<(), Fail> {
 #[test]
 fn a_queue_within_its_limit(rt: HostRuntime) -> Result<(), Fail> {
     let mut queue = Queue::new(rt.alloc(), 2)?;
-    queue.push(7)?;
-    queue.push(u64::MAX)?;
-    assert!(rt; queue.push(9) == Err(Full));
+    let mut none = Queue::new(rt.alloc(), 0)?;
+    assert!(rt; queue.push(7).is_ok() && queue.push(u64::MAX).is_ok() && queue.push(9).is_err());
     assert!(rt; queue.len() == 2 && queue.entry(0) == 7 && queue.entry(1) == u64::MAX);
     queue.clear();
-    assert!(rt; queue.len() == 0);
-    let mut none = Queue::new(rt.alloc(), 0)?;
-    assert!(rt; none.push(1) == Err(Full));
+    assert!(rt; queue.len() == 0 && none.push(1).is_err());
     Ok(())
 }

@@ -34,6 +34,7 @@ pub fn run(alloc: Global, text: &[u8], input: &[u8]) -> Result<(Vec<u8>, Option<
     let Some(limits) = Limits::new(1 << 16, 64, 4096, 1 << 20, 1024) else {
         bail!("a limit is out of its range");
     };
+    let mut lines = Lines::new(alloc, FromReader::new(input), limits.look())?;
     let script = match read(alloc, text, Kind::Basic, limits.nodes()) {
         Ok(script) if script.wfiles().is_empty() => script,
         Ok(script) => {
@@ -42,7 +43,6 @@ pub fn run(alloc: Global, text: &[u8], input: &[u8]) -> Result<(Vec<u8>, Option<
         }
         Err(fault) => bail!("byte {}: {}", fault.place, fault.reason.name()),
     };
-    let mut lines = Lines::new(alloc, FromReader::new(input), limits.look())?;
     let mut engine = Engine::open(alloc, script, limits)?;
     let mut output = ToWriter::new(Vec::new(alloc));
     let mut texts = MemoryTexts::new(Vec::new(alloc));

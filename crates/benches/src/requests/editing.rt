@@ -1,30 +1,19 @@
 //! The engine and its runs.
 
-ghost use Rattle.std.specs.Prelude.{◌≡◌, ◌<◌, ◌≤◌, length};
+ghost use Rattle.std.specs.Prelude.{◌≡◌, ◌<◌, ◌≤◌, length, IfOk};
 
-use crate::requests::given::{limits, outputs_of, script_of, source, texts};
-use crate::requests::marks::{begin, end};
+use crate::requests::given::{INPUT, LOOK, RunDevices, limits, script_of};
+use crate::requests::marks::{answer, begin, end};
 use anyhow::Result;
 use sededit::edit;
 use sedengine::{Ended, Engine, Limits, Progress};
 use sedscript::Script;
-use sedspace::{ByteSource, Lines, MemoryOutputs, MemorySource, Outputs, Texts};
+use sedspace::{ByteSource, FromReader, Lines, MemoryOutputs, Outputs, Room, Texts};
 use std::alloc::{AllocError, Global};
 use std::str;
 
 /// The most cycles of a run.
 const CYCLES: usize = 8;
-
-/// Makes the call of this name. Whether it is one of these.
-pub(crate) fn make(rt: &HostRuntime, name: &str, text: &str) -> Result<bool> {
-    match name {
-        "Engine::open" => open(rt, text.as_bytes())?,
-        "edit" => run_edit(rt, text.as_bytes())?,
-        "cycles" => run_cycles(rt, text.as_bytes())?,
-        _ => return Ok(false),
-    }
-    Ok(true)
-}
 
 /// How much an engine holds that was just opened.
 fn held_at_start(alloc: Global, script: Script, limits: Limits) -> Result<u128, AllocError>
@@ -36,14 +25,12 @@ fn held_at_start(alloc: Global, script: Script, limits: Limits) -> Result<u128, 
     Ok(held)
 }
 
-fn open(rt: &HostRuntime, text: &[u8]) -> Result<()> {
+pub(crate) fn open(rt: &HostRuntime, text: &[u8]) -> Result<()> {
     let limits = limits()?;
     let script = script_of(rt.alloc(), text)?;
     begin(rt);
     let held = held_at_start(rt.alloc(), script, limits);
-    end(rt);
-    println!(rt; "{held:?}")?;
-    Ok(())
+    answer(rt, &held)
 }
 
 /// The bytes of the standard output.
@@ -54,26 +41,35 @@ fn written(outputs: &MemoryOutputs) -> &str {
     str::from_utf8(outputs.bytes(0)).unwrap_or("no text")
 }
 
-fn run_edit(rt: &HostRuntime, text: &[u8]) -> Result<()> {
+pub(crate) fn run_edit(rt: &HostRuntime, text: &[u8]) -> Result<()> {
+    let mut devices = RunDevices::new(rt.alloc())?;
+    let done = edit_over(rt, text, &mut devices);
+    drop(devices);
+    done
+}
+
+/// Edits the input, and writes what came of it.
+fn edit_over(rt: &HostRuntime, text: &[u8], devices: &mut RunDevices) -> Result<()>
+    requires { length devices.old.outputs.held ≡ 1 }
+{
     let limits = limits()?;
     let script = script_of(rt.alloc(), text)?;
-    let mut source = source(rt.alloc())?;
-    let mut outputs = outputs_of(rt.alloc(), &script)?;
-    let mut texts = texts(rt.alloc())?;
+    let mut source = FromReader::new(INPUT);
+    let outputs = &mut devices.outputs;
     begin(rt);
     let ended = edit(
         rt.alloc(),
         script,
         limits,
         &mut source,
-        &mut outputs,
-        &mut texts,
+        outputs,
+        &mut devices.texts,
     );
     end(rt);
-    let is_touched = source.calls() > 0 || outputs.writes(0) > 0;
+    let is_touched = source.reader().len() < INPUT.len() || devices.outputs.writes(0) > 0;
     println!(rt;
         "{ended:?}, wrote {:?}, touched {is_touched}",
-        written(&outputs)
+        written(&devices.outputs)
     )?;
     Ok(())
 }
@@ -99,18 +95,50 @@ fn cycles<R: ByteSource, O: Outputs, T: Texts>(
     None
 }
 
-fn run_cycles(rt: &HostRuntime, text: &[u8]) -> Result<()> {
+/// An engine that runs the script of a text.
+fn engine_of(alloc: Global, text: &[u8]) -> Result<Engine>
+    ensures { IfOk result (λ e. (e.limits.look ≡ 8) × (length e.script.wfiles ≡ 0)) }
+{
     let limits = limits()?;
-    let script = script_of(rt.alloc(), text)?;
-    let mut outputs = outputs_of(rt.alloc(), &script)?;
-    let mut texts = texts(rt.alloc())?;
-    let mut lines = Lines::new(rt.alloc(), source(rt.alloc())?, limits.look())?;
-    let mut engine = Engine::open(rt.alloc(), script, limits)?;
+    Ok(Engine::open(alloc, script_of(alloc, text)?, limits)?)
+}
+
+pub(crate) fn run_cycles(rt: &HostRuntime, text: &[u8]) -> Result<()> {
+    let mut devices = RunDevices::new(rt.alloc())?;
+    let done = cycles_over(rt, text, &mut devices);
+    drop(devices);
+    done
+}
+
+/// Runs cycles over the input, and writes what came of them.
+fn cycles_over(rt: &HostRuntime, text: &[u8], devices: &mut RunDevices) -> Result<()>
+    requires { length devices.old.outputs.held ≡ 1 }
+{
+    let room = Room::new(rt.alloc(), LOOK)?;
+    let mut engine = engine_of(rt.alloc(), text)?;
+    let mut lines = Lines::over(FromReader::new(INPUT), room);
     let mut held = [0; CYCLES];
     begin(rt);
-    let ended = cycles(&mut engine, &mut lines, &mut outputs, &mut texts, &mut held);
+    let outputs = &mut devices.outputs;
+    let ended = cycles(
+        &mut engine,
+        &mut lines,
+        outputs,
+        &mut devices.texts,
+        &mut held,
+    );
     end(rt);
     engine.close();
-    println!(rt; "{ended:?}, wrote {:?}, held {held:?}", written(&outputs))?;
+    write_cycles(rt, ended, &devices.outputs, &held)
+}
+
+/// Writes what came of cycles.
+fn write_cycles(
+    rt: &HostRuntime,
+    ended: Option<Ended>,
+    outputs: &MemoryOutputs,
+    held: &[u128; CYCLES],
+) -> Result<()> {
+    println!(rt; "{ended:?}, wrote {:?}, held {held:?}", written(outputs))?;
     Ok(())
 }

@@ -1,4 +1,4 @@
-//! What calls are given: expressions, scripts and devices. Where one can't be made, nothing is told of a call.
+//! What calls are given: expressions, scripts and devices. Where one can't be made, nothing is written of a call.
 
 ghost use Rattle.std.specs.Prelude.{◌≡◌, ◌<◌, ◌≤◌, length, IfOk};
 
@@ -6,11 +6,14 @@ use anyhow::{Result, bail};
 use sedengine::Limits;
 use sedre::{Expr, Kind};
 use sedscript::Script;
-use sedspace::{MemoryOutputs, MemorySource, MemoryTexts, Outputs};
+use sedspace::{MemoryOutputs, MemoryTexts};
 use std::alloc::Global;
 
 /// The most nodes of an expression.
 pub(crate) const NODES: usize = 1000;
+
+/// The bytes that are read ahead.
+pub(crate) const LOOK: usize = 8;
 
 /// The input.
 pub(crate) const INPUT: &[u8] = b"aab\nb\nxax\n\nab,ba\nlast";
@@ -33,47 +36,47 @@ pub(crate) fn expression_of(alloc: Global, text: &[u8]) -> Result<Expr>
 
 /// Small limits, with few bytes read ahead.
 pub(crate) fn limits() -> Result<Limits>
-    ensures { IfOk result (λ l. l.nodes ≡ 1000) }
+    ensures { IfOk result (λ l. (l.nodes ≡ 1000) × (l.look ≡ 8)) }
 {
-    match Limits::new(200, 4, 8, 1000, NODES) {
+    match Limits::new(200, 4, LOOK, 1000, NODES) {
         Some(limits) => Ok(limits),
         None => bail!("a limit is out of its range"),
     }
 }
 
-/// The script of a text.
+/// The script of a text, which writes no file.
 pub(crate) fn script_of(alloc: Global, text: &[u8]) -> Result<Script>
-    ensures { IfOk result (λ s. s.max_nodes ≤ 1000) }
+    ensures { IfOk result (λ s. (s.max_nodes ≤ 1000) × (length s.wfiles ≡ 0)) }
 {
     match sedscript::read(alloc, text, Kind::Basic, NODES) {
-        Ok(script) if script.max_nodes() <= NODES => Ok(script),
+        Ok(script) if script.wfiles().is_empty() => Ok(script),
         Ok(script) => {
             script.close();
-            bail!("the expressions are too large")
+            bail!("the script writes files")
         }
         Err(fault) => bail!("the script is refused: {fault:?}"),
     }
 }
 
-/// The input as a source.
-pub(crate) fn source(alloc: Global) -> Result<MemorySource> {
-    Ok(MemorySource::new(INPUT.to_vec(alloc)?, Vec::new(alloc)))
+/// What a run writes to, and what its script reads.
+#[derive(Drop)]
+pub(crate) struct RunDevices {
+    /// The standard output.
+    pub(crate) outputs: MemoryOutputs,
+    /// The file that scripts read.
+    pub(crate) texts: MemoryTexts,
 }
 
-/// The standard output of a script that writes no file.
-pub(crate) fn outputs_of(alloc: Global, script: &Script) -> Result<MemoryOutputs>
-    ensures { IfOk result (λ o. length script.now.wfiles < length o.held) }
-{
-    let outputs = MemoryOutputs::with_room(alloc, 1, ROOM)?;
-    if script.wfiles().len() >= outputs.sinks() {
-        bail!("the script writes files");
+impl RunDevices {
+    /// Devices that were not used yet.
+    pub(crate) fn new(alloc: Global) -> Result<RunDevices>
+        ensures { IfOk result (λ d. length d.outputs.held ≡ 1) }
+    {
+        let mut texts = Vec::new(alloc);
+        texts.push(FILE.to_vec(alloc)?)?;
+        Ok(RunDevices {
+            texts: MemoryTexts::new(texts),
+            outputs: MemoryOutputs::with_room(alloc, 1, ROOM)?,
+        })
     }
-    Ok(outputs)
-}
-
-/// The file that scripts read, as a text.
-pub(crate) fn texts(alloc: Global) -> Result<MemoryTexts> {
-    let mut texts = Vec::new(alloc);
-    texts.push(FILE.to_vec(alloc)?)?;
-    Ok(MemoryTexts::new(texts))
 }

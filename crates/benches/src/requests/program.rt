@@ -3,40 +3,24 @@
 ghost use Rattle.std.specs.Prelude.{◌≡◌, [], IfOk};
 
 use crate::requests::given::{FILE, INPUT, limits};
-use crate::requests::marks::{begin, end};
+use crate::requests::marks::{answer, answer_made, begin, end};
 use anyhow::Result;
 use sededit::{
     Joined, Line, MemoryFile, MemoryInputs, MemoryNames, MemorySinks, Refused, command, line,
 };
 use std::alloc::Global;
-use std::str;
+use std::{slice, str};
 
 /// The bytes that an output takes.
 const ROOM: usize = 1000;
 
-/// Makes the call of this name. Whether it is one of these.
-pub(crate) fn make(rt: &HostRuntime, name: &str, text: &str) -> Result<bool> {
-    match name {
-        "line" => read_line(rt, text)?,
-        "joined" => join(rt)?,
-        "MemorySinks::with_room" => make_sinks(rt)?,
-        "command" => run_command(rt, text)?,
-        _ => return Ok(false),
-    }
-    Ok(true)
-}
-
 /// The words of a command line with each option, a script and files.
-fn words_with(alloc: Global, script: &str) -> Result<Vec<String>> {
-    let mut words = Vec::new(alloc);
-    for word in ["-n", "-E", "-e", script, "-f", "program", "f", "-"] {
-        words.push(String::from_str(alloc, word)?)?;
-    }
-    Ok(words)
+fn words_with(script: &str) -> [&str; 8] {
+    ["-n", "-E", "-e", script, "-f", "program", "f", "-"]
 }
 
 /// How many words of scripts and files a line has.
-fn count_of(read: Result<Line, Refused>) -> Result<usize, &'static str> {
+fn count_of(read: &Result<Line, Refused>) -> Result<usize, &'static str> {
     match read {
         Ok(line) => Ok(line.parts.len().saturating_add(line.operands.len())),
         Err(Refused::NoMemory) => Err("no memory"),
@@ -44,26 +28,21 @@ fn count_of(read: Result<Line, Refused>) -> Result<usize, &'static str> {
     }
 }
 
-fn read_line(rt: &HostRuntime, script: &str) -> Result<()> {
-    let words = words_with(rt.alloc(), script)?;
+pub(crate) fn read_line(rt: &HostRuntime, script: &str) -> Result<()> {
     begin(rt);
-    let count = count_of(line(rt.alloc(), words.as_slice()));
-    end(rt);
-    println!(rt; "{count:?}")?;
-    Ok(())
-}
-
-/// A file in memory.
-fn file(alloc: Global, name: &str, text: &[u8]) -> Result<MemoryFile> {
-    let name = String::from_str(alloc, name)?;
-    Ok(MemoryFile::new(name, text.to_vec(alloc)?))
+    let line = line(rt.alloc(), &words_with(script));
+    let count = count_of(&line);
+    drop(line);
+    answer(rt, &count)
 }
 
 /// The files that can be read.
 fn files(alloc: Global) -> Result<Vec<MemoryFile>> {
     let mut files = Vec::new(alloc);
-    files.push(file(alloc, "program", b"$!d\n")?)?;
-    files.push(file(alloc, "f", FILE)?)?;
+    for (name, text) in [("program", b"$!d\n".as_slice()), ("f", FILE)].iter() {
+        let name = String::from_str(alloc, name)?;
+        files.push(MemoryFile::new(name, text.to_vec(alloc)?))?;
+    }
     Ok(files)
 }
 
@@ -81,57 +60,74 @@ fn sinks(alloc: Global) -> Result<MemorySinks>
     Ok(MemorySinks::with_room(alloc, names, ROOM)?)
 }
 
-fn join(rt: &HostRuntime) -> Result<()> {
-    let names = words_with(rt.alloc(), "p")?;
+/// The devices of a call of the program.
+#[derive(Drop)]
+struct CallDevices {
+    inputs: MemoryInputs,
+    sinks: MemorySinks,
+    names: MemoryNames,
+    errors: Vec<u8>,
+}
+
+impl CallDevices {
+    /// Devices that were not used yet.
+    fn new(alloc: Global) -> Result<CallDevices>
+        ensures { IfOk result (λ d. (d.sinks.created ≡ 0) × (d.names.named ≡ [])) }
+    {
+        Ok(CallDevices {
+            errors: Vec::with_capacity(alloc, ROOM)?,
+            sinks: sinks(alloc)?,
+            names: MemoryNames::new(alloc, files(alloc)?),
+            inputs: inputs(alloc)?,
+        })
+    }
+}
+
+pub(crate) fn join(rt: &HostRuntime) -> Result<()> {
+    let name = String::from_str(rt.alloc(), "f")?;
     let inputs = inputs(rt.alloc())?;
     begin(rt);
-    let is_made = Joined::new(rt.alloc(), inputs, names.as_slice()).is_ok();
-    end(rt);
-    println!(rt; "{is_made}")?;
-    Ok(())
+    answer_made(rt, Joined::new(rt.alloc(), inputs, slice::from_ref(&name)))
 }
 
-fn make_sinks(rt: &HostRuntime) -> Result<()> {
+pub(crate) fn make_sinks(rt: &HostRuntime) -> Result<()> {
     let names = Vec::new(rt.alloc());
     begin(rt);
-    let is_made = MemorySinks::with_room(rt.alloc(), names, ROOM).is_ok();
-    end(rt);
-    println!(rt; "{is_made}")?;
-    Ok(())
+    answer_made(rt, MemorySinks::with_room(rt.alloc(), names, ROOM))
 }
 
-fn run_command(rt: &HostRuntime, script: &str) -> Result<()> {
+pub(crate) fn run_command(rt: &HostRuntime, script: &str) -> Result<()> {
+    let mut devices = CallDevices::new(rt.alloc())?;
+    let done = run_over(rt, script, &mut devices);
+    drop(devices);
+    done
+}
+
+/// Runs the program over devices, and writes what came of it.
+fn run_over(rt: &HostRuntime, script: &str, devices: &mut CallDevices) -> Result<()>
+    requires sinks { devices.old.sinks.created ≡ 0 }
+    requires names { devices.old.names.named ≡ [] }
+{
     let limits = limits()?;
-    let mut errors = Vec::with_capacity(rt.alloc(), ROOM)?;
-    let words = words_with(rt.alloc(), script)?;
-    let mut names = MemoryNames::new(rt.alloc(), files(rt.alloc())?);
-    let mut sinks = sinks(rt.alloc())?;
-    let mut inputs = inputs(rt.alloc())?;
     begin(rt);
     let status = command(
         rt.alloc(),
-        words.as_slice(),
+        &words_with(script),
         limits,
-        &mut inputs,
-        &mut sinks,
-        &mut names,
-        &mut errors,
+        &mut devices.inputs,
+        &mut devices.sinks,
+        &mut devices.names,
+        &mut devices.errors,
     );
     end(rt);
-    tell_call(rt, status, &inputs, &sinks, errors.as_slice())
+    write_call(rt, status, devices)
 }
 
 /// Tells what came of a call of the program.
-fn tell_call(
-    rt: &HostRuntime,
-    status: u8,
-    inputs: &MemoryInputs,
-    sinks: &MemorySinks,
-    errors: &[u8],
-) -> Result<()> {
-    let written = str::from_utf8(sinks.bytes(0)).unwrap_or("no text");
-    let message = str::from_utf8(errors).unwrap_or("no text");
-    let is_read = inputs.calls() > 0;
+fn write_call(rt: &HostRuntime, status: u8, devices: &CallDevices) -> Result<()> {
+    let written = str::from_utf8(devices.sinks.bytes(0)).unwrap_or("no text");
+    let message = str::from_utf8(devices.errors.as_slice()).unwrap_or("no text");
+    let is_read = devices.inputs.calls() > 0;
     println!(rt; "{status}, wrote {written:?}, said {message:?}, read {is_read}")?;
     Ok(())
 }

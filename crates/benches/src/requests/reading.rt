@@ -2,31 +2,15 @@
 ghost use Rattle.std.specs.Prelude.{◌≤◌, length};
 
 use crate::requests::given::{NODES, expression_of};
-use crate::requests::marks::{begin, end};
+use crate::requests::marks::{answer, answer_made, begin, end};
 use anyhow::Result;
 use sedmatch::{Occurrences, Scratch, TableMatcher, TableRoom};
 use sedre::{Expr, ExprFault, Kind, Steps};
 use sedscript::{Script, ScriptFault};
-use std::alloc::{AllocError, Global};
 use std::slice;
 
 /// The most bytes of a text that is searched.
 const TEXT: usize = 100;
-
-/// Makes the call of this name. Whether it is one of these.
-pub(crate) fn make(rt: &HostRuntime, name: &str, text: &str) -> Result<bool> {
-    match name {
-        "read" => read(rt, text.as_bytes())?,
-        "read_folded" => read_folded(rt, text.as_bytes())?,
-        "script" => script(rt, text.as_bytes())?,
-        "add_part" => add_part(rt, text.as_bytes())?,
-        "Scratch::new" => scratch(rt)?,
-        "Occurrences::new" => occurrences(rt, text.as_bytes())?,
-        "TableMatcher::new" => matcher(rt, text.as_bytes())?,
-        _ => return Ok(false),
-    }
-    Ok(true)
-}
 
 /// How many nodes an expression has.
 fn nodes_of(read: Result<Expr, ExprFault>) -> Result<usize, ExprFault> {
@@ -36,39 +20,37 @@ fn nodes_of(read: Result<Expr, ExprFault>) -> Result<usize, ExprFault> {
     }
 }
 
-fn read(rt: &HostRuntime, text: &[u8]) -> Result<()> {
+pub(crate) fn read(rt: &HostRuntime, text: &[u8]) -> Result<()> {
     begin(rt);
     let nodes = nodes_of(sedre::read(rt.alloc(), Kind::Basic, text, None, NODES));
-    end(rt);
-    println!(rt; "{nodes:?}")?;
-    Ok(())
+    answer(rt, &nodes)
 }
 
-fn read_folded(rt: &HostRuntime, text: &[u8]) -> Result<()> {
+pub(crate) fn read_folded(rt: &HostRuntime, text: &[u8]) -> Result<()> {
     begin(rt);
     let nodes = nodes_of(sedre::read_folded(rt.alloc(), Kind::Basic, text, None, NODES));
-    end(rt);
-    println!(rt; "{nodes:?}")?;
-    Ok(())
+    answer(rt, &nodes)
 }
 
 /// How many commands a script has.
 fn commands_of(read: Result<Script, ScriptFault>) -> Result<usize, ScriptFault> {
     match read {
-        Ok(script) => Ok(script.len()),
+        Ok(script) => {
+            let commands = script.len();
+            script.close();
+            Ok(commands)
+        }
         Err(fault) => Err(fault),
     }
 }
 
-fn script(rt: &HostRuntime, text: &[u8]) -> Result<()> {
+pub(crate) fn script(rt: &HostRuntime, text: &[u8]) -> Result<()> {
     begin(rt);
     let commands = commands_of(sedscript::read(rt.alloc(), text, Kind::Basic, NODES));
-    end(rt);
-    println!(rt; "{commands:?}")?;
-    Ok(())
+    answer(rt, &commands)
 }
 
-fn add_part(rt: &HostRuntime, part: &[u8]) -> Result<()> {
+pub(crate) fn add_part(rt: &HostRuntime, part: &[u8]) -> Result<()> {
     let mut text = b"p\n".to_vec(rt.alloc())?;
     begin(rt);
     let added = sedscript::add_part(&mut text, part);
@@ -77,51 +59,34 @@ fn add_part(rt: &HostRuntime, part: &[u8]) -> Result<()> {
     Ok(())
 }
 
-/// Makes room for searches, and lets it go by a call: where it stands it is let go of field by field.
-fn make_scratch(alloc: Global) -> Result<(), AllocError> {
-    drop(Scratch::new(alloc, TEXT, NODES)?);
-    Ok(())
-}
-
-fn scratch(rt: &HostRuntime) -> Result<()> {
+pub(crate) fn scratch(rt: &HostRuntime) -> Result<()> {
     begin(rt);
-    let is_made = make_scratch(rt.alloc()).is_ok();
-    end(rt);
-    println!(rt; "{is_made}")?;
-    Ok(())
+    let made = Scratch::new(rt.alloc(), TEXT, NODES);
+    answer_made(rt, made.map(Scratch::close))
 }
 
-/// Makes room to seek the occurrences of an expression.
-fn make_occurrences(alloc: Global, matcher: &TableMatcher) -> Result<(), AllocError>
+/// Makes room to seek the occurrences of an expression, and writes whether it could be made.
+fn occurrences_of(rt: &HostRuntime, matcher: &TableMatcher) -> Result<()>
     requires { length matcher.now.nodes ≤ 1000 }
 {
-    drop(Occurrences::new(alloc, TEXT, NODES, slice::from_ref(matcher))?);
-    Ok(())
+    begin(rt);
+    let made = Occurrences::new(rt.alloc(), TEXT, NODES, slice::from_ref(matcher));
+    answer_made(rt, made.map(Occurrences::close))
 }
 
-fn occurrences(rt: &HostRuntime, text: &[u8]) -> Result<()> {
+pub(crate) fn occurrences(rt: &HostRuntime, text: &[u8]) -> Result<()> {
     let expr = expression_of(rt.alloc(), text)?;
     let room = TableRoom::ample();
     let matcher = TableMatcher::new(rt.alloc(), &expr, room, &mut Steps::new())?;
-    begin(rt);
-    let is_made = make_occurrences(rt.alloc(), &matcher).is_ok();
-    end(rt);
-    drop(matcher);
-    println!(rt; "{is_made}")?;
-    Ok(())
+    let done = occurrences_of(rt, &matcher);
+    matcher.close();
+    done
 }
 
-/// Makes the matcher of an expression.
-fn make_matcher(alloc: Global, expr: &Expr) -> Result<(), AllocError> {
-    drop(TableMatcher::new(alloc, expr, TableRoom::ample(), &mut Steps::new())?);
-    Ok(())
-}
-
-fn matcher(rt: &HostRuntime, text: &[u8]) -> Result<()> {
+pub(crate) fn matcher(rt: &HostRuntime, text: &[u8]) -> Result<()> {
     let expr = expression_of(rt.alloc(), text)?;
     begin(rt);
-    let is_made = make_matcher(rt.alloc(), &expr).is_ok();
-    end(rt);
-    println!(rt; "{is_made}")?;
-    Ok(())
+    let room = TableRoom::ample();
+    let made = TableMatcher::new(rt.alloc(), &expr, room, &mut Steps::new());
+    answer_made(rt, made.map(TableMatcher::close))
 }
