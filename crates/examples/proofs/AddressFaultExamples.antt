@@ -16,7 +16,7 @@ use Rattle.sedscript.specs.Items.{match_at, address_at, second_at, addresses_at,
 use Rattle.sedscript.specs.Letters.{substituted}
 use Rattle.sedscript.specs.Arguments.{text_from}
 
--- No function stands where one is expected: that place.
+-- There is no function where one is expected: that place.
 
 no_such_function : Faulty (codes "k") Basic 65536 (fault_at 0 fault.UnknownCommand)
 unfolding verdict cutting walked item_at past function_at addresses_at address_at
@@ -168,7 +168,7 @@ newline_as_delimiter : Faulty (codes "\\\na\np") Basic 65536 (fault_at 1 fault.B
 unfolding verdict cutting walked item_at past function_at addresses_at address_at match_at substitute_at substituted delimiter_at outcome rest_of token_at text_from
 newline_as_delimiter = has_fault refl
 
--- A regular expression has a fault, told at its place in the script and in the expression.
+-- A regular expression has a fault, reported at its place in the script and in the expression.
 
 open_group_in_an_address : Faulty (codes "/\\(/p") Basic 65536 (expression_fault_at 3 2 expression.OpenGroup)
 unfolding verdict cutting walked item_at past function_at addresses_at address_at match_at substitute_at substituted delimiter_at outcome rest_of token_at
@@ -186,7 +186,7 @@ fault_of_the_second_address : Faulty (codes "/a/,/*/p") Extended 65536 (expressi
 unfolding verdict cutting walked item_at past function_at addresses_at address_at second_at match_at substitute_at substituted delimiter_at outcome rest_of token_at text_from
 fault_of_the_second_address = has_fault refl
 
--- The flag I stands after an empty expression.
+-- The flag I follows an empty expression.
 
 flag_on_an_empty_address : Faulty (codes "//Ip") Basic 65536 (fault_at 2 fault.FlagOnEmpty)
 unfolding verdict cutting walked item_at past function_at addresses_at address_at match_at substitute_at substituted delimiter_at outcome rest_of token_at

@@ -1,18 +1,18 @@
--- Where a byte stands that no backslash escapes.
+-- The places of a byte that no backslash escapes.
 use Rattle.std.proofs.Common.{◌≡◌, ℕ, zero, suc, ◌+◌, ◌-◌, ◌<◌, ◌≤◌, ◌==◌, ◌%◌, ◌⊎◌, inl, inr, Bool, true, false, if◌then◌else◌, List, [], ◌∷◌, length, take, drop, Option, Some, slice_get, refl, sym, ap, ◌∙◌, arith}
 use Rattle.std.proofs.lemmas.Bool.{eqb-true, eqb-false}
 use Rattle.examples.specs.Backslashes.{backslashes, IsUnescaped, NoneUnescaped}
 
--- how many backslashes stand before a byte, after another one
+-- how many backslashes come directly before the byte after this one
 abbrev pub next : ℕ → ℕ → ℕ
 next n b = if b == 92 then suc n else 0
 
--- the byte stands at a place of a list, with an even number of backslashes before it, where so many stand before the list
+-- the byte is at a place of a list, with an even number of backslashes before it, where so many come before the list
 pub record Free (byte n : ℕ) (bs : List ℕ) (k : ℕ) : Type 0 where
   pub stands : slice_get bs k ≡ Some byte
   pub even : backslashes n (take k bs) % 2 ≡ 0
 
--- a place of a list up to which no such byte stands: one does there, or, if that may be, the list ends
+-- a place of a list before which there is no such byte: one is there, or, if that may be, the list ends
 pub record Reaches (may_end : Bool) (byte n : ℕ) (bs : List ℕ) (at to : ℕ) : Type 0 where
   pub k : ℕ
   pub place : to ≡ at + k
@@ -96,11 +96,11 @@ behind byte n b k bs f = record { stands = f.stands; even = f.even }
 pub onto : (byte n b k : ℕ) (bs : List ℕ) → Free byte (next n b) bs k → Free byte n (b ∷ bs) (suc k)
 onto byte n b k bs f = record { stands = f.stands; even = f.even }
 
--- another byte stands first
+-- another byte comes first
 pub not_first : (byte n b : ℕ) (bs : List ℕ) → (b == byte) ≡ false → Free byte n (b ∷ bs) 0 → ⊥
 not_first byte n b bs is f = eqb-false b byte is (same_byte b byte f.stands)
 
--- none stands so right after a backslash that none escapes
+-- none occurs so right after a backslash that none escapes
 pub escaped_first : (byte n b c : ℕ) (cs : List ℕ) → (b == 92) ≡ true → n % 2 ≡ 0 → Free byte (next n b) (c ∷ cs) 0 → ⊥
 escaped_first byte n b c cs is even f =
     let odd : next n b % 2 ≡ 1 = rw is (odd_more n even) in

@@ -121,7 +121,7 @@ two_options_in_a_word heap = record {
   asks = rw (nE_letters, n_bytes, E_letters) ((refl, refl), refl);
 }
 
--- `sed -ep -e P a`: the script of an -e may stand in the same word or be the next word.
+-- `sed -ep -e P a`: the script of an -e may come in the same word or be the next word.
 two_scripts : (heap : Global) → AsksFor (codes "-ep" ∷ codes "-e" ∷ codes "P" ∷ codes "a" ∷ []) false false (text heap (codes "p") refl ∷ text heap (codes "P") refl ∷ []) (codes "a" ∷ [])
 unfolding sed_command word_walked bundle_met walk_fault flags_fault defaults_fault
 two_scripts heap = record {
@@ -141,7 +141,7 @@ script_in_a_file heap = record {
   asks = rw (f_letters, f_bytes) ((refl, refl), refl);
 }
 
--- `sed p a -n`: an option after operands (that it may stand there is this project's own).
+-- `sed p a -n`: an option after operands (that it may be there is this project's own).
 option_at_the_end : (heap : Global) → AsksFor (codes "p" ∷ codes "a" ∷ codes "-n" ∷ []) true false (text heap (codes "p") refl ∷ []) (codes "a" ∷ [])
 unfolding sed_command word_walked bundle_met walk_fault flags_fault defaults_fault
 option_at_the_end heap = record {

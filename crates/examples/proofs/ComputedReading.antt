@@ -20,7 +20,7 @@ use Rattle.sedre.proofs.Holding.{whole_tree}
 use Rattle.sedre.proofs.Written.{length-postorder}
 use Rattle.sedre.proofs.Reading.{Reading, reading_start, reading_step, reading_whole, reading_bad, reading_stray, reading_unclosed, reading_limits}
 
--- what a text comes to: an expression with so many groups, or a fault; unfinished where more items stand than were asked
+-- what a text comes to: an expression with so many groups, or a fault; unfinished where more items come than were asked
 -- for
 pub data Outcome : Type 0 where
   reads : Tree → ℕ → Outcome
@@ -45,7 +45,7 @@ abbrev pub taken : (at : ℕ) → (Token → ℕ → Outcome) → Token → ℕ 
 taken at rest Close next [] = faulty at StrayClose
 taken at rest i next ls = rest i next
 
--- what stands at a place
+-- what is at a place
 abbrev pub met : (len max_nodes at : ℕ) → Nesting → (Token → ℕ → Outcome) → NextToken → Outcome
 met len max_nodes at s rest (Is i next) = taken at rest i next s.below
 met len max_nodes at s rest Ends = ended len max_nodes s s.below

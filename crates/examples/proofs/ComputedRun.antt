@@ -77,7 +77,7 @@ abbrev pub Edits : Kind → (Program → Program) → (ℕ → List ℕ) → Lis
 Edits kind asked files text input out =
     Script text kind (λ p. IsOutput (setting_of (asked p) files) (start p.commands (split_lines input)) out)
 
--- the script as it stands, and with `-n`
+-- the script as it is, and with `-n`
 abbrev pub plain : Program → Program
 plain p = p
 

@@ -43,7 +43,7 @@ pub data Cutting : Type 0 where
   stopped : ScriptFault → Cutting
   endless : Cutting
 
--- what stands at a place, where the separators before it end at this byte or at the end of the text
+-- what is at a place, where the separators before it end at this byte or at the end of the text
 abbrev pub met : (Item → List WrittenExpression → ℕ → Cutting) → List Item → List WrittenExpression → ℕ → Found ItemOrEnd → Option ℕ → Cutting
 met rest is es at here None = cut_to is es at
 met rest is es at (found fs (Is i next)) (Some b) = rest i fs next
@@ -58,7 +58,7 @@ pub data Verdict : Type 0 where
   unknown : Verdict
 
 module _ (text : List ℕ) (kind : Kind) (max_nodes : ℕ) where
-  -- what reading comes to, with the expressions that stand in it
+  -- what reading comes to, with the expressions that occur in it
   unfoldable pub walked : {A : Type 0} → Reading A → Found A
   walked (plainly (Ok x)) = found [] x
   walked (plainly (Err f)) = failed f

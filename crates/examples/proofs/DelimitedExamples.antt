@@ -1,4 +1,4 @@
--- Examples of where an expression ends that stands between delimiters (XCU sed, "Regular Expressions in sed"), computed
+-- Examples of where an expression ends that lies between delimiters (XCU sed, "Regular Expressions in sed"), computed
 -- by the definition. 47 is the slash.
 use Rattle.std.proofs.Common.{Some, None, refl}
 use Rattle.std.specs.Prelude.{codes, ◌≡◌}

@@ -88,12 +88,12 @@ output_breaks_in_a_file : EndsBy own plain (λ k. codes "FG") (codes "r f") (cod
 unfolding verdict cutting walked item_at past function_at addresses_at address_at second_at text_from name_from split_lines course next_move selects all_fit
 output_breaks_in_a_file = is_script (stops_within 6 0 71 refl refl refl refl refl)
 
--- A file of `r` that breaks after FG is told as one that ends there: no end of the run names it.
+-- A file of `r` that breaks after FG is given as one that ends there: no end of the run names it.
 file_read_in_part : EndsBy own plain (λ k. codes "FG") (codes "r f") (codes "a\n") Done (codes "a\nFG")
 unfolding verdict cutting walked item_at past function_at addresses_at address_at second_at text_from name_from split_lines course next_move selects all_fit
 file_read_in_part = is_script (stops_after 14 refl refl refl refl)
 
--- One that can't be opened is told as empty.
+-- One that can't be opened is given as empty.
 file_that_cannot_be_opened : EndsBy own plain no_files (codes "r none") (codes "a\n") Done (codes "a\n")
 unfolding verdict cutting walked item_at past function_at addresses_at address_at second_at text_from name_from split_lines course next_move selects all_fit
 file_that_cannot_be_opened = is_script (stops_after 14 refl refl refl refl)

@@ -1,4 +1,4 @@
--- Examples of the fault where a request for memory was refused (this project's own). It is told at 0, and no text here has
+-- Examples of the fault where a request for memory was refused (this project's own). Its place is 0, and no text here has
 -- it: what a text reads as, or its first fault, leaves no room for it.
 use Rattle.std.proofs.Common.{◌≡◌, ℕ, List, Bool, true, false, None, refl}
 use Rattle.std.specs.Prelude.{codes}

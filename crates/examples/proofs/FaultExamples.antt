@@ -245,7 +245,7 @@ stray_interval_closing_after_a_byte : ExprFaulty Basic None (codes "a\\}") 65536
 unfolding outcome rest_of token_at
 stray_interval_closing_after_a_byte = faulty_with refl
 
--- Nothing stands before a repetition that it could repeat: the place of the symbol.
+-- Nothing comes before a repetition that it could repeat: the place of the symbol.
 
 star_first : ExprFaulty Extended None (codes "*a") 65536 0 NothingToRepeat
 unfolding outcome rest_of token_at

@@ -178,7 +178,7 @@ told_letter empty f h at b e = by_tests (b == 103) (b == 112) (b == 73) refl ref
 
 -- ---- the digits of a number
 
--- how many digits stand at the front of some bytes
+-- how many digits are at the front of some bytes
 abbrev run : List ℕ → ℕ
 run bs = prefix_len is_digit bs
 

@@ -103,7 +103,7 @@ command_after_a_closing : Faulty (codes "{p}p") Basic 65536 (fault_at 3 fault.Tr
 unfolding verdict cutting walked item_at past function_at addresses_at address_at
 command_after_a_closing = has_fault refl
 
--- A label isn't there or stands twice, a block isn't closed or not open; these are told after all others, the least place
+-- A label isn't there or occurs twice, a block isn't closed or not open; these come after all others, the least place
 -- first.
 
 no_such_label : Faulty (codes "b x") Basic 65536 (fault_at 0 fault.UnknownLabel)

@@ -36,7 +36,7 @@ too_deep_before_too_many_nodes : ExprFaulty Extended None (codes "a" ++ times 60
 unfolding outcome rest_of token_at
 too_deep_before_too_many_nodes = faulty_with refl
 
--- Large expressions. What stands under a {0} adds no nodes.
+-- Large expressions. What is under a {0} adds no nodes.
 
 no_copy_of_many : Counts Extended (codes "x{255}{255}{255}{0}") 1 0
 unfolding outcome rest_of token_at front_interval

@@ -83,7 +83,7 @@ unfolding item_at
 closes_at text at there blank end =
     rw (stays Separator 125 text at refl there, there, no_address text at there) (closes_after text at _ (no_bang text at there) (closes text at there blank end))
 
--- what stands after a closing brace: another one, or the end
+-- what follows a closing brace: another one, or the end
 blank_after : (text : List ℕ) (at : ℕ) → slice_get text at ≡ Some 125 → past Blank text at ≡ at
 blank_after text at there = stays Blank 125 text at refl there
 

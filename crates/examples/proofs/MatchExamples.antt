@@ -41,7 +41,7 @@ caret_later = λ i k from within s. omega (arith, from, s.1.0)
 caret_within : NotFound (seq (set (only 97)) (seq begin (set (only 98)))) (codes "ab") 0
 caret_within = λ i k from within s. omega (arith, s.1.3, s.2.1.0)
 
--- No copy of an x stands within abc.
+-- No copy of an x lies within abc.
 only_empty : (k : ℕ) → CopiesLead (Matches (set (only 120)) (codes "abc")) k 1 → k ≤ 1
 unfolding set_of
 only_empty _ no_copy = omega arith

@@ -16,7 +16,7 @@ use Rattle.examples.specs.Backslashes.{NoneUnescaped}
 use Rattle.examples.specs.Texts.{EndsInBackslash, HasNoText}
 use Rattle.examples.proofs.BackslashLemmas.{next, Free, free_between, between_free, get_drop, same_byte, behind, onto, not_first, escaped_first, even_again, even_plain, backslash_here}
 
--- ---- among bytes, where so many backslashes stand before them
+-- ---- among bytes, where so many backslashes come before them
 
 -- no newline ends a text, and a further line has to follow
 record Lacks (n : ℕ) (bs : List ℕ) : Type 0 where
@@ -42,7 +42,7 @@ lacks_more n b bs here h = record {
     by_last (inl e) = inl (ap suc e)
     by_last (inr e) = inr (ap suc e.0, e.1)
 
--- the same without the first byte, where the backslash stands after it
+-- the same without the first byte, where the backslash comes after it
 lacks_less : (n b : ℕ) (bs : List ℕ) (h : Lacks n (b ∷ bs)) → (h.k ≡ 0 → ⊥) → Lacks (next n b) bs
 lacks_less n b bs h later = by_place h.k refl h.backslash h.last
   where
@@ -60,7 +60,7 @@ lacks_less n b bs h later = by_place h.k refl h.backslash h.last
         by_last (inl e) = inl (omega (arith, e))
         by_last (inr e) = inr (omega (arith, e.0), e.1)
 
--- it stands after a byte that is none, or an escaped one
+-- it comes after a byte that is none, or an escaped one
 stands_later : (n b : ℕ) (bs : List ℕ) (h : Lacks n (b ∷ bs)) → (Free 92 n (b ∷ bs) 0 → ⊥) → h.k ≡ 0 → ⊥
 stands_later n b bs h other e = other (rw (← e) h.backslash)
 
@@ -133,7 +133,7 @@ says n at (b ∷ c ∷ cs) even =
         more : Lacks (next (next n b) c) (d ∷ ds) → Lacks n (b ∷ c ∷ d ∷ ds)
         more h = lacks_more n b (c ∷ d ∷ ds) (not_first 10 n b (c ∷ d ∷ ds) (not_newline b is)) (lacks_more (next n b) c (d ∷ ds) (escaped_first 10 n b c (d ∷ ds) is even) h)
 
-        -- the backslash stands before more than one byte
+        -- the backslash comes before more than one byte
         not_here : (h : Lacks n (b ∷ c ∷ d ∷ ds)) → h.k ≡ 0 → ⊥
         not_here h e = by_last h.last
           where

@@ -29,7 +29,7 @@ nested_reads : ReadsAs Extended false None (codes "(a*)*b") nested 1
 unfolding outcome rest_of token_at
 nested_reads = reads_as refl
 
--- Nothing is found where no b stands.
+-- Nothing is found where there is no b.
 
 all_alike : (n x i byte : ℕ) → slice_get (replicate n x) i ≡ Some byte → byte ≡ x
 all_alike n x i byte e =

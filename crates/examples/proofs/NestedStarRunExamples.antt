@@ -1,4 +1,4 @@
--- An example of a run with stars in stars, on a line of 60 bytes a: no b stands in it, so nothing is found.
+-- An example of a run with stars in stars, on a line of 60 bytes a: no b occurs in it, so nothing is found.
 use Rattle.std.proofs.Common.{◌≡◌, ℕ, List, [], ◌∷◌, ◌++◌, Bool, false, Option, Some, None, refl, sym, ap, subst, arith}
 use Rattle.std.specs.Prelude.{codes, is_some, replicate, option_map}
 use Rattle.sedre.specs.declared.types.Kind.TheVariants.{Extended}
@@ -30,7 +30,7 @@ use Rattle.examples.proofs.NestedStarExamples.{twice_nested, no_b}
 use Rattle.examples.proofs.ScriptWords.{always, at, substitution}
 use Rattle.examples.proofs.LimitWords.{own}
 
--- `/RE/d` and `s//x/`, where this tells what is found
+-- `/RE/d` and `s//x/`, where this says what is found
 abbrev commands : List Command
 commands = at (Match (Some 0)) (Plain Delete) ∷ always (Substitute 0) ∷ []
 

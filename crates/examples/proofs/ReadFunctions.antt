@@ -50,7 +50,7 @@ OfEscape BadEscape = Unit {0}
 OfEscape GroupAbsent = Unit {0}
 OfEscape differs = ⊥
 
--- no reason that is told of what stands in a command
+-- no reason that is given for what is in a command
 abbrev OfTargets : Reason → Type 0
 OfTargets RepeatedByte = ⊥
 OfTargets MissingText = ⊥
@@ -120,7 +120,7 @@ none_wrong text at s e =
 -- ---- reading
 
 module _ (kind : Kind) (max_nodes : ℕ) (text : List ℕ) where
-  -- what a fault of this reason tells, where it is one of reading
+  -- what a fault of this reason says, where it is one of reading
   abbrev By : ℕ → Reason → Type 0
   By place RepeatedByte = (at : ℕ) × (s : Strings) × IsTransliterate text at s × RepeatsFirst (chars_of text s.delimiter s.from s.middle) place
   By place MissingText = (t : TextUse) × (slice_get text place ≡ Some (letter_of t)) × HasNoText text (past Blank text (place + 1))
@@ -296,7 +296,7 @@ module _ (kind : Kind) (max_nodes : ℕ) (text : List ℕ) where
   transliterate_strings_walk place None = tt
   transliterate_strings_walk place (Some d) = strings_walk false d place (string_end false d false (place + 1) (drop (place + 1) text))
 
-  -- a wrong escape is told as such
+  -- a wrong escape is reported as such
   escape_told : (wrong : ℕ → Option Reason) (from to : ℕ) (o : Option ScriptFault) → ((b : ℕ) (r : Reason) → wrong b ≡ Some r → OfEscape r) →
       ((f : ScriptFault) → IsFirstWrong wrong text from to f → IsWrongEscape kind max_nodes text f) → FirstWrong wrong text from to o → Told o
   escape_told wrong from to None of_escape stands h = tt

@@ -1,4 +1,4 @@
--- Bytes that stand twice in the first string of a `y`.
+-- Bytes that occur twice in the first string of a `y`.
 use Rattle.std.proofs.Common.{◌≡◌, ◌⊎◌, inl, inr, ℕ, zero, suc, ◌+◌, ◌==◌, ◌||◌, not, Bool, true, false, if◌then◌else◌, List, [], ◌∷◌, ◌++◌, length, Option, Some, None, slice_get, refl, sym, ap, ◌∙◌}
 use Rattle.std.proofs.lemmas.Bool.{eqb-true, eq-eqb}
 use Rattle.sedscript.specs.declared.types.ScriptFault.{ScriptFault}
@@ -43,7 +43,7 @@ none_repeated before (c ∷ cs) e = by_test (is_among before c.byte) refl e (non
     by_test true is e rest = absurd cc
     by_test false is e rest = let h = rest e in (once_cons before (bytes_of cs) c.byte h.1 h.0, fresh_cons before (bytes_of cs) c.byte is h.1)
 
--- the first byte that stands a second time, after these
+-- the first byte that occurs a second time, after these
 record Repeats (before : List ℕ) (cs : List Char) (place : ℕ) : Type 0 where
   pub front : List Char
   pub second : Char

@@ -64,7 +64,7 @@ empty_copy_forgets : Finds Extended (codes "(a)**{2}") (codes "a") 0 (0, 1) (Non
 unfolding search
 empty_copy_forgets = finds refl
 
--- The second copy, where it must stand, is empty; one that may stand isn't taken.
+-- The second copy, where it is required, is empty; an optional one isn't taken.
 
 second_of_two_copies : Finds Extended (codes "(a*){2}") (codes "a") 0 (0, 1) (Some (1, 1) ∷ [])
 unfolding search

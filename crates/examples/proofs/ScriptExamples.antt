@@ -19,7 +19,7 @@ use Rattle.sedscript.specs.Items.{match_at, address_at, second_at, addresses_at,
 use Rattle.sedscript.specs.Letters.{substituted}
 use Rattle.sedscript.specs.Arguments.{text_from}
 
--- Commands and what stands between them.
+-- Commands and what comes between them.
 
 no_commands : Script (codes "") Basic (λ s. s.commands ≡ [])
 unfolding verdict cutting walked item_at past function_at addresses_at address_at

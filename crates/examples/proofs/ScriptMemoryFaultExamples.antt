@@ -34,7 +34,7 @@ named = refl
 of_an_expression : fault_of 5 expressions.NO_MEMORY ≡ fault_at 0 NoMemory
 of_an_expression = refl
 
--- where another fault is told with its place in the script
+-- where another fault is reported with its place in the script
 other_fault_of_an_expression : fault_of 5 (record { place = 2; reason = expression.OpenGroup }) ≡ expression_fault_at 7 2 expression.OpenGroup
 other_fault_of_an_expression = refl
 

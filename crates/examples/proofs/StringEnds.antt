@@ -5,7 +5,7 @@ use Rattle.sedscript.specs.Strings.{string_end}
 use Rattle.examples.specs.Backslashes.{IsUnescaped, NoneUnescaped}
 use Rattle.examples.proofs.BackslashLemmas.{Reaches, reaches_here, reaches_later, next, none_before, stands_last, odd_more, even_more}
 
--- a byte is escaped exactly where an odd number of backslashes stands before it
+-- a byte is escaped exactly where an odd number of backslashes comes before it
 abbrev Fits : Bool → ℕ → Type 0
 Fits true n = n % 2 ≡ 1
 Fits false n = n % 2 ≡ 0

@@ -1,4 +1,4 @@
--- Where the bytes of a string of `y` stand.
+-- The places of the bytes of a string of `y`.
 use Rattle.std.proofs.Common.{◌≡◌, ◌⊎◌, inl, inr, ℕ, zero, suc, ◌+◌, ◌-◌, ◌==◌, ◌%◌, ◌&&◌, Bool, true, false, if◌then◌else◌, List, [], ◌∷◌, drop, Option, Some, None, option_map, slice_get, refl, sym, ap, subst, ◌∙◌, arith}
 use Rattle.std.specs.List.{cons_option}
 use Rattle.sedscript.specs.declared.transliteration.Char.{Char}
@@ -9,7 +9,7 @@ use Rattle.examples.proofs.BackslashLemmas.{next, get_drop, even_again, even_pla
 use Rattle.examples.proofs.WrongEscapes.{Escape, onto_one, get_take, within, escape_out, no_escape}
 
 module _ (d : ℕ) where
-  -- the byte stands at its place among these, or its escape does, where so many backslashes stand before them
+  -- the byte is at its place among these, or its escape is, where so many backslashes come before them
   record Placed (n at : ℕ) (bs : List ℕ) (c : Char) : Type 0 where
     pub k : ℕ
     pub place : c.place ≡ at + k

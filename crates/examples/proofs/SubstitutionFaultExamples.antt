@@ -1,5 +1,5 @@
--- Examples of scripts that are refused for what stands after `s` and `y` (XCU sed, "Extended Description"), with their places, computed by the definitions.
--- Which fault a script has, and where, is this project's own.
+-- Examples of scripts that are refused for what follows `s` and `y` (XCU sed, "Extended Description"), with their places,
+-- computed by the definitions. Which fault a script has, and where, is this project's own.
 use Rattle.std.proofs.Common.{refl}
 use Rattle.std.specs.Prelude.{codes}
 use Rattle.sedre.specs.declared.types.Kind.TheVariants.{Basic, Extended}
@@ -142,7 +142,7 @@ escape_before_flag : Faulty (codes "s/a/\\q/k") Basic 65536 (fault_at 4 fault.Ba
 unfolding verdict cutting walked item_at past function_at addresses_at address_at match_at substitute_at substituted delimiter_at outcome rest_of token_at text_from
 escape_before_flag = has_fault refl
 
--- A byte is no flag, a flag stands twice, or its number is 0 or above 2 ^ 64 - 1.
+-- A byte is no flag, a flag occurs twice, or its number is 0 or above 2 ^ 64 - 1.
 
 unknown_flag : Faulty (codes "s/a/b/k") Basic 65536 (fault_at 6 fault.UnknownFlag)
 unfolding verdict cutting walked item_at past function_at addresses_at address_at match_at substitute_at substituted delimiter_at outcome rest_of token_at text_from
@@ -204,7 +204,7 @@ first_flag_on_an_empty_expression : Faulty (codes "s//x/II") Basic 65536 (fault_
 unfolding verdict cutting walked item_at past function_at addresses_at address_at match_at substitute_at substituted delimiter_at outcome rest_of token_at
 first_flag_on_an_empty_expression = has_fault refl
 
--- The strings of `y`: an escape stands for nothing, a byte stands twice in the source, the lengths differ, in this order.
+-- The strings of `y`: an escape stands for nothing, a byte occurs twice in the source, the lengths differ, in this order.
 
 unknown_escape_of_the_source : Faulty (codes "y/a\\q/bc/") Basic 65536 (fault_at 3 fault.BadEscape)
 unfolding verdict cutting walked item_at past function_at addresses_at address_at match_at substitute_at substituted delimiter_at outcome rest_of token_at transliterate_at text_from

@@ -124,7 +124,7 @@ only_anchors : ReadsAs Basic false None (codes "^$") (seq begin end) 0
 unfolding outcome rest_of token_at
 only_anchors = reads_as refl
 
--- A * is a byte in a basic expression where nothing stands that it could repeat.
+-- A * is a byte in a basic expression where nothing comes before it that it could repeat.
 
 star_first : ReadsAs Basic false None (codes "*a") (literally (codes "*a")) 0
 unfolding outcome rest_of token_at

@@ -9,7 +9,7 @@ use Rattle.sedscript.specs.Bytes.{is_byte}
 use Rattle.examples.specs.Backslashes.{IsUnescaped, NoneUnescaped}
 use Rattle.examples.proofs.BackslashLemmas.{Reaches, reaches_end, reaches_here, reaches_later, next, none_before, stands_last, odd_more, even_more}
 
--- a text is after a backslash that escapes exactly where an odd number of them stands before
+-- a text is after a backslash that escapes exactly where an odd number of them comes before
 abbrev Fits : Inside → ℕ → Type 0
 Fits Escape n = n % 2 ≡ 1
 Fits InLine n = n % 2 ≡ 0

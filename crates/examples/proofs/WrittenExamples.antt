@@ -8,7 +8,7 @@ use Rattle.sedre.specs.Tokens.{token_at, front_interval}
 use Rattle.examples.proofs.ComputedReading.{outcome, rest_of, reads_as}
 use Rattle.examples.proofs.ExampleWords.{a, b, c, Counts, counted}
 
--- Concatenations and alternations: of three parts the first stands before the other two.
+-- Concatenations and alternations: of three parts the first comes before the other two.
 
 null_string_basic : ReadsAs Basic false None (codes "") empty 0
 unfolding outcome rest_of token_at
@@ -34,7 +34,7 @@ group_of_an_alternation : ReadsAs Extended false None (codes "(a|b)c") (seq (gro
 unfolding outcome rest_of token_at
 group_of_an_alternation = reads_as refl
 
--- A repetition by its symbol or its interval. The mark of a star or an option says that no copy stands before it.
+-- A repetition by its symbol or its interval. The mark of a star or an option says that no copy comes before it.
 
 any_number : ReadsAs Extended false None (codes "a*") (star a true) 0
 unfolding outcome rest_of token_at
@@ -134,7 +134,7 @@ two_to_three_basic : ReadsAs Basic false None (codes "a\\{2,3\\}") (seq a (seq a
 unfolding outcome rest_of token_at front_interval
 two_to_three_basic = reads_as refl
 
--- The copies and what follows them are one element of the concatenation in which the repetition stands.
+-- The copies and what follows them are one element of the concatenation in which the repetition occurs.
 
 copies_are_one_element : ReadsAs Extended false None (codes "ba{2}c") (seq b (seq (seq a a) c)) 0
 unfolding outcome rest_of token_at front_interval

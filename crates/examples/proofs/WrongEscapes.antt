@@ -81,9 +81,9 @@ replacement_scan d limit true at (b ∷ bs) =
     ∙ ap (option_or (option_map (fault_at (at - 1)) (wrong_in_replacement d limit b))) (replacement_scan d limit false (suc at) bs)
 replacement_scan d limit false at (b ∷ bs) = replacement_scan d limit (b == 92) (suc at) bs
 
--- ---- where the answer stands
+-- ---- where the answer lies
 
--- a backslash that none escapes and a byte after it, where so many backslashes stand before the bytes
+-- a backslash that none escapes and a byte after it, where so many backslashes come before the bytes
 pub record Escape (n : ℕ) (bs : List ℕ) (k b : ℕ) : Type 0 where
   pub free : Free 92 n bs k
   pub byte : slice_get bs (suc k) ≡ Some b

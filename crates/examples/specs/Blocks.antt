@@ -13,7 +13,7 @@ pub data BracesMatch : List Item → Type 0 where
   block : (i j : Item) (inner rest : List Item) → i.verb ≡ Open → BracesMatch inner → j.verb ≡ Close →
       BracesMatch rest → BracesMatch (i ∷ inner ++ j ∷ rest)
 
--- this brace stands at a place among the items, these come after it, and up to it all braces match
+-- this brace is at a place among the items, these come after it, and up to it all braces match
 pub record BraceAt (verb : Verb) (items : List Item) (place : ℕ) (after : List Item) : Type 0 where
   pub before : List Item
   pub brace : Item

@@ -1,4 +1,4 @@
--- Bytes that may not stand after a backslash, and the first one that does (XCU sed, "Editing Commands in sed": `s` and
+-- Bytes that may not follow a backslash, and the first one that does (XCU sed, "Editing Commands in sed": `s` and
 -- `y`).
 use Rattle.std.specs.Prelude.{◌≡◌, ◌≤◌, ◌<◌, ℕ, ◌+◌, ◌-◌, List, Option, Some, None, slice_get}
 use Rattle.std.specs.Prelude.{if◌then◌else◌, ◌==◌, ◌&&◌, ◌||◌, not, Bool, Ok}
@@ -31,7 +31,7 @@ wrong_in_replacement delimiter groups b =
     else if is_letter b && not (b == 110 || b == 116) then Some BadEscape
     else None
 
--- a backslash that none escapes stands at a place, and this byte after it, both before `to`
+-- a backslash that none escapes is at a place, and this byte follows it, both before `to`
 pub record IsEscape (text : List ℕ) (from to at byte : ℕ) : Type 0 where
   pub begins : from ≤ at
   pub backslash : IsUnescaped 92 text from at
@@ -50,7 +50,7 @@ abbrev pub FirstWrong : (wrong : ℕ → Option Reason) → List ℕ → (from t
 FirstWrong wrong text from to None = (at b : ℕ) → IsEscape text from to at b → wrong b ≡ None
 FirstWrong wrong text from to (Some f) = IsFirstWrong wrong text from to f
 
--- an `s` stands at a place, and these strings after it
+-- an `s` is at a place, and these strings follow it
 abbrev pub IsSubstitute : List ℕ → ℕ → Strings → Type 0
 IsSubstitute text at s =
     (slice_get text at ≡ Some 115)

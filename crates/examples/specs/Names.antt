@@ -9,11 +9,11 @@ use Rattle.sedscript.specs.Script.{file_in, name_in}
 abbrev pub names_of : FileUse → List ℕ → List Item → List (List ℕ)
 names_of u text items = filter_map (λ i. file_in u (name_in u text i.verb i.argument)) items
 
--- a name stands among these before another one does
+-- a name occurs among these before another one does
 abbrev pub StandsBefore : List (List ℕ) → List ℕ → List ℕ → Type 0
 StandsBefore names a b = (k : ℕ) × (slice_get names k ≡ Some a) × ((j : ℕ) → j ≤ k → slice_get names j ≡ Some b → ⊥)
 
--- these are the names, each once, in the order in which they first stand
+-- these are the names, each once, in the order in which they first occur
 pub record EachOnce (names once : List (List ℕ)) : Type 0 where
   pub of_them : (i : ℕ) (a : List ℕ) → slice_get once i ≡ Some a → (k : ℕ) × (slice_get names k ≡ Some a)
   pub all : (k : ℕ) (a : List ℕ) → slice_get names k ≡ Some a → (i : ℕ) × (slice_get once i ≡ Some a)

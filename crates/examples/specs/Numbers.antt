@@ -8,7 +8,7 @@ abbrev pub decimal_from : ℕ → List ℕ → ℕ
 decimal_from n [] = n
 decimal_from n (d ∷ ds) = decimal_from (n * 10 + (d - 48)) ds
 
--- the digits among the bytes stand together, and write this number
+-- the digits among the bytes are together, and write this number
 pub record WritesNumber (bytes : List ℕ) (n : ℕ) : Type 0 where
   pub before : List ℕ
   pub digits : List ℕ

@@ -5,17 +5,17 @@ use Rattle.sedscript.specs.Arguments.{own_delimiter, transliterate_strings}
 use Rattle.sedscript.specs.declared.transliteration.Char.{Char}
 use Rattle.sedscript.specs.Strings.{bytes_of}
 
--- no byte stands at two places
+-- no byte is at two places
 abbrev pub NoneTwice : List ℕ → Type 0
 NoneTwice bytes = (i j b : ℕ) → slice_get bytes i ≡ Some b → slice_get bytes j ≡ Some b → i ≡ j
 
--- a `y` stands at a place, and these strings after it
+-- a `y` is at a place, and these strings follow it
 abbrev pub IsTransliterate : List ℕ → ℕ → Strings → Type 0
 IsTransliterate text at s =
     (slice_get text at ≡ Some 121)
     × (transliterate_strings text (at + 1) (own_delimiter (slice_get text (at + 1))) ≡ Ok s)
 
--- a byte of the string stands at this place for the second time, and none does so at an earlier one
+-- a byte of the string occurs at this place for the second time, and none does so at an earlier one
 pub record RepeatsFirst (chars : List Char) (place : ℕ) : Type 0 where
   pub before : List Char
   pub second : Char

@@ -22,7 +22,7 @@ pub record EndsInBackslash (script : List ℕ) (from : ℕ) : Type 0 where
   pub backslash : IsUnescaped 92 script from at
   pub last : (length script ≡ at + 1) ⊎ ((length script ≡ at + 2) × (slice_get script (at + 1) ≡ Some 10))
 
--- no text stands at a place: a line or the script ends there; or no newline ends the text, and where the script ends a
+-- no text begins at a place: a line or the script ends there; or no newline ends the text, and where the script ends a
 -- further line has to follow
 abbrev pub HasNoText : List ℕ → ℕ → Type 0
 HasNoText script from =

@@ -55,7 +55,7 @@ pub fn text_missing()
         argument_of script (Text t) at ≡ fault MissingText at) }
 {}
 
-/// A script that is refused for want of a text has an `a`, `i` or `c` at the fault's place, and no text stands after that
+/// A script that is refused for want of a text has an `a`, `i` or `c` at the fault's place, and no text comes after that
 /// and blanks.
 pub fn text_fault()
     ensures { (kind : Kind) (max_nodes : ℕ) (text : List ℕ) (f : ScriptFault) → Faulty text kind max_nodes f →
@@ -64,7 +64,7 @@ pub fn text_fault()
         × HasNoText text (past Blank text (f.place + 1)) }
 {}
 
-/// A label holds no newline, semicolon, blank or closing brace, and one of these stands after it, or the script ends
+/// A label holds no newline, semicolon, blank or closing brace, and one of these follows it, or the script ends
 /// there.
 pub fn label_ends()
     ensures { (script : List ℕ) (from : ℕ) →
@@ -92,7 +92,7 @@ pub fn plain_bytes()
         unescaped_from false (bytes ++ rest) ≡ bytes ++ unescaped_from false rest }
 {}
 
-/// Where no byte stands twice in the first string of a `y`, its table gives, for the byte at a place of the first string,
+/// Where no byte is twice in the first string of a `y`, its table gives, for the byte at a place of the first string,
 /// the byte at that place of the second.
 pub fn table_gives()
     ensures { (string1 string2 : List ℕ) (place s t : ℕ) → NoneTwice string1 → s < 256 →
@@ -106,7 +106,7 @@ pub fn table_keeps()
         ((place : ℕ) → slice_get string1 place ≡ Some b → ⊥) → slice_get (table_of string1 string2) b ≡ Some b }
 {}
 
-/// A byte of a string of a `y` has the place at which it stands, or that of the backslash of its escape.
+/// A byte of a string of a `y` has the place of this byte in the text, or that of the backslash of its escape.
 pub fn string_places()
     ensures { (text : List ℕ) (delimiter from to k : ℕ) (c : Char) →
         slice_get (chars_of text delimiter from to) k ≡ Some c →
@@ -124,7 +124,7 @@ pub fn strings_accepted()
         ≡ length (chars_of text s.delimiter (s.middle + 1) s.to)) }
 {}
 
-/// A script that is refused for a byte that stands twice has a `y`, and the fault's place is the first in its first
+/// A script that is refused for a byte that is there twice has a `y`, and the fault's place is the first in its first
 /// string at which a byte stands for the second time.
 pub fn repeated_byte()
     ensures { (kind : Kind) (max_nodes : ℕ) (text : List ℕ) (f : ScriptFault) → Faulty text kind max_nodes f →
@@ -139,7 +139,7 @@ pub fn string_read()
         bytes_of (chars_from delimiter false at (written_string delimiter bytes)) ≡ bytes }
 {}
 
-/// A string of a `y` that is written out ends where the delimiter after it stands, unless that is a backslash or a
+/// A string of a `y` that is written out ends at the delimiter after it, unless that is a backslash or a
 /// newline.
 pub fn string_whole()
     ensures { (delimiter : ℕ) (bytes after : List ℕ) (at : ℕ) → (delimiter ≡ 92 → ⊥) → (delimiter ≡ 10 → ⊥) →
@@ -154,7 +154,7 @@ pub fn string_faultless()
 {}
 
 /// The fault of a string of a `y` is that of the first backslash, escaped by none, before a byte which is none of the
-/// delimiter, a backslash, `n` and `t`. Where no backslash stands so, it has none.
+/// delimiter, a backslash, `n` and `t`. Where there is no such backslash, it has none.
 pub fn string_fault_first()
     ensures { (script : List ℕ) (delimiter from to : ℕ) →
         FirstWrong (wrong_in_string delimiter) script from to
@@ -186,7 +186,7 @@ pub fn replacement_read()
         pieces_of delimiter (written_pieces delimiter pieces) ≡ pieces }
 {}
 
-/// A replacement that is written out ends where the delimiter after it stands, unless that is a backslash, a newline or
+/// A replacement that is written out ends at the delimiter after it, unless that is a backslash, a newline or
 /// an `&`.
 pub fn replacement_whole()
     ensures { (delimiter : ℕ) (pieces : List Piece) (after : List ℕ) (at : ℕ) →
@@ -203,7 +203,7 @@ pub fn replacement_faultless()
 {}
 
 /// The fault of a replacement is that of the first backslash, escaped by none, before a letter other than `n` and `t`, or
-/// before the digit of a group that the expression hasn't, where these aren't the delimiter. Where no backslash stands
+/// before the digit of a group that the expression hasn't, where these aren't the delimiter. Where no backslash comes
 /// so, it has none.
 pub fn replacement_fault_first()
     ensures { (script : List ℕ) (delimiter : ℕ) (groups : Option ℕ) (from to : ℕ) →
@@ -211,7 +211,7 @@ pub fn replacement_fault_first()
         (replacement_fault delimiter groups false from (bytes_between script from to)) }
 {}
 
-/// Where flags of `s` are read without a file, `g` is among them exactly where a `g` stands among the bytes that were
+/// Where flags of `s` are read without a file, `g` is among them exactly where a `g` is among the bytes that were
 /// read, and so for `p` and `I`.
 pub fn flags_read()
     ensures { (script : List ℕ) (empty : Bool) (flags : Flags) (from to : ℕ) →
@@ -221,7 +221,7 @@ pub fn flags_read()
         × (flags.folded ≡ is_among (bytes_between script from to) 73) }
 {}
 
-/// Where flags of `s` are read without a file, the digits among the bytes that were read stand together and write the flags'
+/// Where flags of `s` are read without a file, the digits among the bytes that were read are together and write the flags'
 /// number; where the flags have no number, there are no digits.
 pub fn number_read()
     ensures { (script : List ℕ) (empty : Bool) (flags : Flags) (from to : ℕ) →
@@ -229,7 +229,7 @@ pub fn number_read()
         NumberAmong (bytes_between script from to) flags.number }
 {}
 
-/// Where flags with a file are read, the file's name stands after the first `w` there, and the flags say of the bytes before
+/// Where flags with a file are read, the file's name follows the first `w` there, and the flags say of the bytes before
 /// that `w` what flags without a file say of all.
 pub fn flags_before_file()
     ensures { (script : List ℕ) (empty : Bool) (flags : Flags) (from to : ℕ) (name : ℕ × ℕ) →
@@ -260,8 +260,8 @@ pub fn others_match()
         ≡ Ok (complement (matching folded (set_of (λ c. is_among bytes c))), length before + length bytes + 3) }
 {}
 
-/// The files that an accepted script reads, and those that it writes, are the names that stand in it, each once, in the
-/// order in which they first stand there.
+/// The files that an accepted script reads, and those that it writes, are the names that occur in it, each once, in the
+/// order in which they first occur there.
 pub fn files_once()
     ensures { (kind : Kind) (max_nodes : ℕ) (text : List ℕ) (script : Program)
         (means : Means text kind max_nodes script) →
@@ -275,7 +275,7 @@ pub fn braces_match()
         (means : Means text kind max_nodes script) → BracesMatch means.items }
 {}
 
-/// A block ends at the brace that closes it: before the command after it stand those up to the opening brace, and those
+/// A block ends at the brace that closes it: before the command after it come those up to the opening brace, and those
 /// within.
 pub fn block_leads()
     ensures { (before inner after : List Item) (i j : Item) → i.verb ≡ Open → BracesMatch inner →

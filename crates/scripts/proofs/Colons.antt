@@ -1,4 +1,4 @@
--- Where a label stands in a text, a colon does.
+-- At the place of a label in a text there is a colon.
 use Rattle.std.proofs.Common.{◌≡◌, ℕ, zero, suc, ◌+◌, ◌&&◌, ◌||◌, ◌==◌, Bool, true, false, List, [], ◌∷◌, length, Option, Some, None, Result, Ok, Err, refl, ap, ◌∙◌, arith, if◌then◌else◌, slice_get, nat_lt}
 use Rattle.std.specs.Option.{option_len}
 use Rattle.std.proofs.lemmas.Bool.Decides.{nat_tests}
@@ -52,7 +52,7 @@ gives_so P text kind m _ _ x (after_expression {k = k} {es = es} e is g) h = giv
 letter_of_label : (letter : ℕ) → verb_of letter ≡ Some Label → letter ≡ 58
 letter_of_label letter e = grind (arith, nat_tests)
 
--- where a label's item stands, a colon does
+-- at the place of a label's item there is a colon
 abbrev ColonAt : List ℕ → ℕ → Verb → Type 0
 ColonAt text place Label = slice_get text place ≡ Some 58
 ColonAt text place other = Unit {0}

@@ -60,7 +60,7 @@ abbrev FitsEffect : ℕ → (List ℕ → Type 0) → Option (ℕ × List ℕ) �
 FitsEffect count Good None = Unit {0}
 FitsEffect count Good (Some next) = (next.0 ≤ count) × Good next.1
 
--- lines of two runs that are alike: each is told by its number, and by those that are left
+-- lines of two runs that are alike: each is given by its number, and by those that are left
 abbrev pub AreAlike : Type 1
 AreAlike = ℕ → List (List ℕ) → ℕ → List (List ℕ) → Type 0
 

@@ -128,7 +128,7 @@ both_broken : Writes (codes "s/a/x\\ny/\ns/^y/z/") (codes "a\nb\n") (codes "x\ny
 unfolding verdict cutting walked item_at past function_at addresses_at address_at second_at text_from name_from split_lines course next_move selects match_at substitute_at substituted delimiter_at outcome rest_of token_at front_interval set_of tree_at tree_within list_at list_end leftmost_longest found_from longest greatest spans any copies reported_groups groups_after greatest_cut first_copy last_start occurrences_from
 both_broken = is_script (ends_after 100 refl refl)
 
--- ---- a name that is a label in both, and `#n`, which is a comment where it stands in a later line
+-- ---- a name that is a label in both, and `#n`, which is a comment where it comes in a later line
 
 both_labels : Faulty (codes ":x\n:x") Basic 65536 (fault_at 3 RepeatedLabel)
 unfolding verdict cutting walked item_at past function_at addresses_at address_at second_at text_from name_from

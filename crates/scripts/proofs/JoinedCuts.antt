@@ -16,7 +16,7 @@ use Rattle.scripts.proofs.LongerText.{tail_of, get_drop, rest_on}
 use Rattle.scripts.proofs.LongerFunctions.{ArgumentIn}
 use Rattle.scripts.proofs.LongerReading.{move_item, item_on}
 
--- what items name stands in a text of this length
+-- what items name lies in a text of this length
 abbrev pub ItemsIn : ℕ → List Item → Type 0
 ItemsIn end [] = Unit {0}
 ItemsIn end (i ∷ is) = ArgumentIn end i.argument × ItemsIn end is
@@ -40,7 +40,7 @@ cut_then text kind m count number at mid to _ js _ fs (item {next = next} {i = i
     subst (λ (z : List WrittenExpression). CutScript text kind m count at (i ∷ (is ++ js)) z to) (sym (append_assoc es gs fs))
     (item es (gs ++ fs) given (cut_then text kind m (count + length es) number next mid to is js gs fs left (e ∙ (ap (λ (k : ℕ). count + k) (length-append es gs) ∙ omega arith)) rest))
 
--- a cut may begin at another place, where only separators stand between the two
+-- a cut may begin at another place, where only separators lie between the two
 cut_from : (text : List ℕ) (kind : Kind) (m count at place to : ℕ) (is : List Item) (es : List WrittenExpression) → past Separator text place ≡ past Separator text at → CutScript text kind m count at is es to → IsEnd text to →
     (till : ℕ) × CutScript text kind m count place is es till × IsEnd text till
 unfolding item_at
@@ -57,7 +57,7 @@ all_pass f (x ∷ xs) ys h = by_test (f x) h (λ g. all_pass f xs ys g)
     by_test true h on = let one : 1 + prefix_len f xs ≡ suc (prefix_len f xs) = omega arith in let rest = on (ap (slice_get (x ∷ xs)) (sym one) ∙ h) in omega (arith, rest)
     by_test false h on = absurd cc
 
--- at the end of the text stands the end of a longer one, behind which nothing stands
+-- at the end of the text is the end of a longer one, where nothing follows the text
 ends_on : (before text : List ℕ) (at : ℕ) → at ≤ length text → IsEnd text at → IsEnd (before ++ (text ++ [])) (length before + at)
 unfolding past
 ends_on before text at le ends =

@@ -221,7 +221,7 @@ module _ (t whole : List ℕ) (base count leap : ℕ) (between : (from to : ℕ)
       (faults_on all every (before ++ i ∷ []) (there ++ moved i ∷ []) is rest (depth_after depth i.verb) h.1 k.1 closes.1 q.1 (no_new before there i h.0 old) parts.1
       (λ ahead behind. on ahead (λ name p f g. let two = neither (names t name i) (list_any (names t name) is) g in behind name p (any_snoc (names t name) before i ∙ or_false _ _ f two.0) two.1)))
 
--- where a name is no label, its label stands behind
+-- where a name is no label of these items, its label is sought behind them
 pub label_skip : (text name : List ℕ) (n : ℕ) (xs ys : List Item) → list_any (names text name) xs ≡ false → label_in text name n (xs ++ ys) ≡ label_in text name (n + commands_in xs) ys
 label_skip text name n [] ys e = let same : n ≡ n + 0 = omega arith in ap (λ (k : ℕ). label_in text name k ys) same
 label_skip text name n (i ∷ xs) ys e =

@@ -151,7 +151,7 @@ module _ (t whole : List ℕ) (base count : ℕ) (between : (from to : ℕ) → 
   names_there u (i ∷ is) rest h =
       ap₂ (λ o xs. cons_option o xs) (ap (file_in u) (name_same u i.verb i.argument h.0)) (names_there u is rest h.1) ∙ cons_append (file_in u (name_in u t i.verb i.argument)) (file_names u t is) (file_names u whole rest)
 
--- how many files stand before, of those that are read and of those that are written
+-- how many files come before, of those that are read and of those that are written
 abbrev pub files_of : FileUse → Before → ℕ
 files_of Read b = b.rfiles
 files_of Write b = b.wfiles

@@ -1,4 +1,4 @@
--- What items of a text become, where it stands in a longer one with other items before them and behind.
+-- What items of a text become, where it is part of a longer one with other items before them and behind.
 use Rattle.std.proofs.Common.{◌≡◌, ℕ, suc, ◌+◌, ◌≤◌, ◌&&◌, ◌==◌, Bool, true, false, List, [], ◌∷◌, ◌++◌, length, map, Option, Some, None, is_none, option_map, unwrap_or, refl, sym, ap, ap₂, ◌∙◌, arith, if◌then◌else◌, filter_map, length-append}
 use Rattle.std.specs.List.{cons_option}
 use Rattle.std.proofs.lemmas.List.Elements.{filter_map-append}
@@ -66,7 +66,7 @@ abbrev pub BranchesOn : (t : List ℕ) (all : List Item) (whole : List ℕ) (eve
 BranchesOn t all whole every more [] = Unit {0}
 BranchesOn t all whole every more (i ∷ is) = BranchOn t all whole every more i.verb i.argument × BranchesOn t all whole every more is
 
--- a name has the number that it has, where so many files stand before
+-- a name has the number that it has, where so many files come before
 abbrev pub NumberOn : (t : List ℕ) (all : List Item) (whole : List ℕ) (every : List Item) → Before → FileUse → List ℕ → Type 0
 NumberOn t all whole every b u name = number_in u whole every name ≡ file_behind b u (number_in u t all name)
 
@@ -133,7 +133,7 @@ taken_snoc h is i = ap (λ xs. length xs) (filter_map-append h is (i ∷ [])) �
 taken_on : {A : Type 0} (h : Item → Option A) (is js : List Item) (i : Item) (k : ℕ) → k ≡ length (filter_map h (is ++ i ∷ [])) + length (filter_map h js) → k ≡ length (filter_map h is) + length (filter_map h (i ∷ js))
 taken_on h is js i k e = omega (arith, e, taken_snoc h is i, length_with (h i) (filter_map h js))
 
--- of items before which so many more stand
+-- of items before which so many more come
 taken_later : {A B : Type 0} (g : Item → Option A) (h : Item → Option B) (is js : List Item) (i j : Item) (n : ℕ) → length (cons_option (h j) []) ≡ length (cons_option (g i) []) → length (filter_map h js) ≡ n + length (filter_map g is) →
     length (filter_map h (js ++ j ∷ [])) ≡ n + length (filter_map g (is ++ i ∷ []))
 taken_later g h is js i j n one e = omega (arith, one, e, taken_snoc g is i, taken_snoc h js j)
@@ -227,7 +227,7 @@ module _ (t whole : List ℕ) (base : ℕ) (b : Before) (between : (from to : �
       ap (λ (bs : List ℕ). action.Branch u (unwrap_or (branch_in whole every bs) 0)) (same_written a inner)
       ∙ (ap (λ (o : Option ℕ). action.Branch u (unwrap_or o 0)) on.2 ∙ sym (ap (λ (o : Option ℕ). action_behind b (action.Branch u (unwrap_or o 0))) on.1))
 
-  -- so many texts, substitutions and tables stand before these items and behind those before them
+  -- so many texts, substitutions and tables come before these items and behind those before them
   abbrev pub Later : (every all before there : List Item) → Type 0
   Later every all before there =
       (length (texts_of whole there) ≡ b.texts + length (texts_of t before))
@@ -271,7 +271,7 @@ module _ (t whole : List ℕ) (base : ℕ) (b : Before) (between : (from to : �
   command_on a (Some does) xs ys =
       ap₂ (λ first second. record { first = first; second = second; negate = a.negate; action = action_behind b does } ∷ (map (command_behind b) xs ++ ys)) (address_same b a.first) (address_same b a.second)
 
-  -- so many commands, texts, substitutions and tables stand before these items and behind those before them
+  -- so many commands, texts, substitutions and tables come before these items and behind those before them
   pub record Stands (every all before there : List Item) : Type 0 where
     pub commands : commands_in there ≡ b.commands + commands_in before
     pub counts : Later every all before there
@@ -297,7 +297,7 @@ module _ (t whole : List ℕ) (base : ℕ) (b : Before) (between : (from to : �
     tables = taken_on (λ (j : Item). table_in t j.argument) before is i _ h.tables;
   }
 
-  -- the commands of the items, and those of what stands behind them
+  -- the commands of the items, and those of what follows them
   pub commands_on : (every all before there is rest : List Item) (more : List Command) → Stands every all before there → FilesOn t all whole every b is → AllClose is → ItemsIn (length t) is → BranchesOn t all whole every b.commands is →
       ((after ahead : List Item) → Reaches all before is after → Stands every all after ahead → commands_of whole every ahead rest ≡ more) →
       commands_of whole every there (map moved is ++ rest) ≡ map (command_behind b) (commands_of t all before is) ++ more

@@ -95,7 +95,7 @@ module _ (a b : List ℕ) (kind : Kind) (m : ℕ) (p q : Program) (h : Means a k
   abbrev js : List Item
   js = k.items
 
-  -- the items of the second, as they stand there
+  -- the items of the second, as they are there
   abbrev behind : List Item
   behind = map (move_item base count) js ++ []
 

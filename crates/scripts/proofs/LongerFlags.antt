@@ -1,4 +1,4 @@
--- A text within a longer one, behind which nothing stands or a newline: flags, names and texts.
+-- A text within a longer one, behind which comes nothing or a newline: flags, names and texts.
 use Rattle.std.proofs.Common.{◌≡◌, ℕ, zero, suc, ◌+◌, ◌-◌, ◌<◌, ◌≤◌, ◌&&◌, ◌==◌, Bool, true, false, not, List, [], ◌∷◌, ◌++◌, length, Option, Some, None, is_some, is_none, option_map, Result, Ok, Err, refl, sym, ap, ap₂, subst, ◌∙◌, inl, inr, arith, if◌then◌else◌, slice_get, unwrap_or, drop, length-drop}
 use Rattle.std.specs.List.{prefix_len, take_while}
 use Rattle.std.specs.Option.{option_or}
@@ -23,7 +23,7 @@ use Rattle.sedscript.proofs.Chars.{same_bytes}
 use Rattle.scripts.proofs.LongerText.{tail_of, prefix_on, taken_on, past_low, past_high, rest_on, there, past_on}
 use Rattle.scripts.proofs.LongerStrings.{FoundOn, found_if, found_later}
 
--- what is read in the text is read in the whole one, as it stands there
+-- what is read in the text is read in the whole one, as it is there
 abbrev pub Same : {A B : Type 0} → (A → Type 0) → (A → B) → Result A ScriptFault → Result B ScriptFault → Type 0
 Same P f (Ok x) r = (r ≡ Ok (f x)) × P x
 Same P f (Err e) r = Unit {0}
@@ -118,7 +118,7 @@ move_span base x = (base + x.0, base + x.1)
 abbrev pub SpanIn : ℕ → ℕ × ℕ → Type 0
 SpanIn end x = (x.0 ≤ x.1) × (x.1 ≤ end)
 
--- a span that was found is found again, so much later, and stands up to an end
+-- a span that was found is found again, so much later, and goes no further than an end
 abbrev pub SpanOn : (base end : ℕ) → Option (ℕ × ℕ) → Option (ℕ × ℕ) → Type 0
 SpanOn base end None o = Unit {0}
 SpanOn base end (Some x) o = (o ≡ Some (move_span base x)) × SpanIn end x
@@ -231,7 +231,7 @@ module _ (before text : List ℕ) (more : Option (List ℕ)) where
   in_line : (from c : ℕ) → from ≤ end → SpanOn base end (if c == 10 then None else option_map (λ to. (from, to)) (text_end InLine from (drop from text))) (if c == 10 then None else option_map (λ to. (base + from, to)) (text_end InLine (base + from) (drop (base + from) whole)))
   in_line from c le = span_if base end (c == 10) None _ None _ tt (span_to base end from (base + from) _ _ refl (end_there InLine from (base + from) le refl))
 
-  -- where the text ends in a backslash, no text stands there
+  -- where the text ends in a backslash, no text begins there
   alone : (from c : ℕ) → from ≤ end → slice_get text from ≡ Some c → slice_get text (suc from) ≡ None → (p : Option ℕ) → SpanOn base end (text_by text from (Some c) None) (text_by whole (base + from) (Some c) p)
   alone from c le e f p = elim (eqb_tells c 92) [
     | inl h ↦ nothing (text_by text from (Some c) None) (ap (λ (c : ℕ). text_by text from (Some c) None) h.1 ∙ ap (λ (bs : List ℕ). option_map (λ (to : ℕ). (from, to)) (text_end InLine from bs)) (last_byte text from c e f ∙ ap (λ (c : ℕ). c ∷ []) h.1))

@@ -1,4 +1,4 @@
--- A text within a longer one, behind which nothing stands or a newline: functions.
+-- A text within a longer one, behind which comes nothing or a newline: functions.
 use Rattle.std.proofs.Common.{◌≡◌, ℕ, ◌+◌, ◌<◌, ◌≤◌, ◌==◌, Bool, true, false, not, List, ◌++◌, length, Option, Some, None, is_some, is_none, option_map, Result, Ok, refl, sym, ap, ap₂, subst, ◌∙◌, arith, if◌then◌else◌, slice_get, drop}
 use Rattle.sedre.specs.Brackets.{delimiter_at}
 use Rattle.std.proofs.lemmas.Option.{slice_get_within}
@@ -33,7 +33,7 @@ move_argument base count (FlaggedPair s e f) = FlaggedPair (move_strings base s)
 abbrev pub move_found : (base count : ℕ) → Argument × ℕ → Argument × ℕ
 move_found base count x = (move_argument base count x.0, base + x.1)
 
--- strings and spans stand before an end
+-- strings and spans lie before an end
 abbrev pub StringsIn : ℕ → Strings → Type 0
 StringsIn end s = (s.from ≤ s.middle) × (s.middle < s.to) × (s.to < end)
 
@@ -107,7 +107,7 @@ module _ (before text : List ℕ) (more : Option (List ℕ)) (count : ℕ) where
       (to_on d (at + 1) (place + 1) middle (base + middle) _ _ (omega (arith, e)) refl h.1
       (subst (λ (n : ℕ). FoundOn base (middle + 1) end (string_end breaks d false (middle + 1) (drop (middle + 1) text)) (string_end breaks d false n (drop n whole))) (sym one) (string_there before text more breaks d (middle + 1) short)))
 
-  -- a delimiter that was found stands before the end
+  -- a delimiter that was found lies before the end
   own_inside : (at d : ℕ) → own_delimiter (slice_get text at) ≡ Some d → at < end
   own_inside at d e = by_byte (slice_get text at) refl e
     where

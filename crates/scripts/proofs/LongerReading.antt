@@ -1,4 +1,4 @@
--- A text within a longer one, behind which nothing stands or a newline: what is read in the text is read there too.
+-- A text within a longer one, behind which comes nothing or a newline: what is read in the text is read there too.
 use Rattle.std.proofs.Common.{◌≡◌, ℕ, zero, suc, ◌+◌, ◌<◌, ◌≤◌, ◌&&◌, ◌==◌, Bool, true, false, List, [], ◌∷◌, ◌++◌, length, Option, Some, None, Result, Ok, Err, refl, sym, ap, ap₂, subst, ◌∙◌, arith, if◌then◌else◌, slice_get, nat_lt}
 use Rattle.std.specs.Option.{option_len}
 use Rattle.sedre.specs.declared.types.Kind.{Kind}
@@ -91,7 +91,7 @@ module _ (before text : List ℕ) (more : Option (List ℕ)) (n : ℕ) (kind : K
   abbrev end : ℕ
   end = length text
 
-  -- what a reading gives in the text, the other gives in the whole one, as it stands there
+  -- what a reading gives in the text, the other gives in the whole one, as it is there
   abbrev Stays : {A B : Type 0} → (A → Type 0) → (A → B) → Reading A → Reading B → Type 0
   Stays {A = A} P f r z = (es : List WrittenExpression) (x : A) → Gives text kind m r es x → Gives whole kind m z es (f x) × P x
 
@@ -308,7 +308,7 @@ module _ (before text : List ℕ) (more : Option (List ℕ)) (n : ℕ) (kind : K
   abbrev ArgumentStays : Reading (Argument × ℕ) → Reading (Argument × ℕ) → Type 0
   ArgumentStays r z = Stays (EndsIn end) (move_found base n) r z
 
-  -- what stands after a fault of the flags
+  -- where the flags have a fault, the substitution has one
   no_flags_read : (s : Strings) (count : ℕ) (limit : Option ℕ) (f : ScriptFault) → flags_after text s false ≡ Err f → (g : ScriptFault) × (substituted text s (Some count) limit ≡ Err g)
   unfolding substituted
   no_flags_read s count limit f e = by_fault (replacement_fault s.delimiter limit false (s.middle + 1) (bytes_between text (s.middle + 1) s.to))

@@ -1,4 +1,4 @@
--- A text within a longer one, behind which nothing stands or a newline: what ends at a delimiter.
+-- A text within a longer one, behind which comes nothing or a newline: what ends at a delimiter.
 use Rattle.std.proofs.Common.{◌≡◌, ℕ, zero, suc, ◌+◌, ◌-◌, ◌<◌, ◌≤◌, ◌&&◌, ◌||◌, ◌==◌, Bool, true, false, not, List, [], ◌∷◌, ◌++◌, length, Option, Some, None, option_map, option_and_then, refl, sym, ap, subst, ◌∙◌, ◌⊎◌, inl, inr, arith, if◌then◌else◌, drop, take, length-drop}
 use Rattle.std.proofs.lemmas.List.{take-append-le}
 use Rattle.sedre.specs.declared.elements.Element.{Element}
@@ -12,7 +12,7 @@ abbrev pub NextOn : (base : ℕ) → Option ℕ → Option ℕ → Type 0
 NextOn base None o = Unit {0}
 NextOn base (Some n) o = o ≡ Some (base + n)
 
--- a place that was found is found again, so much later, and stands from one place on and before another
+-- a place that was found is found again, so much later, and lies from one place on and before another
 abbrev pub FoundOn : (base from end : ℕ) → Option ℕ → Option ℕ → Type 0
 FoundOn base from end None o = Unit {0}
 FoundOn base from end (Some to) o = (o ≡ Some (base + to)) × (from ≤ to) × (to < end)

@@ -1,4 +1,4 @@
--- A text within a longer one, behind which nothing stands or a newline: places and bytes.
+-- A text within a longer one, behind which comes nothing or a newline: places and bytes.
 use Rattle.std.proofs.Common.{◌≡◌, ℕ, zero, suc, ◌+◌, ◌-◌, ◌≤◌, cond, Bool, true, false, List, [], ◌∷◌, ◌++◌, length, Option, Some, None, refl, sym, ap, ◌∙◌, arith, slice_get, drop, take, length-drop}
 use Rattle.std.specs.List.{prefix_len, take_while}
 use Rattle.std.proofs.Math.Seq.{drop-append-add}

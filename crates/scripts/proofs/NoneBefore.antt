@@ -1,4 +1,4 @@
--- Where nothing stands before a script, its numbers are the same.
+-- Where nothing comes before a script, its numbers are the same.
 use Rattle.std.proofs.Common.{◌≡◌, ℕ, zero, suc, ◌+◌, List, [], ◌∷◌, map, Option, Some, None, option_map, refl, ap, ap₂, ◌∙◌, zero-add}
 use Rattle.sedscript.specs.declared.types.Address.{Address}
 use Rattle.sedscript.specs.declared.types.Address.TheVariants.{Match, Line, Last}

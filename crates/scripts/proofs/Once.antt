@@ -6,7 +6,7 @@ use Rattle.std.proofs.lemmas.Bool.Decides.{nat_tests}
 use Rattle.sedscript.specs.Strings.{is_among}
 use Rattle.examples.specs.Strings.{NoneTwice}
 
--- no byte stands twice among these, nor one of those that stand before them
+-- no byte occurs twice among these, nor does one of those that come before them
 abbrev pub each_once : (before : List ℕ) → List ℕ → Bool
 each_once before [] = true
 each_once before (b ∷ bs) = not (is_among before b) && each_once (b ∷ before) bs

@@ -1,4 +1,4 @@
--- Where the commands of two scripts that only edit their lines stand in the script of both, and what they make there.
+-- Where the commands of two scripts that only edit their lines come in the script of both, and what they make there.
 use Rattle.std.proofs.Common.{◌≡◌, ℕ, zero, suc, ◌+◌, ◌<◌, List, [], ◌∷◌, ◌++◌, length, length-append, map, Bool, true, false, not, ◌&&◌, Option, None, Some, refl, sym, ap, ap₂, subst, ◌∙◌, zero-add, arith}
 use Rattle.std.specs.Prelude.{nat_eq, nat_lt, slice_get, slice_index_or, is_some, is_none, if◌then◌else◌}
 use Rattle.std.specs.List.{list_all, list_any}
@@ -170,7 +170,7 @@ chooses_alike : (counts : Bool) (p : Program) (finds : ℕ → List ℕ → Bool
 chooses_alike true p finds c h k active n n' ls ls' w alike = ap₂ (λ n ls. on_of finds c active n (none_left ls) w) (sym alike.0) (sym alike.1)
 chooses_alike false p finds c h k active n n' ls ls' w alike = ap (with_bang c.negate) (alike_choice p finds c.first c.second h k active n n' (none_left ls) (none_left ls') w)
 
--- what stands in a script stands in another one, behind so much
+-- what is in a script is in another one, behind so much
 record Placed (p r : Program) (b : Before) : Type 0 where
   commands : (k : ℕ) (c : Command) (counts : Bool) → slice_get p.commands k ≡ Some c → only_edits counts p c ≡ true → slice_get r.commands (b.commands + k) ≡ Some (command_behind b c)
   expressions : (e : ℕ) (x : WrittenExpression) → slice_get p.expressions e ≡ Some x → slice_get r.expressions (b.expressions + e) ≡ Some x

@@ -44,7 +44,7 @@ module _ (re : List ℕ) (e : Tree) (groups : ℕ) (is : IsSlashed re e groups) 
   abbrev text : List ℕ
   text = 47 ∷ (re ++ 47 ∷ b ∷ rest)
 
-  -- where the second slash stands, and the place behind it
+  -- where the second slash is, and the place behind it
   abbrev slash : ℕ
   slash = 1 + length re
 

@@ -42,7 +42,7 @@ module _ (re : List ℕ) (e : Tree) (groups : ℕ) (is : IsSlashed re e groups) 
   abbrev text : List ℕ
   text = 115 ∷ 47 ∷ (re ++ 47 ∷ (put ++ 47 ∷ 103 ∷ []))
 
-  -- where the second slash and the third stand
+  -- where the second slash and the third are
   abbrev middle : ℕ
   middle = 2 + length re
 

@@ -61,7 +61,7 @@ pub record BreaksNoLine (p : Program) : Type 0 where
   pub replacements : list_all (λ t. not (list_any is_break t.replacement)) p.substitutions ≡ true
   pub tables : (k b : ℕ) → is_newline b ≡ false → is_newline (in_table (slice_get p.tables k) b) ≡ false
 
--- how many commands, expressions and so on stand before those of a script
+-- how many commands, expressions and so on come before those of a script
 pub record Before : Type 0 where
   pub commands : ℕ
   pub expressions : ℕ
@@ -82,7 +82,7 @@ all_before p = record {
   wfiles = length p.wfiles;
 }
 
--- the numbers in such addresses, commands and substitutions, where so many stand before
+-- the numbers in such addresses, commands and substitutions, where so many come before
 abbrev pub address_behind : Before → Option Address → Option Address
 address_behind b (Some (Match (Some e))) = Some (Match (Some (b.expressions + e)))
 address_behind b other = other

@@ -19,7 +19,7 @@ leads_inside p (Branch u to) = nat_lt to (length p.commands)
 leads_inside p other = true
 
 -- No branch leads to the end of the script: without a label it would lead past the second of two. A label at the end is such an end
--- too, since the commands don't tell the two apart.
+-- too, since to the commands the two are the same.
 abbrev pub EachLeadsInside : Program → Type 0
 EachLeadsInside p = list_all (λ (c : Command). leads_inside p c.action) p.commands ≡ true
 
@@ -42,7 +42,7 @@ pub record HasLabel (kind : Kind) (max_nodes : ℕ) (text name : List ℕ) : Typ
   pub ends : IsEnd text to
   pub label : label_in text name 0 items ≡ Some place
 
--- No name is a label in both texts: in the text of both it would stand twice, which is a fault (this project's own).
+-- No name is a label in both texts: in the text of both it would be there twice, which is a fault (this project's own).
 abbrev pub ShareNoLabel : Kind → (max_nodes : ℕ) (a b : List ℕ) → Type 0
 ShareNoLabel kind max_nodes a b = (name : List ℕ) → HasLabel kind max_nodes a name → HasLabel kind max_nodes b name → ⊥
 

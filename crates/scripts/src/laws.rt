@@ -132,7 +132,7 @@ pub fn line_for_line()
         length (split_lines (text_of (map (replaced e text) (split_lines input)))) ≡ length (split_lines input) }
 {}
 
-/// `y/string1/string2/` writes each line byte by byte as its table says, where no byte stands twice in the first string and
+/// `y/string1/string2/` writes each line byte by byte as its table says, where no byte is twice in the first string and
 /// the two are of one length.
 pub fn transliterated()
     ensures { (s1 s2 input : List ℕ) → NoneTwice s1 → length s1 ≡ length s2 → EditsIntoLines false (y_of s1 s2) input (map (by_table s1 s2) (split_lines input)) }
