@@ -6,8 +6,8 @@ use Rattle.std.specs.List.{before_first}
 use Rattle.std.specs.Io.KnownBytes.{prepend_known, Consumes, IsAtEnd}
 use Rattle.sedspace.specs.Lines.{split_lines, is_newline, HasNoNewline}
 use Rattle.sedspace.specs.Reading.{TakesAtMost}
-use Rattle.sedspace.specs.Stream.{Stream, left, lines_left, TakesLine, GivesLine, NoLineLeft, FirstIsLonger, SeesEnd, LosesPart, TellsLast}
-use Rattle.sedspace.specs.Spaces.{Contents}
+use Rattle.sedspace.specs.Stream.{Stream, left, lines_left, TakesLine, GivesLine, NoLineLeft, FirstIsLonger, SeesEnd, LosesPart, AnswersLast}
+use Rattle.sedspace.specs.Spaces.{SpaceView}
 use Rattle.sedspace.specs.declared.lines.Got.{Got}
 use Rattle.sedspace.specs.declared.lines.Got.TheVariants.{Line, End}
 use Rattle.sedspace.specs.declared.errors.LineFault.{LineFault}
@@ -52,31 +52,31 @@ pub ahead_within : (front filled n : ℕ) (bytes : List ℕ) → filled ≤ n �
 ahead_within front filled n bytes most = omega (arith, length-drop front (take filled bytes), length-take filled bytes)
 
 -- what was appended within the limit lies within it
-pub appended_fits : (old new : Contents) (bytes : List ℕ) (count : ℕ) → new ≡ record old { bytes = old.bytes ++ bytes } → length bytes ≤ count → length old.bytes + count ≤ old.limit → length new.bytes ≤ new.limit
+pub appended_fits : (old new : SpaceView) (bytes : List ℕ) (count : ℕ) → new ≡ record old { bytes = old.bytes ++ bytes } → length bytes ≤ count → length old.bytes + count ≤ old.limit → length new.bytes ≤ new.limit
 appended_fits old new bytes count e most fits =
-    omega (arith, ap (λ (z : Contents). length z.bytes) e, ap (λ (z : Contents). z.limit) e, length-append old.bytes bytes, most, fits)
+    omega (arith, ap (λ (z : SpaceView). length z.bytes) e, ap (λ (z : SpaceView). z.limit) e, length-append old.bytes bytes, most, fits)
 
 -- bytes ahead are a line to come
-pub tells_more : (known : Option (List ℕ)) (ahead : List ℕ) → 0 < length ahead → TellsLast (option_map split_lines (prepend_known ahead known)) false
-tells_more None ahead some = tt
-tells_more (Some ys) ahead some =
+pub answers_more : (known : Option (List ℕ)) (ahead : List ℕ) → 0 < length ahead → AnswersLast (option_map split_lines (prepend_known ahead known)) false
+answers_more None ahead some = tt
+answers_more (Some ys) ahead some =
     let none : split_lines (ahead ++ ys) ≡ [] → ⊥ = λ e. absurd (omega (arith, ap length (lines_none (ahead ++ ys) e), length-append ahead ys)) in
     (λ (t : IsTrue false). absurd (search (rules, t)), λ e. absurd (none e))
 
-tells_end : (a b : Option (List ℕ)) → Consumes a b [] → IsAtEnd b → TellsLast (option_map split_lines a) true
-tells_end None b h end = tt
-tells_end (Some xs) None h end = absurd h
-tells_end (Some xs) (Some ys) h end = (λ _. ap split_lines (h ∙ end) ∙ lines_nil, λ _. search rules)
+answers_end : (a b : Option (List ℕ)) → Consumes a b [] → IsAtEnd b → AnswersLast (option_map split_lines a) true
+answers_end None b h end = tt
+answers_end (Some xs) None h end = absurd h
+answers_end (Some xs) (Some ys) h end = (λ _. ap split_lines (h ∙ end) ∙ lines_nil, λ _. search rules)
 
-tells_same : (a b : Option (List ℕ)) (last : Bool) → Consumes a b [] → TellsLast (option_map split_lines b) last → TellsLast (option_map split_lines a) last
-tells_same None b last h t = tt
-tells_same (Some xs) None last h t = absurd h
-tells_same (Some xs) (Some ys) last h t = subst (λ z. TellsLast (Some (split_lines z)) last) (sym h) t
+answers_same : (a b : Option (List ℕ)) (last : Bool) → Consumes a b [] → AnswersLast (option_map split_lines b) last → AnswersLast (option_map split_lines a) last
+answers_same None b last h t = tt
+answers_same (Some xs) None last h t = absurd h
+answers_same (Some xs) (Some ys) last h t = subst (λ z. AnswersLast (Some (split_lines z)) last) (sym h) t
 
 -- what a read past an empty front answers
-pub tells_read : (a known : Option (List ℕ)) (ahead : List ℕ) (more : Bool) → Consumes a (prepend_known ahead known) [] → (IsTrue more ↔ (0 < length ahead)) → (more ≡ false → IsAtEnd (prepend_known ahead known)) → TellsLast (option_map split_lines a) (not more)
-tells_read a known ahead true h given end = tells_same a _ false h (tells_more known ahead (given.0 (search rules)))
-tells_read a known ahead false h given end = tells_end a _ h (end refl)
+pub answers_read : (a known : Option (List ℕ)) (ahead : List ℕ) (more : Bool) → Consumes a (prepend_known ahead known) [] → (IsTrue more ↔ (0 < length ahead)) → (more ≡ false → IsAtEnd (prepend_known ahead known)) → AnswersLast (option_map split_lines a) (not more)
+answers_read a known ahead true h given end = answers_same a _ false h (answers_more known ahead (given.0 (search rules)))
+answers_read a known ahead false h given end = answers_end a _ h (end refl)
 
 takes_at_most : (a b : Option (List ℕ)) (taken : List ℕ) (n : ℕ) → Consumes a b taken → length taken ≤ n → TakesAtMost a b n
 takes_at_most None b taken n h most = tt
@@ -108,19 +108,19 @@ ended_unseen (Some xs) (Some ys) line ended h =
     let e : xs ≡ line ++ 10 ∷ ys = h ∙ append_assoc line (10 ∷ []) ys in
     λ none. absurd (newline_there line ys (rw (← e) none))
 
-module _ (before after : Contents) (part : List ℕ) (e : after ≡ record { bytes = before.bytes ++ part; limit = before.limit }) where
+module _ (before after : SpaceView) (part : List ℕ) (e : after ≡ record { bytes = before.bytes ++ part; limit = before.limit }) where
   size_of : length after.bytes ≡ length before.bytes + length part
-  size_of = ap (λ (z : Contents). length z.bytes) e ∙ length-append before.bytes part
+  size_of = ap (λ (z : SpaceView). length z.bytes) e ∙ length-append before.bytes part
 
   limit_of : after.limit ≡ before.limit
-  limit_of = ap (λ (z : Contents). z.limit) e
+  limit_of = ap (λ (z : SpaceView). z.limit) e
 
   cut_back : (n : ℕ) → n ≡ length before.bytes → record after { bytes = take n after.bytes } ≡ before
   cut_back n is =
-      ap (λ (z : Contents). record z { bytes = take n z.bytes }) e
+      ap (λ (z : SpaceView). record z { bytes = take n z.bytes }) e
       ∙ ap (λ (bytes : List ℕ). record before { bytes = bytes }) (ap (λ m. take m (before.bytes ++ part)) is ∙ take-append_seam before.bytes part)
 
-module _ {R : Type 0} (remaining : R → Option (List ℕ)) (failures : R → ℕ) (old new : Stream R) (before after : Contents) where
+module _ {R : Type 0} (remaining : R → Option (List ℕ)) (failures : R → ℕ) (old new : Stream R) (before after : SpaceView) where
   pub line_gathered : (r : Result Got LineFault) → Gathers remaining failures old new before after r → r ≡ Ok Line → (line : List ℕ) × (after ≡ record before { bytes = before.bytes ++ line }) × TakesLine (left remaining old) (left remaining new) line × GivesLine (lines_left remaining old) (lines_left remaining new) line
   line_gathered (Ok Line) h e =
       ⊎_elim
@@ -158,8 +158,8 @@ module _ {R : Type 0} (remaining : R → Option (List ℕ)) (failures : R → �
   pub too_long_gathered : (r : Result Got LineFault) → Gathers remaining failures old new before after r → r ≡ Err TooLong → length before.bytes ≤ before.limit → FirstIsLonger (lines_left remaining old) (before.limit - length before.bytes)
   too_long_gathered (Ok g) h e fits = cc
   too_long_gathered (Err TooLong) h e fits =
-      let size : length after.bytes ≡ length before.bytes + length h.1 = ap (λ (z : Contents). length z.bytes) h.3.space ∙ length-append before.bytes h.1 in
-      let limit : after.limit ≡ before.limit = ap (λ (z : Contents). z.limit) h.3.space in
+      let size : length after.bytes ≡ length before.bytes + length h.1 = ap (λ (z : SpaceView). length z.bytes) h.3.space ∙ length-append before.bytes h.1 in
+      let limit : after.limit ≡ before.limit = ap (λ (z : SpaceView). z.limit) h.3.space in
       first_is_longer _ _ h.1 new.ahead _ h.3.left_is h.3.part_is (omega (arith, size, limit, h.5, fits))
   too_long_gathered (Err Broken) h e fits = cc
 

@@ -4,7 +4,7 @@ use Rattle.std.specs.Io.KnownBytes.{prepend_known, Consumes}
 use Rattle.std.proofs.KnownBytes.{Consumes-nil, Consumes-trans}
 use Rattle.std.proofs.lemmas.Grind.{pieces}
 use Rattle.sedspace.specs.Lines.{HasNoNewline}
-use Rattle.sedspace.specs.Spaces.{Contents}
+use Rattle.sedspace.specs.Spaces.{SpaceView}
 use Rattle.sedspace.specs.Stream.{Stream, left}
 use Rattle.sedspace.specs.Gathering.{Gathered, GatheredLine}
 
@@ -21,7 +21,7 @@ pub same_source : {R A : Type 0} (f : R → A) (s t : Stream R) → t ≡ record
 same_source f s t e = ap (λ z. f z.source) e
 
 module _ {R : Type 0} (remaining : R → Option (List ℕ)) where
-  pub Gathered-start : (s : Stream R) (b : Contents) → Gathered remaining s s b b [] []
+  pub Gathered-start : (s : Stream R) (b : SpaceView) → Gathered remaining s s b b [] []
   Gathered-start s b =
       record {
         space = ap (λ z. record { bytes = z; limit = b.limit }) (sym (append-nil b.bytes));
@@ -35,10 +35,10 @@ module _ {R : Type 0} (remaining : R → Option (List ℕ)) where
         whole_is = inr (refl, refl);
       }
 
-  moved-core : (s₀ s : Stream R) (b₀ b : Contents) (part taken : List ℕ) → Gathered remaining s₀ s b₀ b part taken → HasNoNewline s.ahead → Gathered remaining s₀ (record s { ahead = [] }) b₀ (record b { bytes = b.bytes ++ s.ahead }) (part ++ s.ahead) taken
+  moved-core : (s₀ s : Stream R) (b₀ b : SpaceView) (part taken : List ℕ) → Gathered remaining s₀ s b₀ b part taken → HasNoNewline s.ahead → Gathered remaining s₀ (record s { ahead = [] }) b₀ (record b { bytes = b.bytes ++ s.ahead }) (part ++ s.ahead) taken
   moved-core s₀ s b₀ b part taken h none =
       record {
-        space = ap (λ (z : Contents). record { bytes = z.bytes ++ s.ahead; limit = z.limit }) h.space ∙ ap (λ (z : List ℕ). record { bytes = z; limit = b₀.limit }) (append_assoc b₀.bytes part s.ahead);
+        space = ap (λ (z : SpaceView). record { bytes = z.bytes ++ s.ahead; limit = z.limit }) h.space ∙ ap (λ (z : List ℕ). record { bytes = z; limit = b₀.limit }) (append_assoc b₀.bytes part s.ahead);
         part_is = HasNoNewline-append part s.ahead h.part_is none;
         left_is = Consumes-trans _ _ _ part s.ahead h.left_is (prepend-moved (remaining s.source) s.ahead s.ahead [] (sym (append-nil s.ahead)));
         source_is = h.source_is;
@@ -50,16 +50,16 @@ module _ {R : Type 0} (remaining : R → Option (List ℕ)) where
       }
 
   -- all that was ahead is moved
-  pub Gathered-moved : (s₀ s t : Stream R) (b₀ b c : Contents) (part taken : List ℕ) → Gathered remaining s₀ s b₀ b part taken → HasNoNewline s.ahead → t.ahead ≡ [] → t ≡ record s { ahead = t.ahead } → c ≡ record b { bytes = b.bytes ++ s.ahead } → Gathered remaining s₀ t b₀ c (part ++ s.ahead) taken
+  pub Gathered-moved : (s₀ s t : Stream R) (b₀ b c : SpaceView) (part taken : List ℕ) → Gathered remaining s₀ s b₀ b part taken → HasNoNewline s.ahead → t.ahead ≡ [] → t ≡ record s { ahead = t.ahead } → c ≡ record b { bytes = b.bytes ++ s.ahead } → Gathered remaining s₀ t b₀ c (part ++ s.ahead) taken
   Gathered-moved s₀ s t b₀ b c part taken h none empty same grown =
       let e : t ≡ record s { ahead = [] } = same ∙ ap (λ (z : List ℕ). record s { ahead = z }) empty in
       subst (λ (z : Stream R). Gathered remaining s₀ z b₀ c (part ++ s.ahead) taken) (sym e) (
-      subst (λ (z : Contents). Gathered remaining s₀ (record s { ahead = [] }) b₀ z (part ++ s.ahead) taken) (sym grown) (
+      subst (λ (z : SpaceView). Gathered remaining s₀ (record s { ahead = [] }) b₀ z (part ++ s.ahead) taken) (sym grown) (
       moved-core s₀ s b₀ b part taken h none
       )
       )
 
-  line-core : (s₀ s : Stream R) (b₀ b : Contents) (part taken line rest : List ℕ) → Gathered remaining s₀ s b₀ b part taken → HasNoNewline line → s.ahead ≡ line ++ 10 ∷ rest → GatheredLine remaining s₀ (record s { ahead = rest }) b₀ (record b { bytes = b.bytes ++ line }) (part ++ line) taken
+  line-core : (s₀ s : Stream R) (b₀ b : SpaceView) (part taken line rest : List ℕ) → Gathered remaining s₀ s b₀ b part taken → HasNoNewline line → s.ahead ≡ line ++ 10 ∷ rest → GatheredLine remaining s₀ (record s { ahead = rest }) b₀ (record b { bytes = b.bytes ++ line }) (part ++ line) taken
   line-core s₀ s b₀ b part taken line rest h none e =
       let ends : s.ahead ≡ (line ++ 10 ∷ []) ++ rest = e ∙ sym (append_assoc line (10 ∷ []) rest) in
       let moved = prepend-moved (remaining s.source) s.ahead (line ++ 10 ∷ []) rest ends in
@@ -67,7 +67,7 @@ module _ {R : Type 0} (remaining : R → Option (List ℕ)) where
       let len : length s.ahead ≡ length line + length (10 ∷ rest) = ap length e ∙ length-append line (10 ∷ rest) in
       let len2 : length s.ahead ≡ length line + 1 + length rest = omega (arith, len) in
       record {
-        space = ap (λ (z : Contents). record { bytes = z.bytes ++ line; limit = z.limit }) h.space ∙ ap (λ (z : List ℕ). record { bytes = z; limit = b₀.limit }) (append_assoc b₀.bytes part line);
+        space = ap (λ (z : SpaceView). record { bytes = z.bytes ++ line; limit = z.limit }) h.space ∙ ap (λ (z : List ℕ). record { bytes = z; limit = b₀.limit }) (append_assoc b₀.bytes part line);
         line_is = HasNoNewline-append part line h.part_is none;
         left_is = rw append_assoc both;
         source_is = h.source_is;
@@ -79,16 +79,16 @@ module _ {R : Type 0} (remaining : R → Option (List ℕ)) where
       }
 
   -- the line ends in what was ahead
-  pub Gathered-line : (s₀ s t : Stream R) (b₀ b c : Contents) (part taken line : List ℕ) → Gathered remaining s₀ s b₀ b part taken → HasNoNewline line → s.ahead ≡ line ++ 10 ∷ t.ahead → t ≡ record s { ahead = t.ahead } → c ≡ record b { bytes = b.bytes ++ line } → GatheredLine remaining s₀ t b₀ c (part ++ line) taken
+  pub Gathered-line : (s₀ s t : Stream R) (b₀ b c : SpaceView) (part taken line : List ℕ) → Gathered remaining s₀ s b₀ b part taken → HasNoNewline line → s.ahead ≡ line ++ 10 ∷ t.ahead → t ≡ record s { ahead = t.ahead } → c ≡ record b { bytes = b.bytes ++ line } → GatheredLine remaining s₀ t b₀ c (part ++ line) taken
   Gathered-line s₀ s t b₀ b c part taken line h none e same grown =
       subst (λ (z : Stream R). GatheredLine remaining s₀ z b₀ c (part ++ line) taken) (sym same) (
-      subst (λ (z : Contents). GatheredLine remaining s₀ (record s { ahead = t.ahead }) b₀ z (part ++ line) taken) (sym grown) (
+      subst (λ (z : SpaceView). GatheredLine remaining s₀ (record s { ahead = t.ahead }) b₀ z (part ++ line) taken) (sym grown) (
       line-core s₀ s b₀ b part taken line t.ahead h none e
       )
       )
 
   -- more is read, or the end is found
-  pub Gathered-refilled : (s₀ s t : Stream R) (b₀ b : Contents) (part taken : List ℕ) → Gathered remaining s₀ s b₀ b part taken → s.ahead ≡ [] → Consumes (left remaining s) (left remaining t) [] → Consumes (remaining s.source) (remaining t.source) t.ahead → t.read_ahead ≡ s.read_ahead → t.fault ≡ s.fault → (s.ended ≡ true → t ≡ s) → Gathered remaining s₀ t b₀ b part (taken ++ t.ahead)
+  pub Gathered-refilled : (s₀ s t : Stream R) (b₀ b : SpaceView) (part taken : List ℕ) → Gathered remaining s₀ s b₀ b part taken → s.ahead ≡ [] → Consumes (left remaining s) (left remaining t) [] → Consumes (remaining s.source) (remaining t.source) t.ahead → t.read_ahead ≡ s.read_ahead → t.fault ≡ s.fault → (s.ended ≡ true → t ≡ s) → Gathered remaining s₀ t b₀ b part (taken ++ t.ahead)
   Gathered-refilled s₀ s t b₀ b part taken h empty same read read_ahead fault done =
       let both = Consumes-trans _ _ _ part [] h.left_is same in
       let none : length s.ahead ≡ 0 = ap length empty in

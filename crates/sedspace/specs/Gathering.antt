@@ -3,7 +3,7 @@
 use Rattle.std.specs.Prelude.{◌≡◌, ℕ, ◌+◌, ◌<◌, ◌≤◌, ◌⊎◌, true, List, [], ◌∷◌, ◌++◌, length, Option, Result, Ok, Err}
 use Rattle.std.specs.List.{before_first}
 use Rattle.std.specs.Io.KnownBytes.{Consumes, IsAtEnd}
-use Rattle.sedspace.specs.Spaces.{Contents}
+use Rattle.sedspace.specs.Spaces.{SpaceView}
 use Rattle.sedspace.specs.declared.lines.Got.{Got}
 use Rattle.sedspace.specs.declared.lines.Got.TheVariants.{Line, End}
 use Rattle.sedspace.specs.declared.errors.LineFault.{LineFault}
@@ -13,7 +13,7 @@ use Rattle.sedspace.specs.Lines.{is_newline, HasNoNewline}
 use Rattle.sedspace.specs.Stream.{Stream, left}
 
 -- a part of a line was gathered: it is in the space, and these bytes were taken from the source for it
-pub record Gathered {R : Type 0} (remaining : R → Option (List ℕ)) (old new : Stream R) (before after : Contents)
+pub record Gathered {R : Type 0} (remaining : R → Option (List ℕ)) (old new : Stream R) (before after : SpaceView)
     (part taken : List ℕ) : Type 0 where
   pub space : after ≡ record { bytes = before.bytes ++ part; limit = before.limit }
   pub part_is : HasNoNewline part
@@ -26,7 +26,7 @@ pub record Gathered {R : Type 0} (remaining : R → Option (List ℕ)) (old new 
   pub whole_is : HasNoNewline old.ahead ⊎ ((new.source ≡ old.source) × (old.ahead ≡ part ++ new.ahead))
 
 -- a line was gathered into a space, and its newline dropped
-pub record GatheredLine {R : Type 0} (remaining : R → Option (List ℕ)) (old new : Stream R) (before after : Contents)
+pub record GatheredLine {R : Type 0} (remaining : R → Option (List ℕ)) (old new : Stream R) (before after : SpaceView)
     (line taken : List ℕ) : Type 0 where
   pub space : after ≡ record { bytes = before.bytes ++ line; limit = before.limit }
   pub line_is : HasNoNewline line
@@ -39,7 +39,7 @@ pub record GatheredLine {R : Type 0} (remaining : R → Option (List ℕ)) (old 
   pub whole_is : HasNoNewline old.ahead ⊎ (new.source ≡ old.source)
 
 -- what an answer means, before a fault is kept
-abbrev pub Gathers : {R : Type 0} → (R → Option (List ℕ)) → (R → ℕ) → Stream R → Stream R → Contents → Contents
+abbrev pub Gathers : {R : Type 0} → (R → Option (List ℕ)) → (R → ℕ) → Stream R → Stream R → SpaceView → SpaceView
     → Result Got LineFault → Type 0
 Gathers remaining failures old new before after (Ok Line) =
     (failures new.source ≡ failures old.source) × (line : List ℕ) × (taken : List ℕ)

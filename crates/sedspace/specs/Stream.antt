@@ -43,9 +43,9 @@ NoLineLeft None = ⊤
 NoLineLeft (Some ls) = ls ≡ []
 
 -- it says whether no line is left
-abbrev pub TellsLast : Option (List (List ℕ)) → Bool → Type 0
-TellsLast None last = ⊤
-TellsLast (Some ls) last = IsTrue last ↔ (ls ≡ [])
+abbrev pub AnswersLast : Option (List (List ℕ)) → Bool → Type 0
+AnswersLast None last = ⊤
+AnswersLast (Some ls) last = IsTrue last ↔ (ls ≡ [])
 
 -- known lines stay
 abbrev pub KeepsLines : Option (List (List ℕ)) → Option (List (List ℕ)) → Type 0

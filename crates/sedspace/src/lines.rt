@@ -98,7 +98,7 @@ impl<R: ByteSource> Model for Lines<R> {
 }
 
 impl<R: ByteSource> Lines<R> {
-    ghost use Rattle.sedspace.specs.Stream.{Stream, left, lines_left, GivesLine, GivesLines, TakesLine, FirstIsLonger, NoLineLeft, SeesEnd, LosesPart, FailsIfBroken, TellsLast, KeepsLines, KeepsFault, ReadsForBytes, ReadsOn, RisesAtMost};
+    ghost use Rattle.sedspace.specs.Stream.{Stream, left, lines_left, GivesLine, GivesLines, TakesLine, FirstIsLonger, NoLineLeft, SeesEnd, LosesPart, FailsIfBroken, AnswersLast, KeepsLines, KeepsFault, ReadsForBytes, ReadsOn, RisesAtMost};
     ghost use Rattle.sedspace.specs.Reading.{TakesAtMost};
     ghost use Rattle.sedspace.specs.Gathering.{Gathers};
 
@@ -239,7 +239,7 @@ impl<R: ByteSource> Lines<R> {
     /// have been read ahead, or its end was seen in an earlier call. Answers `Broken` where the source failed before a
     /// byte of it came; no byte is lost by it.
     pub fn is_last(&mut self) -> Result<bool, LineFault>
-        ensures last { IfOk result (TellsLast (lines_left R.remaining self.old)) }
+        ensures last { IfOk result (AnswersLast (lines_left R.remaining self.old)) }
         ensures end { result ≡ Ok true → self.new.ended ≡ true }
         ensures left { Keeps (left R.remaining self.old) (left R.remaining self.new) }
         ensures lines { KeepsLines (lines_left R.remaining self.old) (lines_left R.remaining self.new) }

@@ -14,9 +14,9 @@ pub struct Queue {
 
 impl Model for Queue {
     ghost use Rattle.std.specs.Prelude.{◌≤◌, vec_len, vec_capacity};
-    ghost use Rattle.sedspace.specs.Spaces.{Entries};
+    ghost use Rattle.sedspace.specs.Spaces.{QueueView};
 
-    ghost Value = { Entries };
+    ghost Value = { QueueView };
 
     ghost view = { λ s. record { items = s.held.items; limit = s.most } };
 
@@ -24,7 +24,7 @@ impl Model for Queue {
 }
 
 impl Queue {
-    ghost use Rattle.sedspace.specs.Spaces.{Entries};
+    ghost use Rattle.sedspace.specs.Spaces.{QueueView};
 
     /// Makes an empty queue, and reserves memory for `limit` numbers.
     pub fn new(alloc: Global, limit: usize) -> Result<Queue, AllocError>

@@ -36,10 +36,10 @@ pub struct Space {
 
 impl Model for Space {
     ghost use Rattle.std.specs.Prelude.{◌+◌, ◌<◌, ◌≤◌, vec_len, vec_capacity};
-    ghost use Rattle.sedspace.specs.Spaces.{Contents};
+    ghost use Rattle.sedspace.specs.Spaces.{SpaceView};
     ghost use Rattle.sedspace.specs.NewlineAfter.{NewlineAt, IsClear, held_between};
 
-    ghost Value = { Contents };
+    ghost Value = { SpaceView };
 
     ghost view = { λ s. record { bytes = held_between s.front s.end s.held.items; limit = s.most } };
 
@@ -49,7 +49,7 @@ impl Model for Space {
 }
 
 impl Space {
-    ghost use Rattle.sedspace.specs.Spaces.{Contents};
+    ghost use Rattle.sedspace.specs.Spaces.{SpaceView};
 
     /// Makes an empty space, and reserves memory for `limit` bytes.
     pub fn new(alloc: Global, limit: usize) -> Result<Space, AllocError>

@@ -74,9 +74,9 @@ impl MemorySink {
     {
         self.writes = self.writes.saturating_add(1);
         let count = bytes.len().min(most).min(self.room);
-        let is_told = self.fails_at == Some(self.writes);
+        let is_due = self.fails_at == Some(self.writes);
         let is_refused = count == 0 && !bytes.is_empty();
-        if !is_told && !is_refused && self.bytes.extend_from_slice(&bytes[..count]).is_ok() {
+        if !is_due && !is_refused && self.bytes.extend_from_slice(&bytes[..count]).is_ok() {
             self.room -= count;
             return Ok(count);
         }
@@ -113,7 +113,7 @@ impl MemoryOutputs {
     {
         let mut held = Vec::with_capacity(alloc, sinks)?;
         for _ in 0..sinks {
-            held.push(MemorySink::new(alloc))?;
+            held.push_reserved(MemorySink::new(alloc));
         }
         Ok(MemoryOutputs {
             held,
@@ -129,7 +129,7 @@ impl MemoryOutputs {
     {
         let mut held = Vec::with_capacity(alloc, sinks)?;
         for _ in 0..sinks {
-            held.push(MemorySink::with_room(alloc, bytes)?)?;
+            held.push_reserved(MemorySink::with_room(alloc, bytes)?);
         }
         Ok(MemoryOutputs {
             held,

@@ -134,7 +134,7 @@ impl ByteSource for MemorySource {
         ensures count { IfOk result (λ n. n ≡ min
             (piece_end self.old.cuts self.old.taken (length self.old.bytes) - self.old.taken)
             (min (length buf.new) self.old.most)) }
-        ensures told { IsErr result ↔ (self.old.fails_at ≡ Some self.new.calls) }
+        ensures answered { IsErr result ↔ (self.old.fails_at ≡ Some self.new.calls) }
         ensures rest { self.new
             ≡ record self.old { taken = self.new.taken; calls = self.new.calls; failures = self.new.failures } }
     {

@@ -1,5 +1,5 @@
 use Rattle.std.proofs.Common.{◌≡◌, ◌<◌, rules, ℕ, List, ◌∷◌, subst, Ok, refl, ◌∙◌, ap, [], ◌++◌, length, arith, inl, inr, length-append}
-use Rattle.sedspace.specs.Spaces.{Contents}
+use Rattle.sedspace.specs.Spaces.{SpaceView}
 use Rattle.sedspace.specs.Gathering.{Gathered}
 use Rattle.sedspace.proofs.ReadCounts.{ReadsForBytes-none, ReadsForBytes-same, ReadsForBytes-then}
 use Rattle.sedspace.proofs.StreamLemmas.{same_source, Gathered-start, Gathered-moved, Gathered-line, Gathered-refilled}
@@ -58,7 +58,7 @@ returns-in-Ok-false-refill-clause-gathers g c =
     let r = c.in-Ok-false-refill.ensures in
     let moved = Gathered-moved _ _ _ _ _ _ _ h.3 h.4 h.5 a.0 a.1 m.rest a.2 in
     let e = r.end (ap Ok c.in-Ok-false-refill.field-0-test) in
-    let grown : c.move_ahead.new.space.bytes ≡ c.args.space.now.bytes ++ (h.3 ++ c.loop-self.self.ahead) = ap (λ (z : Contents). z.bytes) moved.space in
+    let grown : c.move_ahead.new.space.bytes ≡ c.args.space.now.bytes ++ (h.3 ++ c.loop-self.self.ahead) = ap (λ (z : SpaceView). z.bytes) moved.space in
     let some : 0 < length (h.3 ++ c.loop-self.self.ahead) = omega (arith, ap length grown, length-append c.args.space.now.bytes (h.3 ++ c.loop-self.self.ahead), c.len-start.ensures.value, c.len.ensures.value, c.if-len-start.true) in (
       r.failed ∙ (same_source g.R.ByteSource.failures c.loop-self.self c.move_ahead.new.self m.rest ∙ h.0),
       h.3 ++ c.loop-self.self.ahead,
@@ -91,7 +91,7 @@ returns-in-Ok-false-2-clause-gathers g c =
     let moved = Gathered-moved _ _ _ _ _ _ _ h.3 h.4 h.5 a.0 a.1 m.rest a.2 in
     let e = r.end (ap Ok c.in-Ok-false-refill.field-0-test) in
     let gathered = Gathered-refilled _ _ _ _ _ _ _ _ moved a.1 r.left r.taken r.reads.1 r.fault (λ e. (r.unread e).1) in
-    let grown : c.move_ahead.new.space.bytes ≡ c.args.space.now.bytes ++ (h.3 ++ c.loop-self.self.ahead) = ap (λ (z : Contents). z.bytes) moved.space in
+    let grown : c.move_ahead.new.space.bytes ≡ c.args.space.now.bytes ++ (h.3 ++ c.loop-self.self.ahead) = ap (λ (z : SpaceView). z.bytes) moved.space in
     let none : h.3 ++ c.loop-self.self.ahead ≡ [] = empty (h.3 ++ c.loop-self.self.ahead) (omega (arith, ap length grown, length-append c.args.space.now.bytes (h.3 ++ c.loop-self.self.ahead), c.len-start.ensures.value, c.len.ensures.value, c.if-len-start.false)) in (
       r.failed ∙ (same_source g.R.ByteSource.failures c.loop-self.self c.move_ahead.new.self m.rest ∙ h.0),
       _,
@@ -105,7 +105,7 @@ loop-self-smaller g c =
     let m = c.in-Ok-false.ensures in
     let a = m.all (ap Ok c.in-Ok-false.field-0-test) in
     let more : 0 < length c.refill.new.self.ahead = c.in-Ok-true-refill.ensures.given.0 (search rules) in
-    omega (arith, ap (λ (z : Contents). length z.bytes) a.2, ap (λ (z : Contents). z.limit) a.2, length-append c.loop-self.space.bytes c.loop-self.self.ahead, m.fits, more)
+    omega (arith, ap (λ (z : SpaceView). length z.bytes) a.2, ap (λ (z : SpaceView). z.limit) a.2, length-append c.loop-self.space.bytes c.loop-self.self.ahead, m.fits, more)
 
 pub returns-in-Ok-true-clause-once : goal.returns-in-Ok-true-clause-once
 returns-in-Ok-true-clause-once g c =

@@ -1,6 +1,11 @@
-use Rattle.std.proofs.Common.{◌≡◌, replicate, true}
+use Rattle.std.proofs.Common.{◌≡◌, ◌≤◌, replicate, true}
+use Rattle.std.specs.Prelude.{vec_len, vec_capacity}
 use Rattle.sedspace.specs.Memory.{new_sink}
 use Rattle.sedspace.proofs.memory.outputs.MemoryOutputs.with_room.Given as goal
 
 abbrev pub invariant-loop : goal.invariant-loop
-invariant-loop l = l.held.items ≡ replicate l.counter (new_sink l.bytes true)
+invariant-loop l = record {
+  made : l.held.items ≡ replicate l.counter (new_sink l.bytes true);
+  count : vec_len l.held ≡ l.counter;
+  room : l.sinks ≤ vec_capacity l.held;
+}
