@@ -13,7 +13,7 @@ use Rattle.sedre.specs.Tokens.{token_at}
 use Rattle.sedre.specs.Tree.{Tree, WrittenExpression, expression_tree, size}
 use Rattle.sedre.specs.Grammar.{depth, ReadsAs, FaultyWith}
 use Rattle.sedre.specs.Arena.{IsExpr}
-use Rattle.sedre.specs.Stacks.{Nesting, CanTake, whole_level, Stored, postorder, written_trees, extent_kept}
+use Rattle.sedre.specs.Stacks.{Nesting, CanTake, whole_level, StoresTrees, postorder, written_trees, extent_kept}
 use Rattle.sedre.specs.Finished.{GroupsNumbered, IsFinished, IsOverLimit}
 use Rattle.sedre.proofs.Written.{length-postorder}
 use Rattle.sedre.proofs.Kept.{fitting_all}
@@ -23,18 +23,10 @@ use Rattle.sedre.proofs.Reading.{Reading, reading_whole, reading_limits}
 use Rattle.sedre.proofs.Repeating.{repeat_follows}
 use Rattle.sedre.proofs.Exclusive.{no_fault}
 
--- another fact for the value, and for the error
-pub if_ok : {A E : Type 0} (P Q : A → Type 0) (r : Result A E) → ((x : A) → P x → Q x) → IfOk r P → IfOk r Q
-if_ok P Q (Ok x) f p = f x p
-if_ok P Q (Err e) f p = tt
-
+-- another fact for the error
 pub if_err : {A E : Type 0} (P Q : E → Type 0) (r : Result A E) → ((e : E) → P e → Q e) → IfErr r P → IfErr r Q
 if_err P Q (Ok x) f p = tt
 if_err P Q (Err e) f p = f e p
-
-pub ok_on : {A E : Type 0} (P : A → Type 0) (Q : Type 0) (r : Result A E) → ((x : A) → P x → Q) → IfOk r P → OnOk r Q
-ok_on P Q (Ok x) f p = f x p
-ok_on P Q (Err e) f p = tt
 
 pub ok_of : {A E P Q : Type 0} (r : Result A E) → OnOk r P → (P → Q) → OnOk r Q
 ok_of (Ok x) p f = f p
@@ -46,24 +38,24 @@ no_length [] h = refl
 no_length (l ∷ ls) h = absurd (omega (arith, h))
 
 -- the one tree on the stack
-pub one_part : (limit : ℕ) (s : Stack) (t : Tree) (p : TreeExtent) → Stored limit s (t ∷ []) → p ≡ get_or s.parts.items 0 p → p ≡ extent_kept limit (size t) t
+pub one_part : (limit : ℕ) (s : Stack) (t : Tree) (p : TreeExtent) → StoresTrees limit s (t ∷ []) → p ≡ get_or s.parts.items 0 p → p ≡ extent_kept limit (size t) t
 one_part limit s t p st e = e ∙ ap (λ (ps : List TreeExtent). get_or ps 0 p) st.parts_are ∙ ap (λ (n : ℕ). extent_kept limit n t) (let h : 0 + size t ≡ size t = omega arith in h)
 
-pub one_tree : (limit : ℕ) (s : Stack) (t : Tree) → Stored limit s (t ∷ []) → size t < limit → s.nodes ≡ postorder 0 t
+pub one_tree : (limit : ℕ) (s : Stack) (t : Tree) → StoresTrees limit s (t ∷ []) → size t < limit → s.nodes ≡ postorder 0 t
 one_tree limit s t st h = st.nodes_are ∙ ap (written_trees 0) (fitting_all limit 0 (t ∷ []) (omega (arith, h))) ∙ append-nil (postorder 0 t)
 
-pub small_tree : (limit : ℕ) (s : Stack) (t : Tree) (p : TreeExtent) → Stored limit s (t ∷ []) → p ≡ get_or s.parts.items 0 p → p.end < s.limit → size t < limit
+pub small_tree : (limit : ℕ) (s : Stack) (t : Tree) (p : TreeExtent) → StoresTrees limit s (t ∷ []) → p ≡ get_or s.parts.items 0 p → p.end < s.limit → size t < limit
 small_tree limit s t p st e h = omega (arith, h, st.limit_is, ap (λ (q : TreeExtent). q.end) (one_part limit s t p st e))
 
-pub shallow_tree : (limit : ℕ) (s : Stack) (t : Tree) (p : TreeExtent) → Stored limit s (t ∷ []) → p ≡ get_or s.parts.items 0 p → p.depth ≤ 600 → depth t ≤ 600
+pub shallow_tree : (limit : ℕ) (s : Stack) (t : Tree) (p : TreeExtent) → StoresTrees limit s (t ∷ []) → p ≡ get_or s.parts.items 0 p → p.depth ≤ 600 → depth t ≤ 600
 shallow_tree limit s t p st e h = omega (arith, h, ap (λ (q : TreeExtent). q.depth) (one_part limit s t p st e))
 
-pub finished_expr : (limit : ℕ) (s : Stack) (t : Tree) (p : TreeExtent) (groups opened : ℕ) → Stored limit s (t ∷ []) → p ≡ get_or s.parts.items 0 p → p.end < s.limit → opened ≡ groups → GroupsNumbered groups t → limit ≤ 65537 → IsExpr s.nodes opened
+pub finished_expr : (limit : ℕ) (s : Stack) (t : Tree) (p : TreeExtent) (groups opened : ℕ) → StoresTrees limit s (t ∷ []) → p ≡ get_or s.parts.items 0 p → p.end < s.limit → opened ≡ groups → GroupsNumbered groups t → limit ≤ 65537 → IsExpr s.nodes opened
 finished_expr limit s t p groups opened st e h eg g most =
     let small : size t < limit = small_tree limit s t p st e h in
     subst (λ (n : ℕ). IsExpr s.nodes n) (sym eg) (whole_expr t groups s.nodes (one_tree limit s t st small) g (omega (arith, small, most)))
 
-pub finished : (limit : ℕ) (s : Nesting) (k : Stack) (p : TreeExtent) (e : WrittenExpression) (opened : ℕ) → Stored limit k (whole_level s.top ∷ []) → p ≡ get_or k.parts.items 0 p → p.end < k.limit → p.depth ≤ 600 → opened ≡ s.opened →
+pub finished : (limit : ℕ) (s : Nesting) (k : Stack) (p : TreeExtent) (e : WrittenExpression) (opened : ℕ) → StoresTrees limit k (whole_level s.top ∷ []) → p ≡ get_or k.parts.items 0 p → p.end < k.limit → p.depth ≤ 600 → opened ≡ s.opened →
     e ≡ record { nodes = k.nodes; groups = opened } → IsFinished s limit e
 finished limit s k p e opened st read small shallow eg is =
     let size_is : size (whole_level s.top) < limit = small_tree limit k (whole_level s.top) p st read small in

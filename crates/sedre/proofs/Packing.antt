@@ -10,7 +10,7 @@ use Rattle.sedre.specs.declared.types.Node.TheVariants as node
 use Rattle.sedre.specs.declared.packed.PackedNode.{PackedNode}
 use Rattle.sedre.specs.declared.packed.Shape.{Shape}
 use Rattle.sedre.specs.declared.packed.Shape.TheVariants as shape
-use Rattle.sedre.specs.Packed.{id, node_of, node_at, nodes_from, FitsShape, Fits, FitFrom, entry_of, HasNumber, AddsSets, PartsBelow, shifted}
+use Rattle.sedre.specs.Packed.{id, node_of, node_at, nodes_from, FitsShape, NodeFits, FitFrom, entry_of, HasNumber, AddsSets, PartsBelow, shifted}
 
 pub length-nodes : (sets : List (List Bool)) (x : ℕ) (es : List PackedNode) → length (nodes_from sets x es) ≡ length es
 length-nodes sets x [] = refl
@@ -88,12 +88,12 @@ nodes-get sets x zero (f ∷ es) e h =
     ap (λ (g : PackedNode). Some (node_at sets x g)) same ∙ ap (λ (n : ℕ). Some (node_at sets n e)) (let r : x ≡ x + 0 = omega arith in r)
 nodes-get sets x (suc k) (f ∷ es) e h = nodes-get sets (x + 1) k es e h ∙ ap (λ (n : ℕ). Some (node_at sets n e)) (let r : x + 1 + k ≡ x + suc k = omega arith in r)
 
-pub fit-get : (sets : List (List Bool)) (x k : ℕ) (es : List PackedNode) (e : PackedNode) → FitFrom sets x es → slice_get es k ≡ Some e → Fits sets (x + k) e
+pub fit-get : (sets : List (List Bool)) (x k : ℕ) (es : List PackedNode) (e : PackedNode) → FitFrom sets x es → slice_get es k ≡ Some e → NodeFits sets (x + k) e
 fit-get sets x k [] e p h = absurd cc
 fit-get sets x zero (f ∷ es) e p h =
     let same : f ≡ e = cc in
-    subst (λ (n : ℕ). Fits sets n e) (let r : x ≡ x + 0 = omega arith in r) (subst (λ (g : PackedNode). Fits sets x g) same p.0)
-fit-get sets x (suc k) (f ∷ es) e p h = subst (λ (n : ℕ). Fits sets n e) (let r : x + 1 + k ≡ x + suc k = omega arith in r) (fit-get sets (x + 1) k es e p.1 h)
+    subst (λ (n : ℕ). NodeFits sets n e) (let r : x ≡ x + 0 = omega arith in r) (subst (λ (g : PackedNode). NodeFits sets x g) same p.0)
+fit-get sets x (suc k) (f ∷ es) e p h = subst (λ (n : ℕ). NodeFits sets n e) (let r : x + 1 + k ≡ x + suc k = omega arith in r) (fit-get sets (x + 1) k es e p.1 h)
 
 -- the entry of a node stands for it
 back : (x a : ℕ) → a < x → x - (x - a) ≡ a
@@ -118,7 +118,7 @@ entry_stands sets x number (node.Star a first) h p = ap (λ (m : ℕ). node.Star
 entry_stands sets x number (node.Opt a first) h p = ap (λ (m : ℕ). node.Opt (id m) first) (back x a.index p)
 entry_stands sets x number _ h p = refl
 
-pub entry_fits : (sets : List (List Bool)) (x number : ℕ) (n : Node) → HasNumber sets number n → Fits sets x (entry_of x number n)
+pub entry_fits : (sets : List (List Bool)) (x number : ℕ) (n : Node) → HasNumber sets number n → NodeFits sets x (entry_of x number n)
 entry_fits sets x number node.Empty h = tt
 entry_fits sets x number (node.Set s) h = found_below sets number s h
 entry_fits sets x number node.Begin h = tt
@@ -159,7 +159,7 @@ pub fit_more : (sets sets' : List (List Bool)) (es es' : List PackedNode) (k num
     FitFrom sets 0 es → FitFrom sets' 0 es'
 fit_more sets sets' es es' k number n here g h e p =
     let old : FitFrom sets' 0 es = subst (λ (s : List (List Bool)). FitFrom s 0 es) (sym g.1) (fit_grown sets g.0 0 es p) in
-    let one : Fits sets' (0 + length es) (entry_of k number n) = subst (λ (m : ℕ). Fits sets' m (entry_of k number n)) (let r : k ≡ 0 + length es = omega (arith, here) in r) (entry_fits sets' k number n h) in
+    let one : NodeFits sets' (0 + length es) (entry_of k number n) = subst (λ (m : ℕ). NodeFits sets' m (entry_of k number n)) (let r : k ≡ 0 + length es = omega (arith, here) in r) (entry_fits sets' k number n h) in
     subst (FitFrom sets' 0) (sym e) (fit-append sets' 0 es (entry_of k number n ∷ []) old (one, tt))
 
 pub fit_same : (sets sets' : List (List Bool)) (es es' : List PackedNode) → AddsSets sets sets' → es' ≡ es → FitFrom sets 0 es → FitFrom sets' 0 es'

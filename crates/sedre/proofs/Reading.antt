@@ -11,7 +11,7 @@ use Rattle.sedre.specs.Tree.{Tree, set, size}
 use Rattle.sedre.specs.Grammar.{depth, alternation, repetition, none, byte, begin_anchor, end_anchor, CutExpression, done, item, open_groups, ReadsAs, bad, stray, unclosed, deep, large, FaultyWith}
 use Rattle.sedre.specs.Tokens.{token_at, is_repeatable}
 use Rattle.sedre.specs.Stacks.{Level, Nesting, no_nesting, step, with_last, all_alternatives}
-use Rattle.sedre.proofs.Sound.{Stands, base, only as only_pieces, stands_piece, stands_bar, stands_repeat, stands_open, stands_close, stands_whole}
+use Rattle.sedre.proofs.Sound.{NestedAs, base, only as only_pieces, nested_piece, nested_bar, nested_repeat, nested_open, nested_close, nested_whole}
 use Rattle.sedre.proofs.Exclusive.{open-append, go_on}
 use Rattle.sedre.proofs.Repeating.{repeat_follows}
 
@@ -21,7 +21,7 @@ pub record Reading (kind : Kind) (folded : Bool) (delimiter : Option ℕ) (text 
   pub cut : CutExpression kind folded delimiter text None 0 tokens at
   pub last : last_or None tokens ≡ before
   pub balanced : open_groups 0 tokens ≡ Some (length s.below)
-  pub stands : Stands tokens s.opened s.top s.below
+  pub stands : NestedAs tokens s.opened s.top s.below
   pub ready : is_repeatable before ≡ true → s.top.pieces ≢ []
 
 pub reading_start : (kind : Kind) (folded : Bool) (delimiter : Option ℕ) (text : List ℕ) → Reading kind folded delimiter text None 0 no_nesting
@@ -58,37 +58,37 @@ module _ (kind : Kind) (folded : Bool) (delimiter : Option ℕ) (text : List ℕ
       by_token i s r.tokens f closes c l o r.stands r.ready
     where
       closing : (opened : ℕ) (top : Level) (below : List Level) (is : List Token) → below ≢ [] → CutExpression kind folded delimiter text None 0 (is ++ Close ∷ []) next → last_or None (is ++ Close ∷ []) ≡ Some Close →
-          open_groups 0 (is ++ Close ∷ []) ≡ open_groups (length below) (Close ∷ []) → Stands is opened top below →
+          open_groups 0 (is ++ Close ∷ []) ≡ open_groups (length below) (Close ∷ []) → NestedAs is opened top below →
           Reading kind folded delimiter text (Some Close) next (step Close (record { opened = opened; top = top; below = below }))
       closing opened top [] is ne c l o st = absurd (ne refl)
       closing opened top (k ∷ ks) is ne c l o st =
-          record { tokens = is ++ Close ∷ []; cut = c; last = l; balanced = o; stands = stands_close st; ready = λ _. not_empty k.pieces _ }
+          record { tokens = is ++ Close ∷ []; cut = c; last = l; balanced = o; stands = nested_close st; ready = λ _. not_empty k.pieces _ }
 
       by_token : (i : Token) (s : Nesting) (is : List Token) → token_at kind folded delimiter text before at ≡ Is i next → (i ≡ Close → s.below ≢ []) →
           CutExpression kind folded delimiter text None 0 (is ++ i ∷ []) next → last_or None (is ++ i ∷ []) ≡ Some i → open_groups 0 (is ++ i ∷ []) ≡ open_groups (length s.below) (i ∷ []) →
-          Stands is s.opened s.top s.below → (is_repeatable before ≡ true → s.top.pieces ≢ []) → Reading kind folded delimiter text (Some i) next (step i s)
-      by_token (Byte members) s is f closes c l o st ready = record { tokens = is ++ Byte members ∷ []; cut = c; last = l; balanced = o; stands = stands_piece st byte; ready = λ _. not_empty s.top.pieces (set members) }
-      by_token Open s is f closes c l o st ready = record { tokens = is ++ Open ∷ []; cut = c; last = l; balanced = o; stands = stands_open st; ready = λ h. absurd cc }
-      by_token Bar s is f closes c l o st ready = record { tokens = is ++ Bar ∷ []; cut = c; last = l; balanced = o; stands = stands_bar st; ready = λ h. absurd cc }
-      by_token AtBegin s is f closes c l o st ready = record { tokens = is ++ AtBegin ∷ []; cut = c; last = l; balanced = o; stands = stands_piece st begin_anchor; ready = λ h. absurd cc }
-      by_token AtEnd s is f closes c l o st ready = record { tokens = is ++ AtEnd ∷ []; cut = c; last = l; balanced = o; stands = stands_piece st end_anchor; ready = λ h. absurd cc }
+          NestedAs is s.opened s.top s.below → (is_repeatable before ≡ true → s.top.pieces ≢ []) → Reading kind folded delimiter text (Some i) next (step i s)
+      by_token (Byte members) s is f closes c l o st ready = record { tokens = is ++ Byte members ∷ []; cut = c; last = l; balanced = o; stands = nested_piece st byte; ready = λ _. not_empty s.top.pieces (set members) }
+      by_token Open s is f closes c l o st ready = record { tokens = is ++ Open ∷ []; cut = c; last = l; balanced = o; stands = nested_open st; ready = λ h. absurd cc }
+      by_token Bar s is f closes c l o st ready = record { tokens = is ++ Bar ∷ []; cut = c; last = l; balanced = o; stands = nested_bar st; ready = λ h. absurd cc }
+      by_token AtBegin s is f closes c l o st ready = record { tokens = is ++ AtBegin ∷ []; cut = c; last = l; balanced = o; stands = nested_piece st begin_anchor; ready = λ h. absurd cc }
+      by_token AtEnd s is f closes c l o st ready = record { tokens = is ++ AtEnd ∷ []; cut = c; last = l; balanced = o; stands = nested_piece st end_anchor; ready = λ h. absurd cc }
       by_token (Repeat least most) s is f closes c l o st ready =
           let ne : s.top.pieces ≢ [] = ready (repeat_follows kind folded delimiter text before at f).0 in
-          record { tokens = is ++ Repeat least most ∷ []; cut = c; last = l; balanced = o; stands = stands_repeat least most st ne; ready = λ _. step_with_last (repetition least most) s.top.pieces ne }
+          record { tokens = is ++ Repeat least most ∷ []; cut = c; last = l; balanced = o; stands = nested_repeat least most st ne; ready = λ _. step_with_last (repetition least most) s.top.pieces ne }
       by_token Close s is f closes c l o st ready = closing s.opened s.top s.below is (closes refl) c l o st
 
   -- the whole text
   pub reading_whole : {before : Option Token} {at : ℕ} {s : Nesting} → Reading kind folded delimiter text before at s → token_at kind folded delimiter text before at ≡ Ends →
       s.below ≡ [] → ReadsAs kind folded delimiter text (alternation (all_alternatives s.top)) s.opened
   reading_whole {at = at} {s = s} r f e =
-      let S : List Level → Type 0 = λ x. Stands r.tokens s.opened s.top x in
+      let S : List Level → Type 0 = λ x. NestedAs r.tokens s.opened s.top x in
       record {
         tokens = r.tokens;
         to = at;
         cut = r.cut;
         ends = ap (λ (x : Option Token). token_at kind folded delimiter text x at) r.last ∙ f;
         alternatives = all_alternatives s.top;
-        grammar = stands_whole (subst S e r.stands);
+        grammar = nested_whole (subst S e r.stands);
         is = refl;
       }
 

@@ -6,7 +6,7 @@ use Rattle.sedre.specs.declared.builder.Builder.{Builder}
 use Rattle.sedre.specs.declared.syntax.Token.TheVariants.{Open, Close, Bar, Repeat}
 use Rattle.sedre.specs.Tree.{Tree, group}
 use Rattle.sedre.specs.Grammar.{concatenation, alternation, repetition}
-use Rattle.sedre.specs.Stacks.{Level, Nesting, step, close, with_piece, with_last, whole_level, Stored, trees_in, mark_of, marks_of_levels, Represents}
+use Rattle.sedre.specs.Stacks.{Level, Nesting, step, close, with_piece, with_last, whole_level, StoresTrees, trees_in, mark_of, marks_of_levels, Represents}
 use Rattle.sedre.proofs.Written.{snoc_last, split_last}
 use Rattle.sedre.proofs.Stacked.{count_of}
 use Rattle.sedre.proofs.Machine.{with_last-append}
@@ -20,10 +20,10 @@ trees_snoc : (ts bs ps : List Tree) (t : Tree) → ts ++ (bs ++ (ps ++ t ∷ [])
 trees_snoc ts bs ps t = ap (λ (x : List Tree). ts ++ x) (sym (append_assoc bs ps (t ∷ []))) ∙ sym (append_assoc ts (bs ++ ps) (t ∷ []))
 
 module _ (limit : ℕ) where
-  pub represents_leaf : (t : Tree) (b c : Builder) (s : Nesting) → Represents limit b s → ((ts : List Tree) → Stored limit b.stack ts → Stored limit c.stack (ts ++ t ∷ [])) →
+  pub represents_leaf : (t : Tree) (b c : Builder) (s : Nesting) → Represents limit b s → ((ts : List Tree) → StoresTrees limit b.stack ts → StoresTrees limit c.stack (ts ++ t ∷ [])) →
       c.opened ≡ b.opened → c.top ≡ b.top → c.below.items ≡ b.below.items → Represents limit c (record { opened = s.opened; top = with_piece t s.top; below = s.below })
   represents_leaf t b c s r f eo et eb =
-      let S : List Tree → Type 0 = λ x. Stored limit c.stack x in
+      let S : List Tree → Type 0 = λ x. StoresTrees limit c.stack x in
       record {
         stored = subst S (sym (trees_snoc (trees_in s.below) s.top.alternatives s.top.pieces t)) (f (trees_in (s.top ∷ s.below)) r.stored);
         opened = eo ∙ r.opened;
@@ -44,8 +44,8 @@ module _ (limit : ℕ) where
   represents_open b c s r es eo number alternatives pieces eb =
       let ts : List Tree = trees_in (s.top ∷ s.below) in
       let n = count_of r.stored in
-      let S : List Tree → Type 0 = λ x. Stored limit c.stack x in
-      let T : Stack → Type 0 = λ x. Stored limit x ts in
+      let S : List Tree → Type 0 = λ x. StoresTrees limit c.stack x in
+      let T : Stack → Type 0 = λ x. StoresTrees limit x ts in
       let marks : c.top ≡ mark_of (record { number = suc s.opened; alternatives = []; pieces = [] }) (s.top ∷ s.below) =
       same_mark c.top (suc s.opened) (length ts) (length ts + 0) (number ∙ ap (λ (x : ℕ). x + 1) r.opened ∙ add-one s.opened) (alternatives ∙ n) (pieces ∙ n ∙ omega arith) in
       record {
@@ -57,14 +57,14 @@ module _ (limit : ℕ) where
 
   -- what a concatenation of the pieces does
   pub represents_bar : (b c : Builder) (s : Nesting) → Represents limit b s →
-      ((m : ℕ) (ts ps : List Tree) → length ts ≡ b.top.pieces → Stored m b.stack (ts ++ ps) → Stored m c.stack (ts ++ concatenation ps ∷ [])) →
+      ((m : ℕ) (ts ps : List Tree) → length ts ≡ b.top.pieces → StoresTrees m b.stack (ts ++ ps) → StoresTrees m c.stack (ts ++ concatenation ps ∷ [])) →
       c.opened ≡ b.opened → c.top.number ≡ b.top.number → c.top.alternatives ≡ b.top.alternatives → c.top.pieces ≡ length c.stack.parts.items → c.below.items ≡ b.below.items →
       Represents limit c (step Bar s)
   represents_bar b c s r f eo number alternatives pieces eb =
       let A : List Tree = trees_in s.below in
       let B : List Tree = s.top.alternatives in
-      let S : List Tree → Type 0 = λ x. Stored limit b.stack x in
-      let T : List Tree → Type 0 = λ x. Stored limit c.stack x in
+      let S : List Tree → Type 0 = λ x. StoresTrees limit b.stack x in
+      let T : List Tree → Type 0 = λ x. StoresTrees limit c.stack x in
       let one : List Tree = concatenation s.top.pieces ∷ [] in
       let from : length (A ++ B) ≡ b.top.pieces = length-append A B ∙ sym (ap (λ (m : Mark). m.pieces) r.top) in
       let st : T ((A ++ B) ++ one) = f limit (A ++ B) s.top.pieces from (subst S (sym (append_assoc A B s.top.pieces)) r.stored) in
@@ -76,25 +76,25 @@ module _ (limit : ℕ) where
         below = eb ∙ r.below;
       }
 
-  represents_close_levels : (b c : Builder) (opened : ℕ) (top : Level) (below : List Level) (s₁ s₂ : Stack) → Stored limit b.stack (trees_in (top ∷ below)) →
+  represents_close_levels : (b c : Builder) (opened : ℕ) (top : Level) (below : List Level) (s₁ s₂ : Stack) → StoresTrees limit b.stack (trees_in (top ∷ below)) →
       b.opened ≡ opened → b.top ≡ mark_of top below → b.below.items ≡ marks_of_levels below →
-      ((m : ℕ) (ts ps : List Tree) → length ts ≡ b.top.pieces → Stored m b.stack (ts ++ ps) → Stored m s₁ (ts ++ concatenation ps ∷ [])) →
-      ((m : ℕ) (ts ps : List Tree) → length ts ≡ b.top.alternatives → Stored m s₁ (ts ++ ps) → Stored m s₂ (ts ++ alternation ps ∷ [])) →
-      ((m : ℕ) (ts : List Tree) (a : Tree) → Stored m s₂ (ts ++ a ∷ []) → Stored m c.stack (ts ++ group b.top.number a ∷ [])) →
+      ((m : ℕ) (ts ps : List Tree) → length ts ≡ b.top.pieces → StoresTrees m b.stack (ts ++ ps) → StoresTrees m s₁ (ts ++ concatenation ps ∷ [])) →
+      ((m : ℕ) (ts ps : List Tree) → length ts ≡ b.top.alternatives → StoresTrees m s₁ (ts ++ ps) → StoresTrees m s₂ (ts ++ alternation ps ∷ [])) →
+      ((m : ℕ) (ts : List Tree) (a : Tree) → StoresTrees m s₂ (ts ++ a ∷ []) → StoresTrees m c.stack (ts ++ group b.top.number a ∷ [])) →
       c.opened ≡ b.opened → b.below.items ≡ c.below.items ++ c.top ∷ [] → Represents limit c (close top below opened)
   represents_close_levels b c opened top [] s₁ s₂ st o t l f g h eo eb = absurd (omega (arith, sym (ap length l) ∙ ap length eb ∙ length-append c.below.items (c.top ∷ [])))
   represents_close_levels b c opened top (k ∷ ks) s₁ s₂ st o t l f g h eo eb =
       let A : List Tree = trees_in (k ∷ ks) in
       let B : List Tree = top.alternatives in
-      let S : List Tree → Type 0 = λ x. Stored limit b.stack x in
-      let T : List Tree → Type 0 = λ x. Stored limit s₁ x in
-      let U : Tree → Type 0 = λ x. Stored limit c.stack (A ++ x ∷ []) in
-      let V : List Tree → Type 0 = λ x. Stored limit c.stack x in
+      let S : List Tree → Type 0 = λ x. StoresTrees limit b.stack x in
+      let T : List Tree → Type 0 = λ x. StoresTrees limit s₁ x in
+      let U : Tree → Type 0 = λ x. StoresTrees limit c.stack (A ++ x ∷ []) in
+      let V : List Tree → Type 0 = λ x. StoresTrees limit c.stack x in
       let one : List Tree = concatenation top.pieces ∷ [] in
       let inner : Tree = alternation (B ++ one) in
       let from : length (A ++ B) ≡ b.top.pieces = length-append A B ∙ sym (ap (λ (m : Mark). m.pieces) t) in
       let st₁ : T ((A ++ B) ++ one) = f limit (A ++ B) top.pieces from (subst S (sym (append_assoc A B top.pieces)) st) in
-      let st₂ : Stored limit s₂ (A ++ inner ∷ []) = g limit A (B ++ one) (sym (ap (λ (m : Mark). m.alternatives) t)) (subst T (append_assoc A B one) st₁) in
+      let st₂ : StoresTrees limit s₂ (A ++ inner ∷ []) = g limit A (B ++ one) (sym (ap (λ (m : Mark). m.alternatives) t)) (subst T (append_assoc A B one) st₁) in
       let number : b.top.number ≡ top.number = ap (λ (m : Mark). m.number) t in
       let st₃ : U (group top.number inner) = subst (λ (x : ℕ). U (group x inner)) number (h limit A inner st₂) in
       let marks = snoc_last c.below.items (marks_of_levels ks) c.top (mark_of k ks) (sym eb ∙ l) in
@@ -107,23 +107,23 @@ module _ (limit : ℕ) where
 
   -- the innermost group closes
   pub represents_close : (b c : Builder) (s : Nesting) (s₁ s₂ : Stack) → Represents limit b s →
-      ((m : ℕ) (ts ps : List Tree) → length ts ≡ b.top.pieces → Stored m b.stack (ts ++ ps) → Stored m s₁ (ts ++ concatenation ps ∷ [])) →
-      ((m : ℕ) (ts ps : List Tree) → length ts ≡ b.top.alternatives → Stored m s₁ (ts ++ ps) → Stored m s₂ (ts ++ alternation ps ∷ [])) →
-      ((m : ℕ) (ts : List Tree) (a : Tree) → Stored m s₂ (ts ++ a ∷ []) → Stored m c.stack (ts ++ group b.top.number a ∷ [])) →
+      ((m : ℕ) (ts ps : List Tree) → length ts ≡ b.top.pieces → StoresTrees m b.stack (ts ++ ps) → StoresTrees m s₁ (ts ++ concatenation ps ∷ [])) →
+      ((m : ℕ) (ts ps : List Tree) → length ts ≡ b.top.alternatives → StoresTrees m s₁ (ts ++ ps) → StoresTrees m s₂ (ts ++ alternation ps ∷ [])) →
+      ((m : ℕ) (ts : List Tree) (a : Tree) → StoresTrees m s₂ (ts ++ a ∷ []) → StoresTrees m c.stack (ts ++ group b.top.number a ∷ [])) →
       c.opened ≡ b.opened → b.below.items ≡ c.below.items ++ c.top ∷ [] → Represents limit c (step Close s)
   represents_close b c s s₁ s₂ r f g h eo eb = represents_close_levels b c s.opened s.top s.below s₁ s₂ r.stored r.opened r.top r.below f g h eo eb
 
   -- the last piece is repeated
   pub represents_repeat : (least : ℕ) (most : Option ℕ) (b c : Builder) (s : Nesting) → s.top.pieces ≢ [] → Represents limit b s →
-      ((m : ℕ) (ts : List Tree) (a : Tree) → Stored m b.stack (ts ++ a ∷ []) → Stored m c.stack (ts ++ repetition least most a ∷ [])) →
+      ((m : ℕ) (ts : List Tree) (a : Tree) → StoresTrees m b.stack (ts ++ a ∷ []) → StoresTrees m c.stack (ts ++ repetition least most a ∷ [])) →
       c.opened ≡ b.opened → c.top ≡ b.top → c.below.items ≡ b.below.items → Represents limit c (step (Repeat least most) s)
   represents_repeat least most b c s some r f eo et eb =
       let n : 0 < length s.top.pieces = not_nil s.top.pieces some in
       let p = split_last s.top.pieces n in
       let A : List Tree = trees_in s.below in
       let B : List Tree = s.top.alternatives in
-      let S : List Tree → Type 0 = λ x. Stored limit b.stack x in
-      let T : List Tree → Type 0 = λ x. Stored limit c.stack x in
+      let S : List Tree → Type 0 = λ x. StoresTrees limit b.stack x in
+      let T : List Tree → Type 0 = λ x. StoresTrees limit c.stack x in
       let new_pieces : with_last (repetition least most) s.top.pieces ≡ p.0 ++ repetition least most p.1 ∷ [] = ap (with_last (repetition least most)) p.2 ∙ with_last-append (repetition least most) p.0 p.1 in
       let st : S ((A ++ (B ++ p.0)) ++ p.1 ∷ []) = subst S (ap (λ (x : List Tree). A ++ (B ++ x)) p.2 ∙ trees_snoc A B p.0 p.1) r.stored in
       record {
@@ -157,11 +157,11 @@ module _ (limit : ℕ) where
 
   -- the whole is joined
   pub represents_join : (b : Builder) (s : Nesting) (s₁ s₂ : Stack) → Represents limit b s → s.below ≡ [] →
-      ((m : ℕ) (ts ps : List Tree) → length ts ≡ b.top.pieces → Stored m b.stack (ts ++ ps) → Stored m s₁ (ts ++ concatenation ps ∷ [])) →
-      ((m : ℕ) (ts ps : List Tree) → length ts ≡ 0 → Stored m s₁ (ts ++ ps) → Stored m s₂ (ts ++ alternation ps ∷ [])) →
-      Stored limit s₂ (whole_level s.top ∷ [])
+      ((m : ℕ) (ts ps : List Tree) → length ts ≡ b.top.pieces → StoresTrees m b.stack (ts ++ ps) → StoresTrees m s₁ (ts ++ concatenation ps ∷ [])) →
+      ((m : ℕ) (ts ps : List Tree) → length ts ≡ 0 → StoresTrees m s₁ (ts ++ ps) → StoresTrees m s₂ (ts ++ alternation ps ∷ [])) →
+      StoresTrees limit s₂ (whole_level s.top ∷ [])
   represents_join b s s₁ s₂ r none f g =
       let B : List Tree = s.top.alternatives in
-      let S : List Level → Type 0 = λ x. Stored limit b.stack (trees_in x ++ (B ++ s.top.pieces)) in
+      let S : List Level → Type 0 = λ x. StoresTrees limit b.stack (trees_in x ++ (B ++ s.top.pieces)) in
       let from : length B ≡ b.top.pieces = omega (arith, ap (λ (m : Mark). m.pieces) r.top, ap (λ (x : List Level). length (trees_in x)) none) in
       g limit [] (B ++ concatenation s.top.pieces ∷ []) refl (f limit B s.top.pieces from (subst S none r.stored))

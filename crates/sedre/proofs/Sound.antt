@@ -13,10 +13,10 @@ pub data Body : ℕ → List Token → List Tree → List Tree → ℕ → Type 
   following : {g h k : ℕ} {is js : List Token} {bs ps : List Tree} → AreAlternatives g is bs h → ArePieces h js ps k → Body g (is ++ Bar ∷ js) bs ps k
 
 -- the tokens make up this level inside those
-pub data Stands : List Token → ℕ → Level → List Level → Type 0 where
-  base : {h : ℕ} {is : List Token} {bs ps : List Tree} → Body 0 is bs ps h → Stands is h (record { number = 0; alternatives = bs; pieces = ps }) []
-  inside : {g h : ℕ} {is js : List Token} {bs ps : List Tree} {l : Level} {ls : List Level} → Stands is g l ls → Body (suc g) js bs ps h →
-      Stands (is ++ Open ∷ js) h (record { number = suc g; alternatives = bs; pieces = ps }) (l ∷ ls)
+pub data NestedAs : List Token → ℕ → Level → List Level → Type 0 where
+  base : {h : ℕ} {is : List Token} {bs ps : List Tree} → Body 0 is bs ps h → NestedAs is h (record { number = 0; alternatives = bs; pieces = ps }) []
+  inside : {g h : ℕ} {is js : List Token} {bs ps : List Tree} {l : Level} {ls : List Level} → NestedAs is g l ls → Body (suc g) js bs ps h →
+      NestedAs (is ++ Open ∷ js) h (record { number = suc g; alternatives = bs; pieces = ps }) (l ∷ ls)
 
 body_piece : {g h k : ℕ} {is js : List Token} {bs ps : List Tree} {t : Tree} → Body g is bs ps h → IsPiece h js t k → Body g (is ++ js) bs (ps ++ t ∷ []) k
 body_piece (only p) q = only (more p q)
@@ -46,33 +46,33 @@ body_repeat {g = g} {h = h} {bs = bs} {ps = ps} least most (following {is = is} 
     let B : List Token → Type 0 = λ xs. Body g xs bs (with_last (repetition least most) ps) h in
     subst B (sym (append_assoc is (Bar ∷ js) (Repeat least most ∷ []))) (following a (pieces_repeat least most p ne))
 
-pub stands_piece : {h k : ℕ} {is js : List Token} {l : Level} {ls : List Level} {t : Tree} → Stands is h l ls → IsPiece h js t k → Stands (is ++ js) k (with_piece t l) ls
-stands_piece (base b) q = base (body_piece b q)
-stands_piece {k = k} {js = ks} {ls = ls} {t = t} (inside {g = g} {is = is} {js = js} {bs = bs} {ps = ps} s b) q =
-    let B : List Token → Type 0 = λ xs. Stands xs k (record { number = suc g; alternatives = bs; pieces = ps ++ t ∷ [] }) ls in
+pub nested_piece : {h k : ℕ} {is js : List Token} {l : Level} {ls : List Level} {t : Tree} → NestedAs is h l ls → IsPiece h js t k → NestedAs (is ++ js) k (with_piece t l) ls
+nested_piece (base b) q = base (body_piece b q)
+nested_piece {k = k} {js = ks} {ls = ls} {t = t} (inside {g = g} {is = is} {js = js} {bs = bs} {ps = ps} s b) q =
+    let B : List Token → Type 0 = λ xs. NestedAs xs k (record { number = suc g; alternatives = bs; pieces = ps ++ t ∷ [] }) ls in
     subst B (sym (append_assoc is (Open ∷ js) ks)) (inside s (body_piece b q))
 
-pub stands_bar : {h : ℕ} {is : List Token} {l : Level} {ls : List Level} → Stands is h l ls → Stands (is ++ Bar ∷ []) h (record { number = l.number; alternatives = all_alternatives l; pieces = [] }) ls
-stands_bar (base b) = base (body_bar b)
-stands_bar {h = h} {ls = ls} (inside {g = g} {is = is} {js = js} {bs = bs} {ps = ps} s b) =
-    let B : List Token → Type 0 = λ xs. Stands xs h (record { number = suc g; alternatives = bs ++ concatenation ps ∷ []; pieces = [] }) ls in
+pub nested_bar : {h : ℕ} {is : List Token} {l : Level} {ls : List Level} → NestedAs is h l ls → NestedAs (is ++ Bar ∷ []) h (record { number = l.number; alternatives = all_alternatives l; pieces = [] }) ls
+nested_bar (base b) = base (body_bar b)
+nested_bar {h = h} {ls = ls} (inside {g = g} {is = is} {js = js} {bs = bs} {ps = ps} s b) =
+    let B : List Token → Type 0 = λ xs. NestedAs xs h (record { number = suc g; alternatives = bs ++ concatenation ps ∷ []; pieces = [] }) ls in
     subst B (sym (append_assoc is (Open ∷ js) (Bar ∷ []))) (inside s (body_bar b))
 
-pub stands_repeat : {h : ℕ} {is : List Token} {l : Level} {ls : List Level} (least : ℕ) (most : Option ℕ) → Stands is h l ls → l.pieces ≢ [] →
-    Stands (is ++ Repeat least most ∷ []) h (record { number = l.number; alternatives = l.alternatives; pieces = with_last (repetition least most) l.pieces }) ls
-stands_repeat least most (base b) ne = base (body_repeat least most b ne)
-stands_repeat {h = h} {ls = ls} least most (inside {g = g} {is = is} {js = js} {bs = bs} {ps = ps} s b) ne =
-    let B : List Token → Type 0 = λ xs. Stands xs h (record { number = suc g; alternatives = bs; pieces = with_last (repetition least most) ps }) ls in
+pub nested_repeat : {h : ℕ} {is : List Token} {l : Level} {ls : List Level} (least : ℕ) (most : Option ℕ) → NestedAs is h l ls → l.pieces ≢ [] →
+    NestedAs (is ++ Repeat least most ∷ []) h (record { number = l.number; alternatives = l.alternatives; pieces = with_last (repetition least most) l.pieces }) ls
+nested_repeat least most (base b) ne = base (body_repeat least most b ne)
+nested_repeat {h = h} {ls = ls} least most (inside {g = g} {is = is} {js = js} {bs = bs} {ps = ps} s b) ne =
+    let B : List Token → Type 0 = λ xs. NestedAs xs h (record { number = suc g; alternatives = bs; pieces = with_last (repetition least most) ps }) ls in
     subst B (sym (append_assoc is (Open ∷ js) (Repeat least most ∷ []))) (inside s (body_repeat least most b ne))
 
-pub stands_open : {h : ℕ} {is : List Token} {l : Level} {ls : List Level} → Stands is h l ls → Stands (is ++ Open ∷ []) (suc h) (record { number = suc h; alternatives = []; pieces = [] }) (l ∷ ls)
-stands_open s = inside s (only none)
+pub nested_open : {h : ℕ} {is : List Token} {l : Level} {ls : List Level} → NestedAs is h l ls → NestedAs (is ++ Open ∷ []) (suc h) (record { number = suc h; alternatives = []; pieces = [] }) (l ∷ ls)
+nested_open s = inside s (only none)
 
-pub stands_close : {h : ℕ} {is : List Token} {l k : Level} {ls : List Level} → Stands is h l (k ∷ ls) → Stands (is ++ Close ∷ []) h (with_piece (group l.number (alternation (all_alternatives l))) k) ls
-stands_close {h = h} {k = k} {ls = ls} (inside {g = g} {is = is} {js = js} {bs = bs} {ps = ps} s b) =
-    let B : List Token → Type 0 = λ xs. Stands xs h (with_piece (group (suc g) (alternation (bs ++ concatenation ps ∷ []))) k) ls in
-    subst B (sym (append_assoc is (Open ∷ js) (Close ∷ []))) (stands_piece s (subexpression (body_all b)))
+pub nested_close : {h : ℕ} {is : List Token} {l k : Level} {ls : List Level} → NestedAs is h l (k ∷ ls) → NestedAs (is ++ Close ∷ []) h (with_piece (group l.number (alternation (all_alternatives l))) k) ls
+nested_close {h = h} {k = k} {ls = ls} (inside {g = g} {is = is} {js = js} {bs = bs} {ps = ps} s b) =
+    let B : List Token → Type 0 = λ xs. NestedAs xs h (with_piece (group (suc g) (alternation (bs ++ concatenation ps ∷ []))) k) ls in
+    subst B (sym (append_assoc is (Open ∷ js) (Close ∷ []))) (nested_piece s (subexpression (body_all b)))
 
 -- at the end_anchor with no subexpression open, the whole is alternatives
-pub stands_whole : {h : ℕ} {is : List Token} {l : Level} → Stands is h l [] → AreAlternatives 0 is (all_alternatives l) h
-stands_whole (base b) = body_all b
+pub nested_whole : {h : ℕ} {is : List Token} {l : Level} → NestedAs is h l [] → AreAlternatives 0 is (all_alternatives l) h
+nested_whole (base b) = body_all b

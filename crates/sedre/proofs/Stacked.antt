@@ -13,7 +13,7 @@ use Rattle.sedre.specs.Covers.{cover_node}
 use Rattle.sedre.specs.Packed.{id, PartsBelow, shifted}
 use Rattle.sedre.specs.Tree.{Tree, empty, seq, alt, size}
 use Rattle.sedre.specs.Grammar.{depth, without_alternation, concatenation}
-use Rattle.sedre.specs.Stacks.{postorder, written_trees, total, fitting, extent_kept, extents_kept, last_end, IsLeaf, PutsTree, Stored, pair, chain, covered}
+use Rattle.sedre.specs.Stacks.{postorder, written_trees, total, fitting, extent_kept, extents_kept, last_end, IsLeaf, PutsTree, StoresTrees, pair, chain, covered}
 use Rattle.sedre.proofs.Written.{size_positive, length-postorder, length-written, written-append_0, total-append, snoc_last, split_last}
 use Rattle.sedre.proofs.Copied.{postorder-shifted}
 use Rattle.std.proofs.Math.Seq.{drop-append_seam as drop-append}
@@ -27,7 +27,7 @@ on_ok_map (Err x) P Q f p = tt
 put_over : (limit : ℕ) (ts us : List Tree) (t : Tree) (ns : List Node) (ps : List TreeExtent) (new : Stack) (n : Node) (ends d i : ℕ) → PutsTree limit ns ps new n ends d i →
     ns ≡ written_trees 0 (fitting limit 0 (ts ++ us)) → ps ≡ extents_kept limit 0 ts → ends ≡ min (total ts + total us) limit → size t ≡ 1 + total us →
     (total ts + size t < limit → PartsBelow (total ts + total us) n × (postorder (total ts) t ≡ written_trees (total ts) us ++ n ∷ [])) →
-    d ≡ min 601 (depth t) → i ≡ min 601 (without_alternation t (depth t)) → Stored limit new (ts ++ t ∷ [])
+    d ≡ min 601 (depth t) → i ≡ min 601 (without_alternation t (depth t)) → StoresTrees limit new (ts ++ t ∷ [])
 put_over limit ts us t ns ps new n ends d i p is parts here sized spelled ed ei = record {
   limit_is = p.limit_is;
   nodes_are = put_nodes limit ts us t n ns new.nodes ps ends is parts here sized spelled p.kept p.over;
@@ -35,15 +35,15 @@ put_over limit ts us t ns ps new n ends d i p is parts here sized spelled ed ei 
 }
 
 -- the last part is that of the last tree
-pub last_part : (limit : ℕ) (s : Stack) (ts : List Tree) (a : Tree) (ps : List TreeExtent) (p : TreeExtent) → Stored limit s (ts ++ a ∷ []) → s.parts.items ≡ ps ++ p ∷ [] →
+pub last_part : (limit : ℕ) (s : Stack) (ts : List Tree) (a : Tree) (ps : List TreeExtent) (p : TreeExtent) → StoresTrees limit s (ts ++ a ∷ []) → s.parts.items ≡ ps ++ p ∷ [] →
     (ps ≡ extents_kept limit 0 ts) × (p ≡ extent_kept limit (total ts + size a) a)
 last_part limit s ts a ps p st e = snoc_last ps (extents_kept limit 0 ts) p (extent_kept limit (total ts + size a) a) (sym e ∙ st.parts_are ∙ parts-append_0 limit ts (a ∷ []))
 
 same_id : (i : NodeId) (n : ℕ) → i.index ≡ n → i ≡ id n
 same_id i n e = ap id e
 
-pub stored_leaf : (limit : ℕ) (old new : Stack) (ts : List Tree) (t : Tree) (n : Node) (ends : ℕ) → IsLeaf n t → Stored limit old ts → ends ≡ last_end old.parts.items →
-    PutsTree old.limit old.nodes old.parts.items new n ends 0 0 → Stored limit new (ts ++ t ∷ [])
+pub stored_leaf : (limit : ℕ) (old new : Stack) (ts : List Tree) (t : Tree) (n : Node) (ends : ℕ) → IsLeaf n t → StoresTrees limit old ts → ends ≡ last_end old.parts.items →
+    PutsTree old.limit old.nodes old.parts.items new n ends 0 0 → StoresTrees limit new (ts ++ t ∷ [])
 stored_leaf limit old new ts t n ends leaf s here p =
     let P : ℕ → Type 0 = λ m. PutsTree m old.nodes old.parts.items new n ends 0 0 in
     let W : List Tree → Type 0 = λ x. old.nodes ≡ written_trees 0 (fitting limit 0 x) in
@@ -71,8 +71,8 @@ cover_below : (c : Cover) (i : NodeId) (k : ℕ) → i.index < k → PartsBelow 
 cover_below (cover.Group n) i k h = h
 cover_below _ i k h = h
 
-pub stored_cover : (c : Cover) (limit : ℕ) (old new : Stack) (ts : List Tree) (a : Tree) (ps : List TreeExtent) (p : TreeExtent) (root : NodeId) (made : Node) (d : ℕ) → Stored limit old (ts ++ a ∷ []) → old.parts.items ≡ ps ++ p ∷ [] →
-    root.index ≡ p.end - 1 → made ≡ cover_node c root → d ≡ min 600 p.depth + 1 → PutsTree old.limit old.nodes ps new made p.end d d → Stored limit new (ts ++ covered c a ∷ [])
+pub stored_cover : (c : Cover) (limit : ℕ) (old new : Stack) (ts : List Tree) (a : Tree) (ps : List TreeExtent) (p : TreeExtent) (root : NodeId) (made : Node) (d : ℕ) → StoresTrees limit old (ts ++ a ∷ []) → old.parts.items ≡ ps ++ p ∷ [] →
+    root.index ≡ p.end - 1 → made ≡ cover_node c root → d ≡ min 600 p.depth + 1 → PutsTree old.limit old.nodes ps new made p.end d d → StoresTrees limit new (ts ++ covered c a ∷ [])
 stored_cover c limit old new ts a ps p root made d s e er em ed put =
     let last = last_part limit old ts a ps p s e in
     let P : ℕ → Type 0 = λ m. PutsTree m old.nodes ps new made p.end d d in
@@ -88,7 +88,7 @@ stored_cover c limit old new ts a ps p root made d s e er em ed put =
     (omega (arith, ed, deep, cover_depth c a)) (omega (arith, ed, deep, cover_inner c a))
 
 -- the last two parts are those of the last two trees
-last_two : (limit : ℕ) (s : Stack) (ts : List Tree) (a b : Tree) (p1 p0 : List TreeExtent) (p q : TreeExtent) → Stored limit s (ts ++ a ∷ b ∷ []) → s.parts.items ≡ p1 ++ q ∷ [] → p1 ≡ p0 ++ p ∷ [] →
+last_two : (limit : ℕ) (s : Stack) (ts : List Tree) (a b : Tree) (p1 p0 : List TreeExtent) (p q : TreeExtent) → StoresTrees limit s (ts ++ a ∷ b ∷ []) → s.parts.items ≡ p1 ++ q ∷ [] → p1 ≡ p0 ++ p ∷ [] →
     (p0 ≡ extents_kept limit 0 ts) × (p ≡ extent_kept limit (total ts + size a) a) × (q ≡ extent_kept limit (total ts + size a + size b) b)
 last_two limit s ts a b p1 p0 p q st e1 e0 =
     let all : s.parts.items ≡ (extents_kept limit 0 ts ++ extent_kept limit (total ts + size a) a ∷ []) ++ extent_kept limit (total ts + size a + size b) b ∷ [] =
@@ -101,9 +101,9 @@ last_two limit s ts a b p1 p0 p q st e1 e0 =
 two_over : (over : Tree → Tree → Tree) (make : NodeId → NodeId → Node) →
     ((base : ℕ) (a b : Tree) → postorder base (over a b) ≡ (postorder base a ++ postorder (base + size a) b) ++ make (id (base + size a - 1)) (id (base + size a + size b - 1)) ∷ []) →
     ((a b : Tree) → size (over a b) ≡ 1 + size a + size b) → ((i j : NodeId) (k : ℕ) → i.index < k → j.index < k → PartsBelow k (make i j)) →
-    (limit : ℕ) (old new : Stack) (ts : List Tree) (a b : Tree) (p1 p0 : List TreeExtent) (p q : TreeExtent) (left right : NodeId) (d i : ℕ) → Stored limit old (ts ++ a ∷ b ∷ []) → old.parts.items ≡ p1 ++ q ∷ [] → p1 ≡ p0 ++ p ∷ [] →
+    (limit : ℕ) (old new : Stack) (ts : List Tree) (a b : Tree) (p1 p0 : List TreeExtent) (p q : TreeExtent) (left right : NodeId) (d i : ℕ) → StoresTrees limit old (ts ++ a ∷ b ∷ []) → old.parts.items ≡ p1 ++ q ∷ [] → p1 ≡ p0 ++ p ∷ [] →
     left.index ≡ p.end - 1 → right.index ≡ q.end - 1 → d ≡ min 601 (depth (over a b)) → i ≡ min 601 (without_alternation (over a b) (depth (over a b))) → PutsTree old.limit old.nodes p0 new (make left right) q.end d i →
-    Stored limit new (ts ++ over a b ∷ [])
+    StoresTrees limit new (ts ++ over a b ∷ [])
 two_over over make spelled sized below limit old new ts a b p1 p0 p q left right d i s e1 e0 el er ed ei put =
     let last = last_two limit old ts a b p1 p0 p q s e1 e0 in
     let P : ℕ → Type 0 = λ m. PutsTree m old.nodes p0 new (make left right) q.end d i in
@@ -122,16 +122,16 @@ two_over over make spelled sized below limit old new ts a b p1 p0 p q left right
     ))
     ed ei
 
-pub stored_alt : (limit : ℕ) (old new : Stack) (ts : List Tree) (a b : Tree) (p1 p0 : List TreeExtent) (p q : TreeExtent) (left right : NodeId) (d i : ℕ) → Stored limit old (ts ++ a ∷ b ∷ []) → old.parts.items ≡ p1 ++ q ∷ [] → p1 ≡ p0 ++ p ∷ [] →
-    left.index ≡ p.end - 1 → right.index ≡ q.end - 1 → i ≡ max p.depth q.inner → d ≡ min 600 i + 1 → PutsTree old.limit old.nodes p0 new (node.Alt left right) q.end d i → Stored limit new (ts ++ alt a b ∷ [])
+pub stored_alt : (limit : ℕ) (old new : Stack) (ts : List Tree) (a b : Tree) (p1 p0 : List TreeExtent) (p q : TreeExtent) (left right : NodeId) (d i : ℕ) → StoresTrees limit old (ts ++ a ∷ b ∷ []) → old.parts.items ≡ p1 ++ q ∷ [] → p1 ≡ p0 ++ p ∷ [] →
+    left.index ≡ p.end - 1 → right.index ≡ q.end - 1 → i ≡ max p.depth q.inner → d ≡ min 600 i + 1 → PutsTree old.limit old.nodes p0 new (node.Alt left right) q.end d i → StoresTrees limit new (ts ++ alt a b ∷ [])
 stored_alt limit old new ts a b p1 p0 p q left right d i s e1 e0 el er ei ed put =
     let last = last_two limit old ts a b p1 p0 p q s e1 e0 in
     let deep : p.depth ≡ min 601 (depth a) = ap (λ (x : TreeExtent). x.depth) last.1 in
     let inner : q.inner ≡ min 601 (without_alternation b (depth b)) = ap (λ (x : TreeExtent). x.inner) last.2 in
     two_over alt node.Alt (λ _ _ _. refl) (λ _ _. refl) (λ _ _ _ h g. (h, g)) limit old new ts a b p1 p0 p q left right d i s e1 e0 el er (omega (arith, ed, ei, deep, inner)) (omega (arith, ei, deep, inner)) put
 
-pub stored_seq : (limit : ℕ) (old new : Stack) (ts : List Tree) (a b : Tree) (p1 p0 : List TreeExtent) (p q : TreeExtent) (left right : NodeId) (d : ℕ) → Stored limit old (ts ++ a ∷ b ∷ []) → old.parts.items ≡ p1 ++ q ∷ [] → p1 ≡ p0 ++ p ∷ [] →
-    left.index ≡ p.end - 1 → right.index ≡ q.end - 1 → d ≡ max p.depth q.depth → PutsTree old.limit old.nodes p0 new (node.Seq left right) q.end d d → Stored limit new (ts ++ seq a b ∷ [])
+pub stored_seq : (limit : ℕ) (old new : Stack) (ts : List Tree) (a b : Tree) (p1 p0 : List TreeExtent) (p q : TreeExtent) (left right : NodeId) (d : ℕ) → StoresTrees limit old (ts ++ a ∷ b ∷ []) → old.parts.items ≡ p1 ++ q ∷ [] → p1 ≡ p0 ++ p ∷ [] →
+    left.index ≡ p.end - 1 → right.index ≡ q.end - 1 → d ≡ max p.depth q.depth → PutsTree old.limit old.nodes p0 new (node.Seq left right) q.end d d → StoresTrees limit new (ts ++ seq a b ∷ [])
 stored_seq limit old new ts a b p1 p0 p q left right d s e1 e0 el er ed put =
     let last = last_two limit old ts a b p1 p0 p q s e1 e0 in
     let deep : p.depth ≡ min 601 (depth a) = ap (λ (x : TreeExtent). x.depth) last.1 in
@@ -139,8 +139,8 @@ stored_seq limit old new ts a b p1 p0 p q left right d s e1 e0 el er ed put =
     two_over seq node.Seq (λ _ _ _. refl) (λ _ _. refl) (λ _ _ _ h g. (h, g)) limit old new ts a b p1 p0 p q left right d d s e1 e0 el er (omega (arith, ed, deep, deeper)) (omega (arith, ed, deep, deeper)) put
 
 -- the last tree goes away
-pub stored_drop : (limit : ℕ) (old new : Stack) (ts : List Tree) (a : Tree) (p : TreeExtent) → Stored limit old (ts ++ a ∷ []) → old.parts.items ≡ new.parts.items ++ p ∷ [] → new.limit ≡ old.limit →
-    new.nodes ≡ take (last_end new.parts.items) old.nodes → Stored limit new ts
+pub stored_drop : (limit : ℕ) (old new : Stack) (ts : List Tree) (a : Tree) (p : TreeExtent) → StoresTrees limit old (ts ++ a ∷ []) → old.parts.items ≡ new.parts.items ++ p ∷ [] → new.limit ≡ old.limit →
+    new.nodes ≡ take (last_end new.parts.items) old.nodes → StoresTrees limit new ts
 stored_drop limit old new ts a p s e el en =
     let last = last_part limit old ts a new.parts.items p s e in
     record {
@@ -150,10 +150,10 @@ stored_drop limit old new ts a p s e el en =
     }
 
 -- the last tree once more: its nodes are copied after all others, each part by as many places as the tree has nodes
-pub stored_copy : (limit : ℕ) (old new : Stack) (ts : List Tree) (a : Tree) (ps : List TreeExtent) (p one : TreeExtent) (count : ℕ) → Stored limit old (ts ++ a ∷ []) → old.parts.items ≡ ps ++ p ∷ [] →
+pub stored_copy : (limit : ℕ) (old new : Stack) (ts : List Tree) (a : Tree) (ps : List TreeExtent) (p one : TreeExtent) (count : ℕ) → StoresTrees limit old (ts ++ a ∷ []) → old.parts.items ≡ ps ++ p ∷ [] →
     count ≡ p.end - last_end ps → one.end ≡ min (p.end + count) old.limit → one.depth ≡ p.depth → one.inner ≡ p.inner → new.limit ≡ old.limit → new.parts.items ≡ (ps ++ p ∷ []) ++ one ∷ [] →
     (one.end < old.limit → count ≤ length old.nodes → new.nodes ≡ old.nodes ++ map (shifted count) (drop (length old.nodes - count) old.nodes)) → (old.limit ≤ one.end → new.nodes ≡ old.nodes) →
-    Stored limit new ((ts ++ a ∷ []) ++ a ∷ [])
+    StoresTrees limit new ((ts ++ a ∷ []) ++ a ∷ [])
 stored_copy limit old new ts a ps p one count s e ec ee ed ei el ep kept over =
     let last = last_part limit old ts a ps p s e in
     let lim : old.limit ≡ limit = s.limit_is in
@@ -205,16 +205,16 @@ pub record Partly (alternatives : Bool) (limit : ℕ) (s : Stack) (ts ps : List 
   pub first : Tree
   pub rest : List Tree
   pub whole : ps ≡ front ++ first ∷ rest
-  pub stored : Stored limit s ((ts ++ front) ++ chain alternatives (first ∷ rest) ∷ [])
+  pub stored : StoresTrees limit s ((ts ++ front) ++ chain alternatives (first ∷ rest) ∷ [])
 
-pub count_of : {limit : ℕ} {s : Stack} {ts : List Tree} → Stored limit s ts → length s.parts.items ≡ length ts
+pub count_of : {limit : ℕ} {s : Stack} {ts : List Tree} → StoresTrees limit s ts → length s.parts.items ≡ length ts
 count_of {limit = limit} {ts = ts} s = ap length s.parts_are ∙ length-parts limit 0 ts
 
-pub partly_start : (alternatives : Bool) (limit : ℕ) (s : Stack) (ts ps : List Tree) → length ts < length s.parts.items → Stored limit s (ts ++ ps) → Partly alternatives limit s ts ps
+pub partly_start : (alternatives : Bool) (limit : ℕ) (s : Stack) (ts ps : List Tree) → length ts < length s.parts.items → StoresTrees limit s (ts ++ ps) → Partly alternatives limit s ts ps
 partly_start alternatives limit s ts ps h st =
     let n : 0 < length ps = omega (arith, h, count_of st, length-append ts ps) in
     let r = split_last ps n in
-    let S : List Tree → Type 0 = λ x. Stored limit s x in
+    let S : List Tree → Type 0 = λ x. StoresTrees limit s x in
     record {
       front = r.0;
       first = r.1;
@@ -224,14 +224,14 @@ partly_start alternatives limit s ts ps h st =
     }
 
 pub partly_step : (alternatives : Bool) (limit : ℕ) (s s' : Stack) (ts ps : List Tree) → length ts + 1 < length s.parts.items →
-    ((m : ℕ) (us : List Tree) (a b : Tree) → Stored m s (us ++ a ∷ b ∷ []) → Stored m s' (us ++ pair alternatives a b ∷ [])) →
+    ((m : ℕ) (us : List Tree) (a b : Tree) → StoresTrees m s (us ++ a ∷ b ∷ []) → StoresTrees m s' (us ++ pair alternatives a b ∷ [])) →
     Partly alternatives limit s ts ps → Partly alternatives limit s' ts ps
 partly_step alternatives limit s s' ts ps h join p =
     let last : Tree = chain alternatives (p.first ∷ p.rest) in
     let n : 0 < length p.front = omega (arith, h, count_of p.stored, length-append (ts ++ p.front) (last ∷ []), length-append ts p.front) in
     let r = split_last p.front n in
-    let S : List Tree → Type 0 = λ x. Stored limit s x in
-    let T : Tree → Type 0 = λ x. Stored limit s' ((ts ++ r.0) ++ x ∷ []) in
+    let S : List Tree → Type 0 = λ x. StoresTrees limit s x in
+    let T : Tree → Type 0 = λ x. StoresTrees limit s' ((ts ++ r.0) ++ x ∷ []) in
     let before : S ((ts ++ r.0) ++ r.1 ∷ last ∷ []) =
     subst S (ap (λ (x : List Tree). (ts ++ x) ++ last ∷ []) r.2 ∙ ap (λ (x : List Tree). x ++ last ∷ []) (sym (append_assoc ts r.0 (r.1 ∷ []))) ∙ append_assoc (ts ++ r.0) (r.1 ∷ []) (last ∷ [])) p.stored in
     record {
@@ -242,21 +242,21 @@ partly_step alternatives limit s s' ts ps h join p =
       stored = subst T (sym (chain_cons alternatives r.1 p.first p.rest)) (join limit (ts ++ r.0) r.1 last before);
     }
 
-pub partly_end : (alternatives : Bool) (limit : ℕ) (s : Stack) (ts ps : List Tree) → length s.parts.items ≤ length ts + 1 → Partly alternatives limit s ts ps → Stored limit s (ts ++ chain alternatives ps ∷ [])
+pub partly_end : (alternatives : Bool) (limit : ℕ) (s : Stack) (ts ps : List Tree) → length s.parts.items ≤ length ts + 1 → Partly alternatives limit s ts ps → StoresTrees limit s (ts ++ chain alternatives ps ∷ [])
 partly_end alternatives limit s ts ps h p =
     by_front p.front p.whole p.stored (omega (arith, h, count_of p.stored, length-append (ts ++ p.front) (chain alternatives (p.first ∷ p.rest) ∷ []), length-append ts p.front))
   where
-    by_front : (front : List Tree) → ps ≡ front ++ p.first ∷ p.rest → Stored limit s ((ts ++ front) ++ chain alternatives (p.first ∷ p.rest) ∷ []) → length front ≤ 0 → Stored limit s (ts ++ chain alternatives ps ∷ [])
+    by_front : (front : List Tree) → ps ≡ front ++ p.first ∷ p.rest → StoresTrees limit s ((ts ++ front) ++ chain alternatives (p.first ∷ p.rest) ∷ []) → length front ≤ 0 → StoresTrees limit s (ts ++ chain alternatives ps ∷ [])
     by_front [] w st n =
-        let S : List Tree → List Tree → Type 0 = λ x y. Stored limit s (x ++ chain alternatives y ∷ []) in
+        let S : List Tree → List Tree → Type 0 = λ x y. StoresTrees limit s (x ++ chain alternatives y ∷ []) in
         let st' : S ts (p.first ∷ p.rest) = subst (λ (x : List Tree). S x (p.first ∷ p.rest)) (append-nil ts) st in
         subst (λ (y : List Tree). S ts y) (sym w) st'
     by_front (f ∷ fs) w st n = absurd (omega (arith, n))
 
 -- no trees make an empty concatenation
-pub stored_none : (limit : ℕ) (old new : Stack) (ts ps : List Tree) → length old.parts.items ≡ length ts → Stored limit old (ts ++ ps) → (Stored limit old ts → Stored limit new (ts ++ empty ∷ [])) →
-    Stored limit new (ts ++ concatenation ps ∷ [])
-stored_none limit old new ts [] h s leaf = leaf (subst (λ (x : List Tree). Stored limit old x) (append-nil ts) s)
+pub stored_none : (limit : ℕ) (old new : Stack) (ts ps : List Tree) → length old.parts.items ≡ length ts → StoresTrees limit old (ts ++ ps) → (StoresTrees limit old ts → StoresTrees limit new (ts ++ empty ∷ [])) →
+    StoresTrees limit new (ts ++ concatenation ps ∷ [])
+stored_none limit old new ts [] h s leaf = leaf (subst (λ (x : List Tree). StoresTrees limit old x) (append-nil ts) s)
 stored_none limit old new ts (p ∷ ps) h s leaf = absurd (omega (arith, h, count_of s, length-append ts (p ∷ ps)))
 
 pub empty_leaf : IsLeaf node.Empty empty

@@ -46,12 +46,12 @@ FitsShape sets x shape.Seq left right = (left ≤ x) × (right ≤ x)
 FitsShape sets x shape.Alt left right = (left ≤ x) × (right ≤ x)
 FitsShape sets x other left right = right ≤ x
 
-abbrev pub Fits : List (List Bool) → ℕ → PackedNode → Type 0
-Fits sets x e = FitsShape sets x e.shape e.left e.right
+abbrev pub NodeFits : List (List Bool) → ℕ → PackedNode → Type 0
+NodeFits sets x e = FitsShape sets x e.shape e.left e.right
 
 abbrev pub FitFrom : List (List Bool) → ℕ → List PackedNode → Type 0
 FitFrom sets x [] = Unit {0}
-FitFrom sets x (e ∷ es) = Fits sets x e × FitFrom sets (x + 1) es
+FitFrom sets x (e ∷ es) = NodeFits sets x e × FitFrom sets (x + 1) es
 
 -- what is kept of a node at the index x, whose set has this number
 abbrev pub entry_with : Shape → ℕ → ℕ → PackedNode

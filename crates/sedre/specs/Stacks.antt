@@ -130,7 +130,7 @@ last_end (p ∷ []) = p.end
 last_end (p ∷ q ∷ ps) = last_end (q ∷ ps)
 
 -- the stack contains these trees: the nodes of those that fit, and of each its measures
-pub record Stored (limit : ℕ) (s : Stack) (ts : List Tree) : Type 0 where
+pub record StoresTrees (limit : ℕ) (s : Stack) (ts : List Tree) : Type 0 where
   pub limit_is : s.limit ≡ limit
   pub nodes_are : s.nodes ≡ written_trees 0 (fitting limit 0 ts)
   pub parts_are : s.parts.items ≡ extents_kept limit 0 ts
@@ -138,13 +138,13 @@ pub record Stored (limit : ℕ) (s : Stack) (ts : List Tree) : Type 0 where
 -- the last tree became another
 abbrev pub LastBecomes : (Tree → Tree) → Stack → Stack → Type 0
 LastBecomes f old new =
-    (limit : ℕ) (ts : List Tree) (a : Tree) → Stored limit old (ts ++ a ∷ []) → Stored limit new (ts ++ f a ∷ [])
+    (limit : ℕ) (ts : List Tree) (a : Tree) → StoresTrees limit old (ts ++ a ∷ []) → StoresTrees limit new (ts ++ f a ∷ [])
 
 -- the trees from the given number on became one
 abbrev pub JoinsTrees : ℕ → (List Tree → Tree) → Stack → Stack → Type 0
 JoinsTrees from f old new =
-    (limit : ℕ) (ts ps : List Tree) → length ts ≡ from → Stored limit old (ts ++ ps) →
-    Stored limit new (ts ++ f ps ∷ [])
+    (limit : ℕ) (ts ps : List Tree) → length ts ≡ from → StoresTrees limit old (ts ++ ps) →
+    StoresTrees limit new (ts ++ f ps ∷ [])
 
 -- a tree came on the stack, whose root is this node and whose parts' nodes end there
 pub record PutsTree (limit : ℕ) (ns : List Node) (ps : List TreeExtent) (new : Stack) (n : Node) (ends d i : ℕ) : Type 0 where
@@ -188,7 +188,7 @@ covered (cover.Opt first) a = opt a first
 
 -- the reader stands for this state
 pub record Represents (limit : ℕ) (b : Builder) (s : Nesting) : Type 0 where
-  pub stored : Stored limit b.stack (trees_in (s.top ∷ s.below))
+  pub stored : StoresTrees limit b.stack (trees_in (s.top ∷ s.below))
   pub opened : b.opened ≡ s.opened
   pub top : b.top ≡ mark_of s.top s.below
   pub below : b.below.items ≡ marks_of_levels s.below

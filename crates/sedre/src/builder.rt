@@ -18,7 +18,7 @@ pub struct Builder {
 
 impl Builder {
     ghost use Rattle.sedre.specs.Tree.{Tree};
-    ghost use Rattle.sedre.specs.Stacks.{Represents, Nesting, TakesToken, no_nesting, CanTake, Stored, IsLeaf, with_piece, whole_level};
+    ghost use Rattle.sedre.specs.Stacks.{Represents, Nesting, TakesToken, no_nesting, CanTake, StoresTrees, IsLeaf, with_piece, whole_level};
     ghost use Rattle.sedre.specs.Stacks.{IsInterval};
 
     /// A builder to which nothing was added. The limit is one more than the nodes allowed.
@@ -121,7 +121,7 @@ impl Builder {
     pub fn join(&mut self) -> Result<(), AllocError>
         requires { (limit : ℕ) × (s : Nesting) × Represents limit self.old s × (s.below ≡ []) }
         ensures { OnOk result ((limit : ℕ) (s : Nesting) → Represents limit self.old s → s.below ≡ [] →
-            Stored limit self.new.stack (whole_level s.top ∷ []) × (self.new.opened ≡ s.opened)) }
+            StoresTrees limit self.new.stack (whole_level s.top ∷ []) × (self.new.opened ≡ s.opened)) }
     {
         self.stack.concatenate(self.top.pieces)?;
         self.stack.join_all(0, true)

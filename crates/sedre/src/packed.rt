@@ -1,7 +1,7 @@
 //! The nodes of an expression as a table: a shape and two numbers for each node, and each set once.
 ghost use Rattle.std.specs.Prelude.{◌≡◌, ◌≤◌, ◌<◌, ◌+◌, ◌-◌, ◌++◌, ◌∷◌, [], List, Bool, Some, IfOk, IfSome, OnOk};
 ghost use Rattle.std.specs.Prelude.{ℕ, length, map, take, drop, slice_get, vec_len};
-ghost use Rattle.sedre.specs.Packed.{node_at, nodes_from, Fits, FitFrom, entry_of, HasNumber};
+ghost use Rattle.sedre.specs.Packed.{node_at, nodes_from, NodeFits, FitFrom, entry_of, HasNumber};
 ghost use Rattle.sedre.specs.Packed.{AddsSets, PartsBelow, number_of_set, shifted};
 ghost use Rattle.std.specs.Prelude.{option_map, true};
 ghost use Rattle.sedre.specs.declared.types.Node.TheVariants.{Set};
@@ -63,7 +63,7 @@ fn entry_of(at: usize, number: usize, node: Node) -> PackedNode
 
 /// The node that an entry at the index `at` stands for.
 fn node_at(sets: &[ByteSet], at: usize, entry: PackedNode) -> Node
-    requires { Fits sets.now at entry }
+    requires { NodeFits sets.now at entry }
     ensures { result ≡ node_at sets.now at entry }
 {
     let left = NodeId {

@@ -18,13 +18,13 @@ fn is_first(first: bool, held: usize, count: usize) -> bool
 impl Stack {
     ghost use Rattle.sedre.specs.Tree.{Tree};
     ghost use Rattle.sedre.specs.Grammar.{with_copies, optional, repetition};
-    ghost use Rattle.sedre.specs.Stacks.{Stored, LastBecomes, IsInterval};
+    ghost use Rattle.sedre.specs.Stacks.{StoresTrees, LastBecomes, IsInterval};
 
     /// Puts `count` copies of the last tree after it.
     fn copies(&mut self, count: usize) -> Result<(), AllocError>
         requires { 1 ≤ vec_len self.old.parts }
-        ensures trees { OnOk result ((limit : ℕ) (ts : List Tree) (a : Tree) → Stored limit self.old (ts ++ a ∷ []) →
-            Stored limit self.new ((ts ++ with_copies count a []) ++ a ∷ [])) }
+        ensures trees { OnOk result ((limit : ℕ) (ts : List Tree) (a : Tree) → StoresTrees limit self.old (ts ++ a ∷ []) →
+            StoresTrees limit self.new ((ts ++ with_copies count a []) ++ a ∷ [])) }
         ensures count { OnOk result (vec_len self.new.parts ≡ vec_len self.old.parts + count) }
     {
         for _ in 0..count {
@@ -37,8 +37,8 @@ impl Stack {
     fn nest(&mut self, count: usize, first: bool) -> Result<(), AllocError>
         requires { count + 1 ≤ vec_len self.old.parts }
         ensures trees { OnOk result ((limit : ℕ) (ts : List Tree) (a : Tree) →
-            Stored limit self.old ((ts ++ with_copies count a []) ++ a ∷ []) →
-            Stored limit self.new (ts ++ optional count a first ∷ [])) }
+            StoresTrees limit self.old ((ts ++ with_copies count a []) ++ a ∷ []) →
+            StoresTrees limit self.new (ts ++ optional count a first ∷ [])) }
         ensures count { OnOk result (vec_len self.new.parts + count ≡ vec_len self.old.parts) }
     {
         self.cover(Cover::Opt(is_first(first, 0, count)))?;

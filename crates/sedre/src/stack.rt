@@ -62,11 +62,11 @@ impl Stack {
     ghost use Rattle.sedre.specs.Tree.{Tree, size};
     ghost use Rattle.sedre.specs.Grammar.{depth, concatenation};
     ghost use Rattle.sedre.specs.Packed.{shifted};
-    ghost use Rattle.sedre.specs.Stacks.{Stored, LastBecomes, JoinsTrees, IsLeaf, PutsTree, last_end, pair, chain, covered};
+    ghost use Rattle.sedre.specs.Stacks.{StoresTrees, LastBecomes, JoinsTrees, IsLeaf, PutsTree, last_end, pair, chain, covered};
 
     /// No trees.
     pub fn new(alloc: Global, limit: usize) -> Self
-        ensures { Stored limit result [] }
+        ensures { StoresTrees limit result [] }
     {
         Stack {
             limit,
@@ -112,7 +112,7 @@ impl Stack {
     /// Puts a tree without parts on the stack.
     pub fn leaf(&mut self, node: Node) -> Result<(), AllocError>
         ensures trees { OnOk result ((limit : ℕ) (ts : List Tree) (t : Tree) →
-            IsLeaf node t → Stored limit self.old ts → Stored limit self.new (ts ++ t ∷ [])) }
+            IsLeaf node t → StoresTrees limit self.old ts → StoresTrees limit self.new (ts ++ t ∷ [])) }
         ensures count { OnOk result (vec_len self.new.parts ≡ vec_len self.old.parts + 1) }
     {
         let end = self.end();
@@ -123,7 +123,7 @@ impl Stack {
     pub fn join(&mut self, alternatives: bool) -> Result<(), AllocError>
         requires { 2 ≤ vec_len self.old.parts }
         ensures trees { OnOk result ((limit : ℕ) (ts : List Tree) (a b : Tree) →
-            Stored limit self.old (ts ++ a ∷ b ∷ []) → Stored limit self.new (ts ++ pair alternatives a b ∷ [])) }
+            StoresTrees limit self.old (ts ++ a ∷ b ∷ []) → StoresTrees limit self.new (ts ++ pair alternatives a b ∷ [])) }
         ensures count { OnOk result (vec_len self.new.parts + 1 ≡ vec_len self.old.parts) }
     {
         let right = self.parts.pop().unwrap();
@@ -167,8 +167,8 @@ impl Stack {
     /// Puts a copy of the last tree after it.
     pub fn copy(&mut self) -> Result<(), AllocError>
         requires { 1 ≤ vec_len self.old.parts }
-        ensures trees { OnOk result ((limit : ℕ) (ts : List Tree) (a : Tree) → Stored limit self.old (ts ++ a ∷ []) →
-            Stored limit self.new ((ts ++ a ∷ []) ++ a ∷ [])) }
+        ensures trees { OnOk result ((limit : ℕ) (ts : List Tree) (a : Tree) → StoresTrees limit self.old (ts ++ a ∷ []) →
+            StoresTrees limit self.new ((ts ++ a ∷ []) ++ a ∷ [])) }
         ensures count { OnOk result (vec_len self.new.parts ≡ vec_len self.old.parts + 1) }
     {
         let part = self.parts.pop().unwrap();
@@ -187,8 +187,8 @@ impl Stack {
     /// Takes the last tree away.
     pub fn drop_last(&mut self)
         requires { 1 ≤ vec_len self.old.parts }
-        ensures trees { (limit : ℕ) (ts : List Tree) (a : Tree) → Stored limit self.old (ts ++ a ∷ []) →
-            Stored limit self.new ts }
+        ensures trees { (limit : ℕ) (ts : List Tree) (a : Tree) → StoresTrees limit self.old (ts ++ a ∷ []) →
+            StoresTrees limit self.new ts }
         ensures count { vec_len self.new.parts + 1 ≡ vec_len self.old.parts }
     {
         self.parts.pop();

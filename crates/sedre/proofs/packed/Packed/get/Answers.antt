@@ -1,6 +1,6 @@
 use Rattle.std.proofs.Common.{◌≡◌, ◌∙◌, sym, ap, subst, length, ℕ, ◌+◌, arith, slice_get, Some, List, Bool}
 use Rattle.sedre.specs.declared.types.Node.{Node}
-use Rattle.sedre.specs.Packed.{Fits, node_at}
+use Rattle.sedre.specs.Packed.{NodeFits, node_at}
 use Rattle.sedre.proofs.Packing.{length-nodes, nodes-get, fit-get, known}
 use Rattle.sedre.proofs.packed.Packed.get.Goals as goal
 
@@ -10,7 +10,7 @@ index-requires c = omega (arith, c.requires, ap length c.self.view_is, length-no
 pub node_at-requires : goal.node_at-requires
 node_at-requires c =
     let h = fit-get c.self.inside.sets.items 0 c.args.index c.self.inside.entries.items c.index.result.now c.self.invariant (known c.self.inside.entries.items c.args.index c.index.result.now (omega (arith, c.requires, ap length c.self.view_is, length-nodes c.self.inside.sets.items 0 c.self.inside.entries.items)) c.index.ensures) in
-    let F : List (List Bool) → ℕ → Type 0 = λ s n. Fits s n c.index.result.now in
+    let F : List (List Bool) → ℕ → Type 0 = λ s n. NodeFits s n c.index.result.now in
     let zero : 0 + c.args.index ≡ c.args.index = omega arith in
     subst (λ (n : ℕ). F c.deref.result.now n) zero (subst (λ (s : List (List Bool)). F s (0 + c.args.index)) (sym c.deref.ensures.value) h)
 

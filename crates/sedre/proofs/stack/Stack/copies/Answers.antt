@@ -1,6 +1,6 @@
 use Rattle.std.proofs.Common.{ℕ, ◌++◌, ◌∷◌, [], ◌≡◌, arith, subst}
 use Rattle.sedre.specs.Grammar.{with_copies}
-use Rattle.sedre.specs.Stacks.{Stored}
+use Rattle.sedre.specs.Stacks.{StoresTrees}
 use Rattle.sedre.proofs.Repeated.{copies_start, copies_step}
 use Rattle.sedre.proofs.stack.Stack.copies.Goals as goal
 
@@ -15,5 +15,5 @@ loop-preserved c = record {
 
 pub returns-clause-trees : goal.returns-clause-trees
 returns-clause-trees c = λ limit ts a s.
-    let P : ℕ → Type 0 = λ n. Stored limit c.loop.self ((ts ++ with_copies n a []) ++ a ∷ []) in
+    let P : ℕ → Type 0 = λ n. StoresTrees limit c.loop.self ((ts ++ with_copies n a []) ++ a ∷ []) in
     subst P (let e : c.loop.counter ≡ c.args.count = omega arith in e) (c.loop.invariant.trees limit ts a s)
