@@ -4,7 +4,7 @@ use Rattle.std.specs.Prelude.{slice_set}
 use Rattle.sedre.specs.Tree.{Tree, seq, alt, group, star, opt}
 use Rattle.sedtext.specs.Spans.{no_copy, Matches}
 use Rattle.sedtext.specs.Caps.{Captures, LastCut, LastCopy, only, then}
-use Rattle.sedtext.specs.Groups.{Groups, forget}
+use Rattle.sedtext.specs.Groups.{SpansOfGroups, forget}
 
 LastCut-unique : (A B : ℕ → ℕ → Type 0) (i j k l : ℕ) → LastCut A B i j k → LastCut A B i j l → k ≡ l
 LastCut-unique A B i j k l one other =
@@ -25,7 +25,7 @@ LastCopy-unique R j i c (then _ k _ up low r rest most last) d (then _ l _ up' l
     LastCopy-unique R j k c last d (subst (λ v. LastCopy R j v d) same last')
 
 -- of an empty span
-empty_unique : (i j : ℕ) (F S : Type 0) (P : Groups → Type 0) (old new other : Groups) → ((g h : Groups) → P g → P h → g ≡ h) →
+empty_unique : (i j : ℕ) (F S : Type 0) (P : SpansOfGroups → Type 0) (old new other : SpansOfGroups) → ((g h : SpansOfGroups) → P g → P h → g ≡ h) →
     (((i ≡ j) × F × S × P new) ⊎ ((i ≡ j) × ((F → S → ⊥) × (new ≡ old)))) →
     (((i ≡ j) × F × S × P other) ⊎ ((i ≡ j) × ((F → S → ⊥) × (other ≡ old)))) → new ≡ other
 empty_unique i j F S P old new other same (inl h) (inl k) = same new other h.3 k.3
@@ -34,7 +34,7 @@ empty_unique i j F S P old new other same (inr h) (inl k) = absurd (h.1.0 k.1 k.
 empty_unique i j F S P old new other same (inr h) (inr k) = h.1.1 ∙ sym k.1.1
 
 -- at most one outcome
-pub Captures-unique : (e : Tree) (w : List ℕ) (i j : ℕ) (old new other : Groups) → Captures e w i j old new → Captures e w i j old other → new ≡ other
+pub Captures-unique : (e : Tree) (w : List ℕ) (i j : ℕ) (old new other : SpansOfGroups) → Captures e w i j old new → Captures e w i j old other → new ≡ other
 Captures-unique (seq a b) w i j old new other h k =
     let same : h.0 ≡ k.0 = LastCut-unique (Matches a w) (Matches b w) i j h.0 k.0 h.1 k.1 in
     let mid : h.2.0 ≡ k.2.0 = Captures-unique a w i h.0 old h.2.0 k.2.0 h.2.1 (subst (λ v. Captures a w i v old k.2.0) (sym same) k.2.1) in

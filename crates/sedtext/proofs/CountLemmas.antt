@@ -41,11 +41,6 @@ pub least_looked : (s t n p : ℕ) (r : Option ℕ) → TakesAtLeast s t (looked
 least_looked s t n p None are = tt
 least_looked s t n p (Some k) are = least_less s t (k + 1 - p) (k - p) are (omega arith)
 
--- and one that is found from a later place q on
-pub least_later : (s a b p q : ℕ) (r : Option ℕ) → TakesAtLeast s a (q - p) → IfSome r (λ k. TakesAtLeast a b (k - q)) → IfSome r (λ k. TakesAtLeast s b (k - p))
-least_later s a b p q None before after = tt
-least_later s a b p q (Some k) before after = least_both s a b (q - p) (k - q) (k - p) before after (omega arith)
-
 -- the same number of looks, twice
 pub counted_twice : (s a t n x y : ℕ) → x ≡ n → y ≡ n → TakesExactly s a x → TakesExactly a t y → TakesExactly s t (2 * n)
 unfolding TakesExactly

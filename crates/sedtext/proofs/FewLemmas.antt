@@ -76,10 +76,6 @@ module _ (w rest : List ℕ) (p : ℕ) (from : p ≤ length w) (e : rest ≡ tak
     pub few_some : (k : ℕ) → FirstFew few rest 0 (Some k) → FirstFew few w p (Some (p + k))
     few_some k first = (omega arith, from_rest k first.1, λ h low lt at. first.2 (h - p) (omega arith) (omega arith) (to_rest h low at))
 
--- a place at which one occurs is in the text
-pub few_inside : (few : Few) (w : List ℕ) (i : ℕ) → FewAt few w i → i < length w
-few_inside few w i at = slice_get_within w i at.0 at.1
-
 -- the members of a set among the first bytes are those gathered
 abbrev pub AllGathered : List Bool → ℕ → Option Few → Type 0
 AllGathered set n few = (c : ℕ) → IsGathered few c ↔ ((c < n) × IsIn c set)

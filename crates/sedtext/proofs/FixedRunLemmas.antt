@@ -5,7 +5,7 @@ use Rattle.std.proofs.lemmas.Bool.{cases_lt}
 use Rattle.sedre.specs.Tree.{set, star}
 use Rattle.sedre.specs.declared.types.Node.{Node}
 use Rattle.sedtext.specs.Spans.{Matches, CopiesLead, no_copy, one_more}
-use Rattle.sedtext.specs.Runs.{Repeated, RunBegins}
+use Rattle.sedtext.specs.Runs.{SetRepeats, RunBegins}
 use Rattle.sedtext.specs.Bytes.{MemberAt}
 use Rattle.sedtext.specs.FixedRuns.{IsFixedRun, AllFixedRuns, AreWidths, FirstFixedRun}
 use Rattle.sedtext.proofs.SpanLemmas.{Matches-within}
@@ -24,7 +24,7 @@ module _ (members : List Bool) (w : List ℕ) where
   R = Matches (set members) w
 
   -- bytes of the set can be cut at each place between them
-  pub repeated_cut : (m j i : ℕ) → i ≤ m → m ≤ j → Repeated members w i j → Repeated members w i m × Repeated members w m j
+  pub repeated_cut : (m j i : ℕ) → i ≤ m → m ≤ j → SetRepeats members w i j → SetRepeats members w i m × SetRepeats members w m j
   repeated_cut m j i low high no_copy = let same : j ≡ m = omega arith in subst (λ v. CopiesLead R v j × CopiesLead R j v) same (no_copy, no_copy)
   repeated_cut m j i low high (one_more _ l lt r rest) =
       ⊎_elim
@@ -35,20 +35,20 @@ module _ (members : List Bool) (w : List ℕ) where
       (cases_lt i m)
 
   -- the first of them is in the set
-  pub repeated_first : (j p : ℕ) → p < j → Repeated members w p j → MemberAt members w p
+  pub repeated_first : (j p : ℕ) → p < j → SetRepeats members w p j → MemberAt members w p
   repeated_first j p lt no_copy = absurd (omega arith)
   repeated_first j p lt (one_more _ l on r rest) = (r.0, r.1, r.2)
 
   -- and each other one
-  pub repeated_in : (i p j : ℕ) → i ≤ p → p < j → Repeated members w i j → MemberAt members w p
+  pub repeated_in : (i p j : ℕ) → i ≤ p → p < j → SetRepeats members w i j → MemberAt members w p
   repeated_in i p j low lt all = let cut = repeated_cut p j i low (omega arith) all in repeated_first j p lt cut.1
 
   -- one more of them before the others
-  pub repeated_before : (p j : ℕ) → MemberAt members w p → Repeated members w (p + 1) j → Repeated members w p j
+  pub repeated_before : (p j : ℕ) → MemberAt members w p → SetRepeats members w (p + 1) j → SetRepeats members w p j
   repeated_before p j can rest = one_more p (p + 1) (omega arith) (can.0, can.1, can.2, refl) rest
 
   -- they end in the text
-  pub repeated_within : (i j : ℕ) → i ≤ length w → Repeated members w i j → j ≤ length w
+  pub repeated_within : (i j : ℕ) → i ≤ length w → SetRepeats members w i j → j ≤ length w
   repeated_within i j within all = Matches-within (star (set members) false) w i j within all
 
   -- those of one byte
@@ -57,17 +57,17 @@ module _ (members : List Bool) (w : List ℕ) where
 
 -- the same, where the byte was looked at
 pub repeated_more : (members : List Bool) (w : List ℕ) (before place to byte : ℕ) (has : Bool) → before + 1 ≡ place → slice_get w before ≡ Some byte → has ≡ slice_index_or members byte false → IsTrue has →
-    Repeated members w place to → Repeated members w before to
+    SetRepeats members w place to → SetRepeats members w before to
 repeated_more members w before place to byte has next is value holds rest =
-    repeated_before members w before to (byte, is, sym value ∙ holds) (subst (λ v. Repeated members w v to) (sym next) rest)
+    repeated_before members w before to (byte, is, sym value ∙ holds) (subst (λ v. SetRepeats members w v to) (sym next) rest)
 
 -- after a byte that isn't in the set the run begins
 pub run_stops : (members : List Bool) (w : List ℕ) (p q before place byte : ℕ) (has : Bool) → before + 1 ≡ place → p ≤ before → place ≤ q → slice_get w before ≡ Some byte →
-    has ≡ slice_index_or members byte false → has ≡ false → Repeated members w place q → RunBegins members w p q (before + 1)
+    has ≡ slice_index_or members byte false → has ≡ false → SetRepeats members w place q → RunBegins members w p q (before + 1)
 run_stops members w p q before place byte has next low high is value missing copies = (
   omega arith,
   omega (arith, next),
-  subst (λ v. Repeated members w v q) (sym next) copies,
+  subst (λ v. SetRepeats members w v q) (sym next) copies,
   λ h after lt all.
       let can = repeated_in members w h before q (omega arith) (omega (arith, next)) all in
       member_step members w before before byte has is value missing (λ k these those. absurd (omega arith)) before (omega arith) (omega arith) can,
@@ -113,7 +113,7 @@ width_at nodes members widths x count are lt is =
 module _ (members : List Bool) (count : ℕ) (w : List ℕ) (from : ℕ) where
   -- no so many bytes begin before a run that begins among those
   pub times_missed : (start seen run : ℕ) → start ≤ seen → seen < run → RunBegins members w seen (start + count) run →
-      ((h : ℕ) → from ≤ h → h < start → Repeated members w h (h + count) → ⊥) → (h : ℕ) → from ≤ h → h < run → Repeated members w h (h + count) → ⊥
+      ((h : ℕ) → from ≤ h → h < start → SetRepeats members w h (h + count) → ⊥) → (h : ℕ) → from ≤ h → h < run → SetRepeats members w h (h + count) → ⊥
   times_missed start seen run low off begins before h after lt all =
       ⊎_elim
       (λ (less : h < start). before h after less all)
@@ -128,7 +128,7 @@ module _ (members : List Bool) (count : ℕ) (w : List ℕ) (from : ℕ) where
 
   -- nor where the text is too short
   pub times_none : (start : ℕ) → length w < start + count →
-      ((h : ℕ) → from ≤ h → h < start → Repeated members w h (h + count) → ⊥) → FirstFixedRun members count w from None
+      ((h : ℕ) → from ≤ h → h < start → SetRepeats members w h (h + count) → ⊥) → FirstFixedRun members count w from None
   times_none start short before h after within all =
       ⊎_elim
       (λ (less : h < start). before h after less all)
@@ -136,6 +136,6 @@ module _ (members : List Bool) (count : ℕ) (w : List ℕ) (from : ℕ) where
       (cases_lt h start)
 
   -- here they do
-  pub times_here : (start seen : ℕ) → from ≤ start → start + count ≤ length w → Repeated members w start seen → Repeated members w seen (start + count) →
-      ((h : ℕ) → from ≤ h → h < start → Repeated members w h (h + count) → ⊥) → FirstFixedRun members count w from (Some start)
+  pub times_here : (start seen : ℕ) → from ≤ start → start + count ≤ length w → SetRepeats members w start seen → SetRepeats members w seen (start + count) →
+      ((h : ℕ) → from ≤ h → h < start → SetRepeats members w h (h + count) → ⊥) → FirstFixedRun members count w from (Some start)
   times_here start seen after within these those before = (after, within, CopiesLead-join (Matches (set members) w) (start + count) seen start these those, before)

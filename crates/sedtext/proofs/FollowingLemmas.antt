@@ -5,7 +5,7 @@ use Rattle.std.proofs.lemmas.Bool.Decides.{nat_tests}
 use Rattle.sedre.specs.Tree.{Tree}
 use Rattle.sedtext.specs.Spans.{Matches}
 use Rattle.sedtext.specs.Matching.{leftmost_longest, unless_null_at}
-use Rattle.sedtext.specs.Following.{EndsWithin, LiesOn, Occurs, next_span}
+use Rattle.sedtext.specs.Following.{EndsWithin, LiesOn, OccursAfter, next_span}
 use Rattle.sedtext.proofs.MatchingLemmas.{found-iff}
 
 -- the next occurrence is a match
@@ -32,6 +32,6 @@ next_spans e w (Some q) f inside next = unless_spans e w q (leftmost_longest e w
     on false fits is = let none : None ≡ Some f = is in cc
 
 pub if_occurs : (e : Tree) (w : List ℕ) (last : Option ℕ) (r : Option (ℕ × ℕ)) → EndsWithin (length w) last →
-    r ≡ next_span (leftmost_longest e w) (length w) last → IfSome r (LiesOn (length w) last) → IfSome r (Occurs e w last)
+    r ≡ next_span (leftmost_longest e w) (length w) last → IfSome r (LiesOn (length w) last) → IfSome r (OccursAfter e w last)
 if_occurs e w last None inside is lies = tt
 if_occurs e w last (Some f) inside is lies = (next_spans e w last f inside (sym is), lies)

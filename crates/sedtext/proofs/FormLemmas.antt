@@ -5,11 +5,11 @@ use Rattle.sedre.specs.Arena.{IsArena}
 use Rattle.sedre.specs.declared.types.Node.{Node}
 use Rattle.sedre.specs.declared.types.Node.TheVariants.{Set, Begin, End, Seq, Alt, Group, Star}
 use Rattle.sedtext.specs.Forms.{HasForm, node_form}
-use Rattle.sedtext.specs.Reach.{At}
+use Rattle.sedtext.specs.Reach.{HasSpan}
 use Rattle.sedtext.proofs.ReachLemmas.{NodeSpans, open_at, close_at}
 
 module _ (nodes : List Node) (arena : IsArena nodes) (x : ℕ) where
-  at_node : (node : Node) → slice_get nodes x ≡ Some node → (w : List ℕ) (i j : ℕ) → At nodes w x i j ↔ NodeSpans nodes w node i j
+  at_node : (node : Node) → slice_get nodes x ≡ Some node → (w : List ℕ) (i j : ℕ) → HasSpan nodes w x i j ↔ NodeSpans nodes w node i j
   at_node node is w i j = (open_at nodes w x node arena is i j, close_at nodes w x node arena is i j)
 
   pub has_form : (node : Node) → slice_get nodes x ≡ Some node → HasForm nodes x (node_form node)

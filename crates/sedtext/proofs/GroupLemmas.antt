@@ -8,7 +8,7 @@ use Rattle.sedre.specs.declared.types.Node.{Node}
 use Rattle.sedre.specs.declared.types.Node.TheVariants.{Seq, Alt, Group, Star, Opt}
 use Rattle.sedre.proofs.TreeLemmas.{tree_at-node}
 use Rattle.sedtext.specs.Caps.{Captures}
-use Rattle.sedtext.specs.Groups.{Groups, forget}
+use Rattle.sedtext.specs.Groups.{SpansOfGroups, forget}
 use Rattle.sedtext.specs.Matching.{groups_after, greatest_cut, last_start, spans}
 use Rattle.sedtext.proofs.NodeLemmas.{node_at}
 use Rattle.sedtext.proofs.MatchingLemmas.{groups_after-is}
@@ -22,7 +22,7 @@ NoGroups (star a first) = NoGroups a
 NoGroups (opt a first) = NoGroups a
 NoGroups other = Unit {0}
 
-forget-none : (e : Tree) → NoGroups e → (g : Groups) → forget e g ≡ g
+forget-none : (e : Tree) → NoGroups e → (g : SpansOfGroups) → forget e g ≡ g
 forget-none (seq a b) none g = ap (forget b) (forget-none a none.0 g) ∙ forget-none b none.1 g
 forget-none (alt a b) none g = ap (forget b) (forget-none a none.0 g) ∙ forget-none b none.1 g
 forget-none (group k a) none g = absurd none
@@ -30,11 +30,11 @@ forget-none (star a first) none g = forget-none a none g
 forget-none (opt a first) none g = forget-none a none g
 forget-none _ none g = refl
 
-cond-same : (b : Bool) (x y g : Groups) → x ≡ g → y ≡ g → cond b x y ≡ g
+cond-same : (b : Bool) (x y g : SpansOfGroups) → x ≡ g → y ≡ g → cond b x y ≡ g
 cond-same true x y g left right = left
 cond-same false x y g left right = right
 
-groups_after-none : (e : Tree) → NoGroups e → (w : List ℕ) (i j : ℕ) (g : Groups) → groups_after e w i j g ≡ g
+groups_after-none : (e : Tree) → NoGroups e → (w : List ℕ) (i j : ℕ) (g : SpansOfGroups) → groups_after e w i j g ≡ g
 unfolding groups_after
 groups_after-none (seq a b) none w i j g =
     let k = greatest_cut (spans a w) (spans b w) i j in
@@ -49,7 +49,7 @@ groups_after-none (opt a first) none w i j g =
     (cond-same _ _ _ g (groups_after-none a none w i i (forget a g) ∙ forget-none a none g) refl)
 groups_after-none _ none w i j g = refl
 
-pub Captures-none : (e : Tree) → NoGroups e → (w : List ℕ) (i j : ℕ) (g : Groups) → Matches e w i j → Captures e w i j g g
+pub Captures-none : (e : Tree) → NoGroups e → (w : List ℕ) (i j : ℕ) (g : SpansOfGroups) → Matches e w i j → Captures e w i j g g
 Captures-none e none w i j g s = subst (λ h. Captures e w i j g h) (groups_after-none e none w i j g) (groups_after-is e w i j g s)
 
 module _ (nodes : List Node) (groups : ℕ) (expr : IsExpr nodes groups) (few : groups ≡ 0) where

@@ -56,9 +56,9 @@ abbrev each_below : (ℕ → Bool) → ℕ → Bool
 each_below f zero = true
 each_below f (suc n) = cond (f n) (each_below f n) false
 
-told_below : (f : ℕ → Bool) (n : ℕ) → each_below f n ≡ true → (k : ℕ) → k < n → f k ≡ true
-told_below f zero all k lt = absurd (omega arith)
-told_below f (suc n) all k lt = at (f n) refl all (told_below f n)
+shown_below : (f : ℕ → Bool) (n : ℕ) → each_below f n ≡ true → (k : ℕ) → k < n → f k ≡ true
+shown_below f zero all k lt = absurd (omega arith)
+shown_below f (suc n) all k lt = at (f n) refl all (shown_below f n)
   where
     at : (b : Bool) → f n ≡ b → cond b (each_below f n) false ≡ true → (each_below f n ≡ true → (k : ℕ) → k < n → f k ≡ true) → f k ≡ true
     at true is rest before = ⊎_elim (λ (less : k < n). before rest k less) (λ (ge : n ≤ k). ap f (let e : k ≡ n = omega arith in e) ∙ is) (cases_lt k n)
@@ -66,7 +66,7 @@ told_below f (suc n) all k lt = at (f n) refl all (told_below f n)
 
 -- the bit of an upper nibble
 upper_bit : (u : ℕ) → u < 16 → bit_at (get_or UPPER u 0) (u % 8) ≡ 1
-upper_bit u lt = eqb-true (bit_at (get_or UPPER u 0) (u % 8)) 1 (told_below (λ u. eqb (bit_at (get_or UPPER u 0) (u % 8)) 1) 16 refl u lt)
+upper_bit u lt = eqb-true (bit_at (get_or UPPER u 0) (u % 8)) 1 (shown_below (λ u. eqb (bit_at (get_or UPPER u 0) (u % 8)) 1) 16 refl u lt)
 
 -- a byte that is marked is so in its row and its bit together
 pub marked_lane : (rows : List ℕ) (byte row bit lane : ℕ) → byte < 256 → IsMarked rows byte → row ≡ get_or rows (byte % 16) 0 → bit ≡ get_or UPPER (byte / 16) 0 → lane ≡ bit_and row bit → lane ≢ 0

@@ -7,7 +7,7 @@ use Rattle.std.proofs.lemmas.Option.{slice_get_within, none-some}
 use Rattle.sedre.specs.Tree.{Tree, empty, set, begin, end, seq, alt, group, star, opt}
 use Rattle.sedtext.specs.Spans.{CopiesLead, no_copy, one_more, Matches, IsLeftmostLongest, NotFound, SomeFound}
 use Rattle.sedtext.specs.Caps.{Captures, LastCut, LastCopy, only, then}
-use Rattle.sedtext.specs.Groups.{Groups, forget, no_groups}
+use Rattle.sedtext.specs.Groups.{SpansOfGroups, forget, no_groups}
 use Rattle.sedtext.specs.Reach.{IsLongestFrom}
 use Rattle.sedtext.specs.Matching.{any, greatest, copies, byte_is_in, spans, longest, found_from, leftmost_longest, greatest_cut, first_copy, last_start, groups_after, reported_groups}
 use Rattle.sedtext.specs.MatchingLaws.{SpansLaw, FoundLaw, NotFoundLaw, SomeFoundLaw, OneCapsLaw, CapsLaw, ReportLaw}
@@ -303,8 +303,8 @@ pub one_caps : OneCapsLaw
 one_caps = Captures-unique
 
 pub same_test : (t : Bool) (e : Tree) (w : List ℕ) (p : ℕ) → p ≤ length w → (IsTrue t ↔ SomeFound e w p) → t ≡ is_some (leftmost_longest e w p)
-same_test t e w p fits tells =
-    same_from_decides t (is_some (leftmost_longest e w p)) tells (some_found-iff e w p fits)
+same_test t e w p fits shows =
+    same_from_decides t (is_some (leftmost_longest e w p)) shows (some_found-iff e w p fits)
 
 cut-of : (a b : ℕ → ℕ → Bool) (A B : ℕ → ℕ → Type 0) → ((i k : ℕ) → IsTrue (a i k) ↔ A i k) → ((i k : ℕ) → IsTrue (b i k) ↔ B i k) →
     (i j m : ℕ) → ((k : ℕ) → B k j → k ≤ j) → A i m → B m j →
@@ -325,7 +325,7 @@ cut-is a b w i j m l r =
     (greatest (λ k. spans a w i k && spans b w k j) (j + 1)) (greatest-is (λ k. spans a w i k && spans b w k j) (j + 1))
 
 -- what holds of both ends of a choice holds of it
-choose : (P : Groups → Type 0) (b : Bool) (x y : Groups) → (b ≡ true → P x) → (b ≡ false → P y) → P (cond b x y)
+choose : (P : SpansOfGroups → Type 0) (b : Bool) (x y : SpansOfGroups) → (b ≡ true → P x) → (b ≡ false → P y) → P (cond b x y)
 choose P true x y holds fails = holds refl
 choose P false x y holds fails = fails refl
 
@@ -334,10 +334,10 @@ LastCopy-copy R j i c (only _ lt r) = r
 LastCopy-copy R j i c (then _ k _ up low r rest most last) = LastCopy-copy R j k c last
 
 -- a copy of the null string, or none
-abbrev NullCopy : Tree → Bool → List ℕ → ℕ → ℕ → Groups → Groups → Type 0
+abbrev NullCopy : Tree → Bool → List ℕ → ℕ → ℕ → SpansOfGroups → SpansOfGroups → Type 0
 NullCopy a first w i j old new = ((i ≡ j) × IsTrue first × Matches a w i i × Captures a w i i (forget a old) new) ⊎ ((i ≡ j) × ((IsTrue first → Matches a w i i → ⊥) × (new ≡ old)))
 
-null_copy : (a : Tree) (first : Bool) (w : List ℕ) (i j : ℕ) (old : Groups) → i ≤ j → ltb i j ≡ false → (Matches a w i i → Captures a w i i (forget a old) (groups_after a w i i (forget a old))) →
+null_copy : (a : Tree) (first : Bool) (w : List ℕ) (i j : ℕ) (old : SpansOfGroups) → i ≤ j → ltb i j ≡ false → (Matches a w i i → Captures a w i i (forget a old) (groups_after a w i i (forget a old))) →
     NullCopy a first w i j old (cond (first && spans a w i i) (groups_after a w i i (forget a old)) old)
 null_copy a first w i j old on fails inner =
     let same : i ≡ j = ⊎_elim (λ (lt : i < j). absurd (true≢false (sym (lt-ltb i j lt) ∙ fails))) (λ (ge : j ≤ i). omega arith) (cases_lt i j) in
@@ -348,7 +348,7 @@ null_copy a first w i j old on fails inner =
     inl (same, parts.0, here, inner here))
     (λ neither. inr (same, ((λ is_first here. true≢false (sym (and_from first (spans a w i i) is_first ((spans-iff a w i i).1 here)) ∙ neither)), refl)))
 
-pub groups_after-is : (e : Tree) (w : List ℕ) (i j : ℕ) (old : Groups) → Matches e w i j → Captures e w i j old (groups_after e w i j old)
+pub groups_after-is : (e : Tree) (w : List ℕ) (i j : ℕ) (old : SpansOfGroups) → Matches e w i j → Captures e w i j old (groups_after e w i j old)
 unfolding groups_after
 groups_after-is (seq a b) w i j old s =
     let k = greatest_cut (spans a w) (spans b w) i j in
@@ -388,5 +388,5 @@ pub report-iff : ReportLaw
 unfolding reported_groups
 report-iff e w i j groups s = (
   λ h. (groups_after e w i j no_groups, groups_after-is e w i j no_groups s, h),
-  λ h. h.2 ∙ ap (λ (g : Groups). slice_set g 0 (Some (i, j))) (Captures-unique e w i j no_groups h.0 (groups_after e w i j no_groups) h.1 (groups_after-is e w i j no_groups s)),
+  λ h. h.2 ∙ ap (λ (g : SpansOfGroups). slice_set g 0 (Some (i, j))) (Captures-unique e w i j no_groups h.0 (groups_after e w i j no_groups) h.1 (groups_after-is e w i j no_groups s)),
 )

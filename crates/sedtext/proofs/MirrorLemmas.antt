@@ -6,7 +6,7 @@ use Rattle.std.proofs.lemmas.List.{length-reverse, reverse-reverse, get_or-rever
 use Rattle.sedre.specs.Tree.{Tree, empty, set, begin, end, seq, alt, group, star, opt, WrittenExpression, tree_at}
 use Rattle.sedre.specs.Mirror.{mirror, seen}
 use Rattle.sedre.proofs.MirrorLemmas.{mirror-mirror, tree_at-mirror}
-use Rattle.sedtext.specs.Reach.{At}
+use Rattle.sedtext.specs.Reach.{HasSpan}
 use Rattle.sedtext.specs.Spans.{CopiesLead, no_copy, one_more, Matches}
 use Rattle.sedtext.proofs.SpanLemmas.{Matches-within, CopiesLead-append}
 
@@ -61,9 +61,9 @@ Matches-unmirror e w i j a b left right s =
     subst (λ t. Matches t w i j) (mirror-mirror e) (subst (λ v. Matches (mirror (mirror e)) v i j) (reverse-reverse w) back)
 
 -- the same at the nodes of an expression
-pub At-mirror : (e nodes : WrittenExpression) (w bytes : List ℕ) (x i j a b : ℕ) → nodes ≡ seen true e → bytes ≡ reverse w → i + a ≡ length w → j + b ≡ length w →
-    At e.nodes w x i j ↔ At nodes.nodes bytes x b a
-At-mirror e nodes w bytes x i j a b is_nodes is_bytes left right =
+pub HasSpan-mirror : (e nodes : WrittenExpression) (w bytes : List ℕ) (x i j a b : ℕ) → nodes ≡ seen true e → bytes ≡ reverse w → i + a ≡ length w → j + b ≡ length w →
+    HasSpan e.nodes w x i j ↔ HasSpan nodes.nodes bytes x b a
+HasSpan-mirror e nodes w bytes x i j a b is_nodes is_bytes left right =
     let T : Tree = tree_at e.nodes x in
     let root : tree_at nodes.nodes x ≡ mirror T = ap (λ (v : WrittenExpression). tree_at v.nodes x) is_nodes ∙ tree_at-mirror e.nodes x in (
       λ s. subst (λ t. Matches t bytes b a) (sym root) (subst (λ v. Matches (mirror T) v b a) (sym is_bytes) (Matches-mirror T w i j a b left right s)),

@@ -6,16 +6,16 @@ use Rattle.std.proofs.lemmas.List.{get_or-set_same, get_or-set_other, set_past}
 use Rattle.sedre.specs.Tree.{Tree, seq, alt, group, star, opt}
 use Rattle.sedtext.specs.Spans.{Matches}
 use Rattle.sedtext.specs.Caps.{Captures, IsReport}
-use Rattle.sedtext.specs.Groups.{Groups, forget, no_groups, span_of}
+use Rattle.sedtext.specs.Groups.{SpansOfGroups, forget, no_groups, span_of}
 use Rattle.sedtext.specs.Answer.{SpanIn}
 use Rattle.sedtext.proofs.MatchingLemmas.{LastCopy-copy}
 use Rattle.sedtext.proofs.SpanLemmas.{Matches-forward}
 
 -- all spans lie in a text of n bytes
-abbrev pub Lie : ℕ → Groups → Type 0
+abbrev pub Lie : ℕ → SpansOfGroups → Type 0
 Lie n g = (k : ℕ) → SpanIn n (span_of g k)
 
-Lie-set : (n : ℕ) (g : Groups) (k : ℕ) (v : Option (ℕ × ℕ)) → SpanIn n v → Lie n g → Lie n (slice_set g k v)
+Lie-set : (n : ℕ) (g : SpansOfGroups) (k : ℕ) (v : Option (ℕ × ℕ)) → SpanIn n v → Lie n g → Lie n (slice_set g k v)
 Lie-set n g k v within old c =
     ⊎_elim
     (λ (e : c ≡ k). ⊎_elim
@@ -25,7 +25,7 @@ Lie-set n g k v within old c =
     (λ (ne : c ≡ k → ⊥). subst (SpanIn n) (sym (get_or-set_other g k c v None ne)) (old c))
     (cases_eq c k)
 
-Lie-forget : (n : ℕ) (e : Tree) (g : Groups) → Lie n g → Lie n (forget e g)
+Lie-forget : (n : ℕ) (e : Tree) (g : SpansOfGroups) → Lie n g → Lie n (forget e g)
 Lie-forget n (seq a b) g old = Lie-forget n b (forget a g) (Lie-forget n a g old)
 Lie-forget n (alt a b) g old = Lie-forget n b (forget a g) (Lie-forget n a g old)
 Lie-forget n (group k a) g old = Lie-forget n a (slice_set g k None) (Lie-set n g k None tt old)
@@ -33,7 +33,7 @@ Lie-forget n (star a first) g old = Lie-forget n a g old
 Lie-forget n (opt a first) g old = Lie-forget n a g old
 Lie-forget n _ g old = old
 
-pub Captures-lie : (n : ℕ) (e : Tree) (w : List ℕ) (i j : ℕ) (old new : Groups) → i ≤ j → j ≤ n → Captures e w i j old new → Lie n old → Lie n new
+pub Captures-lie : (n : ℕ) (e : Tree) (w : List ℕ) (i j : ℕ) (old new : SpansOfGroups) → i ≤ j → j ≤ n → Captures e w i j old new → Lie n old → Lie n new
 Captures-lie n (seq a b) w i j old new up high h lie =
     let left = Matches-forward a w i h.0 h.1.left in
     let right = Matches-forward b w h.0 j h.1.right in
@@ -62,7 +62,7 @@ replicate_none zero k = refl
 replicate_none (suc m) zero = refl
 replicate_none (suc m) (suc k) = replicate_none m k
 
-pub report_lies : (n : ℕ) (e : Tree) (w : List ℕ) (i j : ℕ) (groups : Groups) → i ≤ j → j ≤ n → IsReport e w i j groups → Lie n groups
+pub report_lies : (n : ℕ) (e : Tree) (w : List ℕ) (i j : ℕ) (groups : SpansOfGroups) → i ≤ j → j ≤ n → IsReport e w i j groups → Lie n groups
 report_lies n e w i j groups up high h =
     subst (Lie n) (sym h.2) (Lie-set n h.0 0 (Some (i, j)) (up, high)
     (Captures-lie n e w i j no_groups h.0 up high h.1 (λ k. subst (SpanIn n) (sym (replicate_none 10 k)) tt)))

@@ -8,7 +8,7 @@ use Rattle.sedre.specs.declared.types.Node.{Node}
 use Rattle.sedre.specs.declared.types.Node.TheVariants.{Seq, Alt, Group, Star, Opt}
 use Rattle.sedre.proofs.TreeLemmas.{tree_at-node}
 use Rattle.sedtext.specs.declared.starts.Starts.{Starts}
-use Rattle.sedtext.specs.Reach.{BeginsWith, At, IsStart, Enters, at_root, with_whole, after_left, again}
+use Rattle.sedtext.specs.Reach.{BeginsWith, HasSpan, IsStart, Enters, at_root, with_whole, after_left, again}
 use Rattle.sedtext.specs.Nodes.{IsRepetitionOf}
 use Rattle.sedtext.specs.Matching.{byte_is_in}
 use Rattle.sedtext.proofs.SpanLemmas.{Matches-forward}
@@ -17,26 +17,26 @@ use Rattle.sedtext.proofs.SpanLemmas.{Matches-forward}
 abbrev pub NodeSpans : List Node → List ℕ → Node → ℕ → ℕ → Type 0
 NodeSpans nodes w node i j = Matches (tree_of (tree_at nodes) node) w i j
 
-pub open_at : (nodes : List Node) (w : List ℕ) (x : ℕ) (node : Node) → IsArena nodes → slice_get nodes x ≡ Some node → (i j : ℕ) → At nodes w x i j → NodeSpans nodes w node i j
+pub open_at : (nodes : List Node) (w : List ℕ) (x : ℕ) (node : Node) → IsArena nodes → slice_get nodes x ≡ Some node → (i j : ℕ) → HasSpan nodes w x i j → NodeSpans nodes w node i j
 open_at nodes w x node arena is i j at = subst (λ t. Matches t w i j) (tree_at-node nodes x node arena is) at
 
-pub close_at : (nodes : List Node) (w : List ℕ) (x : ℕ) (node : Node) → IsArena nodes → slice_get nodes x ≡ Some node → (i j : ℕ) → NodeSpans nodes w node i j → At nodes w x i j
+pub close_at : (nodes : List Node) (w : List ℕ) (x : ℕ) (node : Node) → IsArena nodes → slice_get nodes x ≡ Some node → (i j : ℕ) → NodeSpans nodes w node i j → HasSpan nodes w x i j
 close_at nodes w x node arena is i j at = subst (λ t. Matches t w i j) (sym (tree_at-node nodes x node arena is)) at
 
 -- a repetition matches copies of its part
-pub star_copies : (nodes : List Node) (w : List ℕ) (star part i j : ℕ) → IsArena nodes → IsRepetitionOf nodes star part → At nodes w star i j ↔ CopiesLead (At nodes w part) j i
+pub star_copies : (nodes : List Node) (w : List ℕ) (star part i j : ℕ) → IsArena nodes → IsRepetitionOf nodes star part → HasSpan nodes w star i j ↔ CopiesLead (HasSpan nodes w part) j i
 star_copies nodes w star part i j arena repeats = (
-  λ at. subst (λ p. CopiesLead (At nodes w p) j i) repeats.3 (open_at nodes w star (Star repeats.0 repeats.1) arena repeats.2 i j at),
-  λ copies. close_at nodes w star (Star repeats.0 repeats.1) arena repeats.2 i j (subst (λ p. CopiesLead (At nodes w p) j i) (sym repeats.3) copies),
+  λ at. subst (λ p. CopiesLead (HasSpan nodes w p) j i) repeats.3 (open_at nodes w star (Star repeats.0 repeats.1) arena repeats.2 i j at),
+  λ copies. close_at nodes w star (Star repeats.0 repeats.1) arena repeats.2 i j (subst (λ p. CopiesLead (HasSpan nodes w p) j i) (sym repeats.3) copies),
 )
 
 -- how the part c of the node at y is entered at j
 abbrev pub FromNode : List Node → List ℕ → ℕ → Starts → ℕ → ℕ → ℕ → Node → Type 0
 FromNode nodes w r p y c j (Seq a b) =
-    ((a.index ≡ c) × Enters nodes w r p y j) ⊎ ((b.index ≡ c) × ((i : ℕ) × Enters nodes w r p y i × At nodes w a.index i j))
+    ((a.index ≡ c) × Enters nodes w r p y j) ⊎ ((b.index ≡ c) × ((i : ℕ) × Enters nodes w r p y i × HasSpan nodes w a.index i j))
 FromNode nodes w r p y c j (Alt a b) = Enters nodes w r p y j
 FromNode nodes w r p y c j (Group k a) = Enters nodes w r p y j
-FromNode nodes w r p y c j (Star a first) = (i : ℕ) × Enters nodes w r p y i × At nodes w y i j
+FromNode nodes w r p y c j (Star a first) = (i : ℕ) × Enters nodes w r p y i × HasSpan nodes w y i j
 FromNode nodes w r p y c j (Opt a first) = Enters nodes w r p y j
 FromNode nodes w r p y c j _ = ⊥
 

@@ -1,5 +1,5 @@
 -- Literals that the spans of an expression hold.
-use Rattle.std.proofs.Common.{◌≡◌, ◌<◌, Bool, [], ◌∷◌, ◌++◌, refl, length-append, ℕ, ◌+◌, ◌-◌, ◌≤◌, ◌⊎◌, List, length, take, drop, Option, Some, None, IsTrue, sym, ap, ◌∙◌, subst, ⊎_elim, arith}
+use Rattle.std.proofs.Common.{◌≡◌, ◌<◌, Bool, true, false, true≢false, [], ◌∷◌, ◌++◌, refl, length-append, ℕ, ◌+◌, ◌-◌, ◌≤◌, ◌⊎◌, List, length, take, drop, Option, Some, None, IsTrue, sym, ap, ◌∙◌, subst, ⊎_elim, arith}
 use Rattle.std.specs.Prelude.{◌==◌, IfSome, slice_index}
 use Rattle.std.proofs.lemmas.Bool.{cases_lt}
 use Rattle.std.proofs.lemmas.List.{get_or_append_left, get_or_push}
@@ -11,10 +11,10 @@ use Rattle.sedre.specs.Sets.{has, only}
 use Rattle.sedre.specs.WordLaws.{has-set_of}
 use Rattle.sedtext.proofs.MatchingLemmas.{equal-iff}
 use Rattle.sedtext.specs.Spans.{IsIn, NotFound}
-use Rattle.sedtext.specs.Reach.{At}
+use Rattle.sedtext.specs.Reach.{HasSpan}
 use Rattle.sedtext.specs.Forms.{HasForm}
 use Rattle.sedtext.specs.declared.forms.Form.TheVariants.{Both}
-use Rattle.sedtext.specs.Required.{BeginsAs, IsLiteral, GoesOnAs, AllHold, AllEndWith, IsRequired, FirstLiteral, Narrowed}
+use Rattle.sedtext.specs.Required.{BeginsAs, IsLiteral, GoesOnAs, AllHold, AllEndWith, IsRequired, Requires, FirstLiteral, Narrowed}
 use Rattle.sedtext.specs.Prefix.{LinksTo}
 use Rattle.sedtext.specs.declared.prefix.Link.TheVariants.{OneOf}
 use Rattle.sedtext.specs.declared.required.RequiredLiteral.{RequiredLiteral}
@@ -79,7 +79,7 @@ module _ (nodes : List Node) (x : ℕ) where
   ends_behind y r z l rest ends literal second w i j within at =
       let f = ends w i j within at in
       let h = (literal w f.0 j f.2).0 f.3 in
-      let there : At nodes w r (f.0 + length l.bytes.items) j = subst (GoesOnAs nodes w (f.0 + length l.bytes.items) j) rest h.1 in
+      let there : HasSpan nodes w r (f.0 + length l.bytes.items) j = subst (GoesOnAs nodes w (f.0 + length l.bytes.items) j) rest h.1 in
       let g = second w (f.0 + length l.bytes.items) j h.0.fits there in
       (g.0, omega (arith, f.1, g.1), g.2, g.3)
 
@@ -124,3 +124,13 @@ module _ (e : Tree) (w : List ℕ) (p : ℕ) (n : RequiredLiteral) (holds : IsRe
             let h = holds w i k (omega arith) s in
             first.2 i low lt (subst (OccursAt w n.finder) (h.2 is_prefix) h.3),
       )
+
+-- a literal with which all spans of the root begin is a prefix that each match has
+pub prefix_required : (nodes : List Node) (root last : ℕ) (l : Literal) → last ≡ root → IsLiteral nodes root l → Requires (tree_at nodes last) l.bytes.items true
+prefix_required nodes root last l same is =
+    subst (λ (n : ℕ). Requires (tree_at nodes n) l.bytes.items true) (sym same) (λ w i j within at. (i, omega arith, (λ _. refl), ((is w i j within).0 at).0))
+
+-- and one that all its spans contain occurs in each match, or behind its beginning
+pub part_required : (nodes : List Node) (root last : ℕ) (literal : List ℕ) → last ≡ root → AllHold nodes root literal → Requires (tree_at nodes last) literal false
+part_required nodes root last literal same hold =
+    subst (λ (n : ℕ). Requires (tree_at nodes n) literal false) (sym same) (λ w i j within at. let f = hold w i j within at in (f.0, f.1, (λ no. absurd (true≢false (sym no))), f.2))

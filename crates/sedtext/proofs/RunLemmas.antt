@@ -6,11 +6,11 @@ use Rattle.std.proofs.lemmas.Option.{slice_get_within}
 use Rattle.sedre.specs.Tree.{set}
 use Rattle.sedre.specs.declared.types.Node.{Node}
 use Rattle.sedtext.specs.Spans.{Matches, CopiesLead, no_copy, one_more}
-use Rattle.sedtext.specs.Reach.{At}
+use Rattle.sedtext.specs.Reach.{HasSpan}
 use Rattle.sedtext.specs.Bytes.{MemberAt}
 use Rattle.sedtext.specs.Forms.{HasForm, IsOfSet}
 use Rattle.sedtext.specs.declared.forms.Form.TheVariants.{Copies}
-use Rattle.sedtext.specs.Runs.{Repeated, AllRepeat, IsRun}
+use Rattle.sedtext.specs.Runs.{SetRepeats, AllRepeat, IsRun}
 use Rattle.sedtext.proofs.SpanLemmas.{CopiesLead-forward, CopiesLead-append}
 
 -- copies end in the run
@@ -24,7 +24,7 @@ in_run members w k j i low stop (one_more _ l lt r rest) =
 
 -- one more byte of the run
 pub longer_run : (members : List Bool) (w : List ℕ) (i place byte : ℕ) (has : Bool) →
-    slice_get w place ≡ Some byte → has ≡ slice_index_or members byte false → IsTrue has → Repeated members w i place → Repeated members w i (place + 1)
+    slice_get w place ≡ Some byte → has ≡ slice_index_or members byte false → IsTrue has → SetRepeats members w i place → SetRepeats members w i (place + 1)
 longer_run members w i place byte has is value holds copies =
     CopiesLead-append (Matches (set members) w) place i (place + 1) copies (omega arith) (byte, is, sym value ∙ holds, refl)
 
@@ -38,7 +38,7 @@ run_forward members w i k run = CopiesLead-forward (Matches (set members) w) k i
 
 -- the longest of the copies is the run
 pub run_longest : (members : List Bool) (w : List ℕ) (i k : ℕ) → IsRun members w i k →
-    (k ≤ length w) × Repeated members w i k × ((j : ℕ) → Repeated members w i j → j ≤ k)
+    (k ≤ length w) × SetRepeats members w i k × ((j : ℕ) → SetRepeats members w i j → j ≤ k)
 run_longest members w i k run = (run.0, run.1, λ j copies. in_run members w k j i (run_forward members w i k run) run.2 copies)
 
 -- copies of relations of which one has what the other has
@@ -49,6 +49,6 @@ copies_alike R S each j i (one_more _ k lt r rest) = one_more i k lt (each i k r
 -- a repetition of a set
 pub star_repeats : (nodes : List Node) (x y : ℕ) (members : List Bool) → HasForm nodes x (Copies y) → IsOfSet nodes y members → AllRepeat nodes x members
 star_repeats nodes x y members star inner w i j = (
-  λ at. copies_alike (At nodes w y) (Matches (set members) w) (λ p q at. let f = (inner w p q).0 at in (f.0.0, f.0.1, f.0.2, f.1)) j i ((star.1 w i j).0 at),
-  λ copies. (star.1 w i j).1 (copies_alike (Matches (set members) w) (At nodes w y) (λ p q r. (inner w p q).1 ((r.0, r.1, r.2), r.3)) j i copies),
+  λ at. copies_alike (HasSpan nodes w y) (Matches (set members) w) (λ p q at. let f = (inner w p q).0 at in (f.0.0, f.0.1, f.0.2, f.1)) j i ((star.1 w i j).0 at),
+  λ copies. (star.1 w i j).1 (copies_alike (Matches (set members) w) (HasSpan nodes w y) (λ p q r. (inner w p q).1 ((r.0, r.1, r.2), r.3)) j i copies),
 )

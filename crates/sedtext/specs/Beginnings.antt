@@ -8,7 +8,7 @@ use Rattle.sedtext.specs.Bytes.{MemberAt}
 use Rattle.sedtext.specs.Sieve.{PassesSieve}
 use Rattle.sedtext.specs.declared.beginnings.Begins.{Begins}
 use Rattle.sedtext.specs.declared.beginnings.Begins.TheVariants.{Anyhow, AtStart, WithByte, WithSet, Before}
-use Rattle.sedtext.specs.Reach.{At}
+use Rattle.sedtext.specs.Reach.{HasSpan}
 
 -- a span that begins so can begin at the place
 abbrev pub CanBegin : Begins → List ℕ → ℕ → Type 0
@@ -34,7 +34,7 @@ skip_cost n (Some start) = start + 1
 
 -- each span of the node x begins with a span of the node y
 abbrev pub LeadsWith : List Node → ℕ → ℕ → Type 0
-LeadsWith nodes x y = (w : List ℕ) (i j : ℕ) → At nodes w x i j → (k : ℕ) × At nodes w y i k
+LeadsWith nodes x y = (w : List ℕ) (i j : ℕ) → HasSpan nodes w x i j → (k : ℕ) × HasSpan nodes w y i k
 
 -- no place from p up to but not including q begins a match
 abbrev pub NoneIn : Tree → List ℕ → ℕ → ℕ → Type 0

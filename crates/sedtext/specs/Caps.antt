@@ -4,7 +4,7 @@
 use Rattle.std.specs.Prelude.{◌≡◌, ℕ, ◌<◌, ◌≤◌, ◌⊎◌, List, slice_set, Some, IsTrue}
 use Rattle.sedre.specs.Tree.{Tree, seq, alt, group, star, opt}
 use Rattle.sedtext.specs.Spans.{CopiesLead, Matches}
-use Rattle.sedtext.specs.Groups.{Groups, forget, no_groups}
+use Rattle.sedtext.specs.Groups.{SpansOfGroups, forget, no_groups}
 
 -- k is the greatest place up to which A leads from i, and from which B leads to j
 pub record LastCut (A B : ℕ → ℕ → Type 0) (i j k : ℕ) : Type 0 where
@@ -19,13 +19,13 @@ pub data LastCopy (R : ℕ → ℕ → Type 0) (j : ℕ) : ℕ → ℕ → Type 
   then : (i k c : ℕ) → i < k → k < j → R i k → CopiesLead R j k → ((l : ℕ) → i < l → R i l → CopiesLead R j l → l ≤ k) → LastCopy R j k c → LastCopy R j i c
 
 -- the expression matches i..j, and takes the groups from old to new
-abbrev pub Captures : Tree → List ℕ → ℕ → ℕ → Groups → Groups → Type 0
+abbrev pub Captures : Tree → List ℕ → ℕ → ℕ → SpansOfGroups → SpansOfGroups → Type 0
 Captures (seq a b) w i j old new =
-    (k : ℕ) × LastCut (Matches a w) (Matches b w) i j k × ((mid : Groups) × Captures a w i k old mid × Captures b w k j mid new)
+    (k : ℕ) × LastCut (Matches a w) (Matches b w) i j k × ((mid : SpansOfGroups) × Captures a w i k old mid × Captures b w k j mid new)
 Captures (alt a b) w i j old new =
     (Matches a w i j × Captures a w i j old new) ⊎ ((Matches a w i j → ⊥) × Captures b w i j old new)
 Captures (group k a) w i j old new =
-    (inner : Groups) × Captures a w i j (forget (group k a) old) inner × (new ≡ slice_set inner k (Some (i, j)))
+    (inner : SpansOfGroups) × Captures a w i j (forget (group k a) old) inner × (new ≡ slice_set inner k (Some (i, j)))
 Captures (star a first) w i j old new =
     ((i < j) × ((c : ℕ) × LastCopy (Matches a w) j i c × Captures a w c j (forget a old) new))
     ⊎ (((i ≡ j) × IsTrue first × Matches a w i i × Captures a w i i (forget a old) new)
@@ -37,5 +37,5 @@ Captures (opt a first) w i j old new =
 Captures other w i j old new = new ≡ old
 
 -- the groups of a match of i..j as they are reported: entry 0 is the whole match
-abbrev pub IsReport : Tree → List ℕ → ℕ → ℕ → Groups → Type 0
-IsReport e w i j groups = (inner : Groups) × Captures e w i j no_groups inner × (groups ≡ slice_set inner 0 (Some (i, j)))
+abbrev pub IsReport : Tree → List ℕ → ℕ → ℕ → SpansOfGroups → Type 0
+IsReport e w i j groups = (inner : SpansOfGroups) × Captures e w i j no_groups inner × (groups ≡ slice_set inner 0 (Some (i, j)))

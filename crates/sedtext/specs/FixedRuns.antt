@@ -2,17 +2,17 @@
 -- A set repeated a fixed number of times: bytes of it one after another, always as many.
 use Rattle.std.specs.Prelude.{◌≡◌, ℕ, ◌+◌, ◌<◌, ◌≤◌, ◌↔◌, Bool, List, length, slice_index, Option, Some, None}
 use Rattle.sedre.specs.declared.types.Node.{Node}
-use Rattle.sedtext.specs.Reach.{At}
+use Rattle.sedtext.specs.Reach.{HasSpan}
 use Rattle.sedtext.specs.Bytes.{AreBytes}
-use Rattle.sedtext.specs.Runs.{Repeated}
+use Rattle.sedtext.specs.Runs.{SetRepeats}
 
 -- `count` bytes of the set lead from i to j
 abbrev pub IsFixedRun : List Bool → ℕ → List ℕ → ℕ → ℕ → Type 0
-IsFixedRun members count w i j = Repeated members w i j × (j ≡ i + count)
+IsFixedRun members count w i j = SetRepeats members w i j × (j ≡ i + count)
 
 -- in a text of bytes the spans of the node x are those of `count` bytes of the set
 abbrev pub AllFixedRuns : List Node → ℕ → List Bool → ℕ → Type 0
-AllFixedRuns nodes x members count = (w : List ℕ) → AreBytes w → (i j : ℕ) → At nodes w x i j ↔ IsFixedRun members count w i j
+AllFixedRuns nodes x members count = (w : List ℕ) → AreBytes w → (i j : ℕ) → HasSpan nodes w x i j ↔ IsFixedRun members count w i j
 
 -- the spans of each node that has a width are those of as many bytes of the set
 abbrev pub AreWidths : List Node → List Bool → List ℕ → Type 0
@@ -25,5 +25,5 @@ passed_run n count (Some k) = k + count
 
 -- the first place from p on from which `count` bytes are in the set, if there is one
 abbrev pub FirstFixedRun : List Bool → ℕ → List ℕ → ℕ → Option ℕ → Type 0
-FirstFixedRun members count w p None = (k : ℕ) → p ≤ k → k ≤ length w → Repeated members w k (k + count) → ⊥
-FirstFixedRun members count w p (Some k) = (p ≤ k) × (k + count ≤ length w) × Repeated members w k (k + count) × ((h : ℕ) → p ≤ h → h < k → Repeated members w h (h + count) → ⊥)
+FirstFixedRun members count w p None = (k : ℕ) → p ≤ k → k ≤ length w → SetRepeats members w k (k + count) → ⊥
+FirstFixedRun members count w p (Some k) = (p ≤ k) × (k + count ≤ length w) × SetRepeats members w k (k + count) × ((h : ℕ) → p ≤ h → h < k → SetRepeats members w h (h + count) → ⊥)

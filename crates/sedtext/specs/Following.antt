@@ -25,8 +25,8 @@ abbrev pub LiesOn : ℕ → Option ℕ → ℕ × ℕ → Type 0
 LiesOn n last f = (f.0 ≤ f.1) × (f.1 ≤ n) × LiesAfter last (Some f)
 
 -- the span is one that the expression matches, and lies in the text, after the last occurrence
-abbrev pub Occurs : Tree → List ℕ → Option ℕ → ℕ × ℕ → Type 0
-Occurs e w last f = Matches e w f.0 f.1 × LiesOn (length w) last f
+abbrev pub OccursAfter : Tree → List ℕ → Option ℕ → ℕ × ℕ → Type 0
+OccursAfter e w last f = Matches e w f.0 f.1 × LiesOn (length w) last f
 
 -- the expression has a match that ends before the text does: so the search for one goes over the text from its beginning
 abbrev pub CanEndEarly : Tree → Type 0

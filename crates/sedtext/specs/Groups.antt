@@ -3,11 +3,11 @@ use Rattle.std.specs.Prelude.{ℕ, List, Option, slice_set, None, replicate, sli
 use Rattle.sedre.specs.Tree.{Tree, seq, alt, group, star, opt}
 
 -- entry k is the span of group k; a group without an entry of its own is not kept
-abbrev pub Groups : Type 0
-Groups = List (Option (ℕ × ℕ))
+abbrev pub SpansOfGroups : Type 0
+SpansOfGroups = List (Option (ℕ × ℕ))
 
 -- the groups inside the expression have no span
-abbrev pub forget : Tree → Groups → Groups
+abbrev pub forget : Tree → SpansOfGroups → SpansOfGroups
 forget (seq a b) g = forget b (forget a g)
 forget (alt a b) g = forget b (forget a g)
 forget (group k a) g = forget a (slice_set g k None)
@@ -16,11 +16,11 @@ forget (opt a first) g = forget a g
 forget other g = g
 
 -- before a match no group has a span
-abbrev pub no_groups : Groups
+abbrev pub no_groups : SpansOfGroups
 no_groups = replicate 10 None
 
 -- the span of group k, if it has one
-abbrev pub span_of : Groups → ℕ → Option (ℕ × ℕ)
+abbrev pub span_of : SpansOfGroups → ℕ → Option (ℕ × ℕ)
 span_of groups k = slice_index_or groups k None
 
 -- the bytes of the span, none where there is no span

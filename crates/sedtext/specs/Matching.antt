@@ -1,7 +1,7 @@
 -- What is matched, computed by trying all places. That it is what the relations determine, MatchingLaws says.
 use Rattle.std.specs.Prelude.{ℕ, zero, suc, ◌+◌, ◌-◌, Bool, false, ◌&&◌, ◌||◌, cond, eqb, ltb, List, length, slice_get, slice_index_or, slice_set, Option, Some, None, unwrap_or, option_map, nat_eq, nat_lt, if◌then◌else◌}
 use Rattle.sedre.specs.Tree.{Tree, empty, set, begin, end, seq, alt, group, star, opt}
-use Rattle.sedtext.specs.Groups.{Groups, forget, no_groups}
+use Rattle.sedtext.specs.Groups.{SpansOfGroups, forget, no_groups}
 
 -- some number below n passes the test
 unfoldable pub any : (ℕ → Bool) → ℕ → Bool
@@ -63,7 +63,7 @@ last_start zero step i j = i
 last_start (suc n) step i j = cond (ltb (first_copy step i j) j) (last_start n step (first_copy step i j) j) i
 
 -- the groups after a match of i..j
-unfoldable pub groups_after : Tree → List ℕ → ℕ → ℕ → Groups → Groups
+unfoldable pub groups_after : Tree → List ℕ → ℕ → ℕ → SpansOfGroups → SpansOfGroups
 groups_after (seq a b) w i j old = groups_after b w (greatest_cut (spans a w) (spans b w) i j) j (groups_after a w i (greatest_cut (spans a w) (spans b w) i j) old)
 groups_after (alt a b) w i j old = cond (spans a w i j) (groups_after a w i j old) (groups_after b w i j old)
 groups_after (group k a) w i j old = slice_set (groups_after a w i j (forget (group k a) old)) k (Some (i, j))
@@ -76,7 +76,7 @@ groups_after (opt a first) w i j old =
 groups_after other w i j old = old
 
 -- the groups of a match of i..j as they are reported
-unfoldable pub reported_groups : Tree → List ℕ → ℕ → ℕ → Groups
+unfoldable pub reported_groups : Tree → List ℕ → ℕ → ℕ → SpansOfGroups
 reported_groups e w i j = slice_set (groups_after e w i j no_groups) 0 (Some (i, j))
 
 -- The match of the null string at a place is passed over for another one. `span` gives where a match begins and ends.

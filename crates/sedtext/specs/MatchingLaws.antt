@@ -3,7 +3,7 @@ use Rattle.std.specs.Prelude.{ℕ, List, IsTrue, ◌↔◌, ◌≡◌, ◌≤◌
 use Rattle.sedre.specs.Tree.{Tree}
 use Rattle.sedtext.specs.Spans.{Matches, IsLeftmostLongest, NotFound, SomeFound}
 use Rattle.sedtext.specs.Caps.{Captures, IsReport}
-use Rattle.sedtext.specs.Groups.{Groups}
+use Rattle.sedtext.specs.Groups.{SpansOfGroups}
 use Rattle.sedtext.specs.Matching.{groups_after, leftmost_longest, reported_groups, spans}
 
 -- the computed match is the one that the relations determine
@@ -21,10 +21,10 @@ SomeFoundLaw = (e : Tree) (w : List ℕ) (p : ℕ) → p ≤ length w → IsTrue
 
 -- a match has one report of its groups alone
 abbrev pub OneCapsLaw : Type 0
-OneCapsLaw = (e : Tree) (w : List ℕ) (i j : ℕ) (old new other : Groups) → Captures e w i j old new → Captures e w i j old other → new ≡ other
+OneCapsLaw = (e : Tree) (w : List ℕ) (i j : ℕ) (old new other : SpansOfGroups) → Captures e w i j old new → Captures e w i j old other → new ≡ other
 
 abbrev pub CapsLaw : Type 0
-CapsLaw = (e : Tree) (w : List ℕ) (i j : ℕ) (old new : Groups) → Matches e w i j → (new ≡ groups_after e w i j old) ↔ Captures e w i j old new
+CapsLaw = (e : Tree) (w : List ℕ) (i j : ℕ) (old new : SpansOfGroups) → Matches e w i j → (new ≡ groups_after e w i j old) ↔ Captures e w i j old new
 
 abbrev pub ReportLaw : Type 0
-ReportLaw = (e : Tree) (w : List ℕ) (i j : ℕ) (groups : Groups) → Matches e w i j → (groups ≡ reported_groups e w i j) ↔ IsReport e w i j groups
+ReportLaw = (e : Tree) (w : List ℕ) (i j : ℕ) (groups : SpansOfGroups) → Matches e w i j → (groups ≡ reported_groups e w i j) ↔ IsReport e w i j groups

@@ -4,7 +4,7 @@ use Rattle.std.specs.Prelude.{◌≡◌, ℕ, ◌+◌, ◌*◌, ◌<◌, ◌⊎�
 use Rattle.sedre.specs.Tree.{Tree}
 use Rattle.sedre.specs.declared.types.Node.{Node}
 use Rattle.sedtext.specs.Spans.{Matches}
-use Rattle.sedtext.specs.Reach.{At}
+use Rattle.sedtext.specs.Reach.{HasSpan}
 use Rattle.sedtext.specs.Bytes.{MemberAt}
 use Rattle.sedtext.specs.Beginnings.{LeadsWith}
 use Rattle.sedtext.specs.Required.{GoesOnAs}
@@ -15,20 +15,20 @@ use Rattle.sedtext.specs.declared.prefix.Reached.TheVariants.{OneOf as ByteOf, E
 
 -- the spans of the node x begin as the link says
 abbrev pub LinksTo : List Node → ℕ → Link → Type 0
-LinksTo nodes x (OneOf s rest) = IfSome rest (λ y. y < x) × ((w : List ℕ) (i j : ℕ) → At nodes w x i j ↔ (MemberAt s w i × GoesOnAs nodes w (i + 1) j rest))
-LinksTo nodes x (Inner y) = (y < x) × ((w : List ℕ) (i j : ℕ) → At nodes w x i j ↔ At nodes w y i j)
+LinksTo nodes x (OneOf s rest) = IfSome rest (λ y. y < x) × ((w : List ℕ) (i j : ℕ) → HasSpan nodes w x i j ↔ (MemberAt s w i × GoesOnAs nodes w (i + 1) j rest))
+LinksTo nodes x (Inner y) = (y < x) × ((w : List ℕ) (i j : ℕ) → HasSpan nodes w x i j ↔ HasSpan nodes w y i j)
 LinksTo nodes x (First y) = (y < x) × LeadsWith nodes x y
-LinksTo nodes x (Either y z) = (y < x) × (z < x) × ((w : List ℕ) (i j : ℕ) → At nodes w x i j ↔ (At nodes w y i j ⊎ At nodes w z i j))
+LinksTo nodes x (Either y z) = (y < x) × (z < x) × ((w : List ℕ) (i j : ℕ) → HasSpan nodes w x i j ↔ (HasSpan nodes w y i j ⊎ HasSpan nodes w z i j))
 LinksTo nodes x Other = Unit {0}
 
 -- a span of the node x begins `ahead` bytes before the place
-abbrev pub Ahead : List Node → List ℕ → ℕ → ℕ → ℕ → Type 0
-Ahead nodes w x ahead q = (p : ℕ) × (k : ℕ) × (p + ahead ≡ q) × At nodes w x p k
+abbrev pub BeginsAhead : List Node → List ℕ → ℕ → ℕ → ℕ → Type 0
+BeginsAhead nodes w x ahead q = (p : ℕ) × (k : ℕ) × (p + ahead ≡ q) × HasSpan nodes w x p k
 
 -- this is reached `offset` bytes after the beginning of each span of the node x, by nodes before it
 abbrev pub AllReach : List Node → ℕ → ℕ → Reached → Type 0
-AllReach nodes x offset (ByteOf s) = (w : List ℕ) (q : ℕ) → Ahead nodes w x offset q → MemberAt s w q
-AllReach nodes x offset (OneOfTwo y z ahead) = (y < x) × (z < x) × ((w : List ℕ) (q : ℕ) → Ahead nodes w x offset q → Ahead nodes w y ahead q ⊎ Ahead nodes w z ahead q)
+AllReach nodes x offset (ByteOf s) = (w : List ℕ) (q : ℕ) → BeginsAhead nodes w x offset q → MemberAt s w q
+AllReach nodes x offset (OneOfTwo y z ahead) = (y < x) × (z < x) × ((w : List ℕ) (q : ℕ) → BeginsAhead nodes w x offset q → BeginsAhead nodes w y ahead q ⊎ BeginsAhead nodes w z ahead q)
 AllReach nodes x offset Nothing = Unit {0}
 
 -- the looks that following the second node takes

@@ -15,8 +15,8 @@ BeginsWith (Seq a b) c = a.index ≡ c
 BeginsWith node c = IsPart node c
 
 -- the node x matches i..j
-abbrev pub At : List Node → List ℕ → ℕ → ℕ → ℕ → Type 0
-At nodes w x i j = Matches (tree_at nodes x) w i j
+abbrev pub HasSpan : List Node → List ℕ → ℕ → ℕ → ℕ → Type 0
+HasSpan nodes w x i j = Matches (tree_at nodes x) w i j
 
 -- the place is one of the starts
 abbrev pub IsStart : Starts → ℕ → Type 0
@@ -34,16 +34,16 @@ starts_to first last = record { first = first; last = last }
 pub data Enters (nodes : List Node) (w : List ℕ) (r : ℕ) (s : Starts) : ℕ → ℕ → Type 0 where
   at_root : (x i : ℕ) → x ≡ r → IsStart s i → Enters nodes w r s x i
   with_whole : (y c i : ℕ) (node : Node) → slice_get nodes y ≡ Some node → BeginsWith node c → Enters nodes w r s y i → Enters nodes w r s c i
-  after_left : (y c i j : ℕ) (a b : NodeId) → slice_get nodes y ≡ Some (Seq a b) → b.index ≡ c → Enters nodes w r s y i → At nodes w a.index i j → Enters nodes w r s c j
-  again : (y c i j : ℕ) (a : NodeId) (first : Bool) → slice_get nodes y ≡ Some (Star a first) → a.index ≡ c → Enters nodes w r s y i → At nodes w y i j → Enters nodes w r s c j
+  after_left : (y c i j : ℕ) (a b : NodeId) → slice_get nodes y ≡ Some (Seq a b) → b.index ≡ c → Enters nodes w r s y i → HasSpan nodes w a.index i j → Enters nodes w r s c j
+  again : (y c i j : ℕ) (a : NodeId) (first : Bool) → slice_get nodes y ≡ Some (Star a first) → a.index ≡ c → Enters nodes w r s y i → HasSpan nodes w y i j → Enters nodes w r s c j
 
 -- in a match from one of the starts, the node can end at j after at least one byte
-abbrev pub Ends : List Node → List ℕ → ℕ → Starts → ℕ → ℕ → Type 0
-Ends nodes w r s x j = (i : ℕ) × (i < j) × Enters nodes w r s x i × At nodes w x i j
+abbrev pub CanEnd : List Node → List ℕ → ℕ → Starts → ℕ → ℕ → Type 0
+CanEnd nodes w r s x j = (i : ℕ) × (i < j) × Enters nodes w r s x i × HasSpan nodes w x i j
 
 -- the node r matches from one of the starts to j
 abbrev pub SomeSpan : List Node → List ℕ → ℕ → Starts → ℕ → Type 0
-SomeSpan nodes w r s j = (i : ℕ) × IsStart s i × At nodes w r i j
+SomeSpan nodes w r s j = (i : ℕ) × IsStart s i × HasSpan nodes w r i j
 
 -- the marks show, of each place that S has, whether P is true of it
 abbrev pub Marked : List Bool → (ℕ → Type 0) → (ℕ → Type 0) → Type 0

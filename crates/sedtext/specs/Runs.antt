@@ -4,21 +4,21 @@ use Rattle.std.specs.Prelude.{◌<◌, ℕ, ◌≤◌, ◌↔◌, Bool, List, le
 use Rattle.sedre.specs.Tree.{set}
 use Rattle.sedre.specs.declared.types.Node.{Node}
 use Rattle.sedtext.specs.Spans.{Matches, CopiesLead}
-use Rattle.sedtext.specs.Reach.{At}
+use Rattle.sedtext.specs.Reach.{HasSpan}
 use Rattle.sedtext.specs.Bytes.{MemberAt}
 
 -- any number of bytes of the set lead from i to j
-abbrev pub Repeated : List Bool → List ℕ → ℕ → ℕ → Type 0
-Repeated members w i j = CopiesLead (Matches (set members) w) j i
+abbrev pub SetRepeats : List Bool → List ℕ → ℕ → ℕ → Type 0
+SetRepeats members w i j = CopiesLead (Matches (set members) w) j i
 
 -- the spans of the node x are those of a repetition of the set
 abbrev pub AllRepeat : List Node → ℕ → List Bool → Type 0
-AllRepeat nodes x members = (w : List ℕ) (i j : ℕ) → At nodes w x i j ↔ Repeated members w i j
+AllRepeat nodes x members = (w : List ℕ) (i j : ℕ) → HasSpan nodes w x i j ↔ SetRepeats members w i j
 
 -- the bytes from place i up to k are in the set, and no more that follow
 abbrev pub IsRun : List Bool → List ℕ → ℕ → ℕ → Type 0
-IsRun members w i k = (k ≤ length w) × Repeated members w i k × (MemberAt members w k → ⊥)
+IsRun members w i k = (k ≤ length w) × SetRepeats members w i k × (MemberAt members w k → ⊥)
 
 -- of the places from p on, i is the first from which all bytes up to but not including q are in the set
 abbrev pub RunBegins : List Bool → List ℕ → ℕ → ℕ → ℕ → Type 0
-RunBegins members w p q i = (p ≤ i) × (i ≤ q) × Repeated members w i q × ((h : ℕ) → p ≤ h → h < i → Repeated members w h q → ⊥)
+RunBegins members w p q i = (p ≤ i) × (i ≤ q) × SetRepeats members w i q × ((h : ℕ) → p ≤ h → h < i → SetRepeats members w h q → ⊥)

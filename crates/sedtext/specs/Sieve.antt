@@ -16,12 +16,12 @@ abbrev pub HasLanes : List ℕ → (ℕ → ℕ) → Type 0
 HasLanes v f = (length v ≡ 32) × ((k : ℕ) → k < 32 → slice_index v k ≡ f k)
 
 -- a byte of the set is at the distance after the place
-abbrev pub StandsAt : Fixed → List ℕ → ℕ → Type 0
-StandsAt f w i = (c : ℕ) × (slice_get w (i + f.offset) ≡ Some c) × IsMarked f.set.rows c
+abbrev pub FixedAt : Fixed → List ℕ → ℕ → Type 0
+FixedAt f w i = (c : ℕ) × (slice_get w (i + f.offset) ≡ Some c) × IsMarked f.set.rows c
 
 -- bytes of all three sets are at their distances after the place
 abbrev pub PassesSieve : Sieve → List ℕ → ℕ → Type 0
-PassesSieve s w i = StandsAt s.first w i × StandsAt s.second w i × StandsAt s.third w i
+PassesSieve s w i = FixedAt s.first w i × FixedAt s.second w i × FixedAt s.third w i
 
 -- of the 32 places from p on those of which P is true have their bit set
 abbrev pub MarksPlaces : (ℕ → Type 0) → ℕ → ℕ → Type 0
@@ -33,10 +33,10 @@ NoneBefore P p None = (i : ℕ) → p ≤ i → P i → ⊥
 NoneBefore P p (Some k) = (p ≤ k) × ((i : ℕ) → p ≤ i → i < k → P i → ⊥)
 
 -- a byte of the set is at the distance after the beginning of each span of the expression
-abbrev pub AllStand : Tree → Fixed → Type 0
-AllStand e f = (w : List ℕ) (i j : ℕ) → Matches e w i j → StandsAt f w i
+abbrev pub AllFixed : Tree → Fixed → Type 0
+AllFixed e f = (w : List ℕ) (i j : ℕ) → Matches e w i j → FixedAt f w i
 
 -- bytes of all three sets, if there are such, are at their distances after the beginning of each span
 abbrev pub AllPass : Tree → Option Sieve → Type 0
 AllPass e None = Unit {0}
-AllPass e (Some s) = AllStand e s.first × AllStand e s.second × AllStand e s.third
+AllPass e (Some s) = AllFixed e s.first × AllFixed e s.second × AllFixed e s.third

@@ -6,7 +6,7 @@ ghost use Rattle.sedtext.specs.Beginnings.{AllBegin, CanBegin, NextStart, skip_c
 ghost use Rattle.sedtext.specs.Bytes.{MemberAt};
 ghost use Rattle.sedtext.specs.Costs.{CostsWithin};
 ghost use Rattle.sedtext.specs.Prefix.{AllHave};
-ghost use Rattle.sedtext.specs.Sieve.{AllPass, AllStand};
+ghost use Rattle.sedtext.specs.Sieve.{AllPass, AllFixed};
 ghost use Rattle.sedre.specs.Steps.{Takes, TakesAtLeast};
 
 use crate::counted::Text;
@@ -74,7 +74,7 @@ fn set_weight(set: &ByteSet) -> usize {
 
 /// The three rarest of these and one more. Where there are fewer, the first is taken again.
 fn with_fixed(sieve: Option<Sieve>, more: Fixed) -> Sieve
-    ensures { (e : Tree) → AllPass e sieve → AllStand e more → AllPass e (Some result) }
+    ensures { (e : Tree) → AllPass e sieve → AllFixed e more → AllPass e (Some result) }
 {
     let Some(
         Sieve {

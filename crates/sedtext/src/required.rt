@@ -3,7 +3,7 @@
 //! A concatenation is followed from part to part, and single bytes that come one after another in it are a literal.
 ghost use Rattle.std.specs.Prelude.{◌≡◌, ℕ, ◌-◌, ◌<◌, ◌≤◌, ◌⊎◌, length, IfOk, IfSome};
 ghost use Rattle.sedre.specs.Tree.{expression_tree, Tree};
-ghost use Rattle.sedtext.specs.Required.{IsLiteral, AllHold, AllEndWith, IsRequired, Narrowed};
+ghost use Rattle.sedtext.specs.Required.{IsLiteral, AllHold, AllEndWith, IsRequired, Requires, Narrowed};
 ghost use Rattle.sedtext.specs.Nodes.{IsNode};
 ghost use Rattle.sedtext.specs.Costs.{CostsWithin};
 ghost use Rattle.sedre.specs.Steps.{Takes, TakesAtLeast};
@@ -109,13 +109,21 @@ fn longest_literal(
     }
 }
 
-/// A search for the literal.
-fn search_for(alloc: Global, literal: &[u8], is_prefix: bool) -> Result<RequiredLiteral, AllocError>
-    ensures literal { IfOk result (λ n. n.finder ≡ literal.now) }
-    ensures is_prefix { IfOk result (λ n. n.is_prefix ≡ is_prefix) }
+/// A search for a literal that every match contains, if there is one: an empty one is none.
+fn search_for(
+    alloc: Global,
+    literal: Vec<u8>,
+    is_prefix: bool,
+) -> Result<Option<RequiredLiteral>, AllocError>
+    ensures { (e : Tree) → Requires e literal.items is_prefix → IfOk result (λ n. IsRequired e n) }
 {
-    let finder = Finder::new(literal).into_owned(alloc)?;
-    Ok(RequiredLiteral { finder, is_prefix })
+    if literal.is_empty() {
+        return Ok(None);
+    }
+    match Finder::new(&literal).into_owned(alloc) {
+        Ok(finder) => Ok(Some(RequiredLiteral { finder, is_prefix })),
+        Err(AllocError) => Err(AllocError),
+    }
 }
 
 /// A literal that every match of the expression contains, if one is found: one of two bytes or more with which all begin,
@@ -130,13 +138,12 @@ pub fn find_required(
     let root = expr.root().index();
     let first = literal_from(alloc, expr, root, steps)?;
     if first.bytes.len() >= 2 {
-        return Ok(Some(search_for(alloc, &first.bytes, true)?));
+        return search_for(alloc, first.bytes, true);
     }
-    let best = longest_literal(alloc, expr, root, steps)?;
-    if best.is_empty() {
-        return Ok(None);
+    match longest_literal(alloc, expr, root, steps) {
+        Ok(best) => search_for(alloc, best, false),
+        Err(AllocError) => Err(AllocError),
     }
-    Ok(Some(search_for(alloc, &best, false)?))
 }
 
 /// The first place from `from` on at which a match can begin, if there is one, as far as the literal shows that each

@@ -1,7 +1,7 @@
 //! Three sets of bytes at fixed distances after a place: the places after which bytes of all three come are found by vectors of
 //! 32 bytes.
 ghost use Rattle.std.specs.Prelude.{◌≡◌, ℕ, ◌+◌, ◌<◌, ◌≤◌, ◌^◌, length, slice_index, IfSome, IsTrue};
-ghost use Rattle.sedtext.specs.Sieve.{MarksPlaces, NoneBefore, StandsAt, PassesSieve};
+ghost use Rattle.sedtext.specs.Sieve.{MarksPlaces, NoneBefore, FixedAt, PassesSieve};
 
 use super::nibbles::Nibbles;
 use std::simd::prelude::*;
@@ -44,7 +44,7 @@ impl Fixed {
     /// Whether one of them is at the distance after the place.
     fn stands(&self, bytes: &[u8], place: usize) -> bool
         requires { place ≤ length bytes.now }
-        ensures { StandsAt self.now bytes.now place → IsTrue result }
+        ensures { FixedAt self.now bytes.now place → IsTrue result }
     {
         self.offset < bytes.len() - place && self.set.has(bytes[place + self.offset])
     }
@@ -53,7 +53,7 @@ impl Fixed {
     #[inline(always)]
     fn marks(&self, bytes: &[u8], place: usize) -> u64
         requires { place + self.now.offset + 32 ≤ length bytes.now }
-        ensures { MarksPlaces (StandsAt self.now bytes.now) place result }
+        ensures { MarksPlaces (FixedAt self.now bytes.now) place result }
     {
         self.set.marked(lanes_at(bytes, place + self.offset))
     }

@@ -1,5 +1,5 @@
 use Rattle.std.proofs.Common.{◌+◌, ◌-◌, ◌<◌, subst, arith}
-use Rattle.sedtext.specs.Runs.{Repeated}
+use Rattle.sedtext.specs.Runs.{SetRepeats}
 use Rattle.sedtext.specs.Spans.{no_copy}
 use Rattle.sedtext.proofs.CountLemmas.{least_none, least_both, least_counted, most_counted}
 use Rattle.sedtext.proofs.FixedRunLemmas.{times_missed, times_none, times_here}
@@ -41,7 +41,7 @@ loop-start-preserved c =
 
 pub returns-then-run-seen-clause-first : goal.returns-then-run-seen-clause-first
 returns-then-run-seen-clause-first c =
-    let all = subst (λ v. Repeated c.args.set.now c.args.text.now v (c.loop-start.start + c.args.count)) c.if-run-seen.true c.run_begin-run.ensures.begins.2 in
+    let all = subst (λ v. SetRepeats c.args.set.now c.args.text.now v (c.loop-start.start + c.args.count)) c.if-run-seen.true c.run_begin-run.ensures.begins.2 in
     times_here c.args.set.now c.args.count c.args.text.now c.args.from c.loop-start.start c.loop-start.seen (omega arith) (omega arith) c.loop-start.invariant.copies all c.loop-start.invariant.missed
 
 pub returns-then-run-seen-clause-counts : goal.returns-then-run-seen-clause-counts

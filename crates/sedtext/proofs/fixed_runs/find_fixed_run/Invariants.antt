@@ -1,6 +1,6 @@
 use Rattle.std.proofs.Common.{ℕ, ◌+◌, ◌-◌, ◌<◌, ◌≤◌, length}
 use Rattle.sedre.specs.Steps.{TakesAtLeast}
-use Rattle.sedtext.specs.Runs.{Repeated}
+use Rattle.sedtext.specs.Runs.{SetRepeats}
 use Rattle.sedtext.proofs.fixed_runs.find_fixed_run.Given as goal
 
 abbrev pub invariant-loop-start : goal.invariant-loop-start
@@ -12,8 +12,8 @@ invariant-loop-start l = record {
   grows : l.initial.steps ≤ l.steps;
   cost : l.steps + l.from ≤ l.initial.steps + l.seen;
   counts : TakesAtLeast l.initial.steps l.steps (l.seen - l.from);
-  copies : Repeated l.set l.text l.start l.seen;
-  missed : (h : ℕ) → l.from ≤ h → h < l.start → Repeated l.set l.text h (h + l.count) → ⊥;
+  copies : SetRepeats l.set l.text l.start l.seen;
+  missed : (h : ℕ) → l.from ≤ h → h < l.start → SetRepeats l.set l.text h (h + l.count) → ⊥;
 }
 
 abbrev pub decreases-loop-start : goal.decreases-loop-start

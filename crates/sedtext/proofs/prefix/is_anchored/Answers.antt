@@ -1,5 +1,5 @@
 use Rattle.std.proofs.Common.{◌≡◌, ◌-◌, length, subst, arith}
-use Rattle.sedtext.specs.Reach.{At}
+use Rattle.sedtext.specs.Reach.{HasSpan}
 use Rattle.sedtext.proofs.prefix.is_anchored.Goals as goal
 
 pub loop-part-init : goal.loop-part-init
@@ -10,5 +10,5 @@ loop-part-init c =
       inside = omega (arith, c.root.ensures.arena.nonempty);
       grows = omega arith;
       cost = omega (arith, same, c.root.ensures.arena.nonempty);
-      first = λ w i j at. (j, subst (λ y. At nodes w y i j) same at);
+      first = λ w i j at. (j, subst (λ y. HasSpan nodes w y i j) same at);
     }

@@ -1,7 +1,7 @@
-use Rattle.sedtext.specs.Runs.{Repeated}
+use Rattle.sedtext.specs.Runs.{SetRepeats}
 use Rattle.sedtext.proofs.counted.members.run_to.Given as goal
 
 abbrev pub invariant-loop-place : goal.invariant-loop-place
 invariant-loop-place l = record {
-  copies : Repeated l.set l.bytes l.from l.place;
+  copies : SetRepeats l.set l.bytes l.from l.place;
 }
