@@ -1,12 +1,12 @@
 -- The groups that are given as due, as the state of a decision; what nodes and regions cost.
 use Rattle.std.proofs.Common.{◌≡◌, ℕ, zero, suc, ◌+◌, ◌-◌, ◌*◌, ◌<◌, ◌≤◌, ◌↔◌, ◌&&◌, not, Bool, true, false, List, [], ◌∷◌, length, Option, None, Some, IsTrue, refl, sym, ap, ◌∙◌, subst, inl, inr, ⊎_elim, true≢false, arith, mul-le-mul_left, IfSome, eqb, nat_lt, slice_get, slice_set, slice_index_or, vec_capacity}
-use Rattle.sedpass.proofs.Words.{bit_at, and_parts, and_from, cases_Bool, cases_lt, lt-ltb, le-ltb, cond_some, ext_get_or, length-set, mul-le-mul_right, Tree, WrittenExpression, tree_at, expression_tree, IsArena, IsExpr, IsPart, AreRanges, Takes, Node, NodeId, Set, Seq, Group, Star, tree_at-node, LastCut, LastCopy, CostsWithin, Groups, At, one_start, CopiesLead, node_at, close_at, Matches-forward, GroupSet, Matched, Kept, Region, Subject, Facts, Table}
-use Rattle.sedpass.specs.Decide.{spans_in, undecided, HasAll, flags_of, told_of, EndsRegion, IsAtEnd, IsGroupDesk, HasDesk, IsSetAt, AreGroupTables, HasSpace, SameTables, KeepsGroupDesk, part_cost, nodes_in, subject_text, Blank, NodeMatches}
-use Rattle.sedpass.specs.Kept.{AllMarked, SameKept, SameSpace, ends_told, owed_region, KeepsRegion}
+use Rattle.sedpass.proofs.Words.{bit_at, and_parts, and_from, cases_Bool, cases_lt, lt-ltb, le-ltb, cond_some, ext_get_or, length-set, mul-le-mul_right, Tree, WrittenExpression, tree_at, expression_tree, IsArena, IsExpr, IsPart, AreRanges, Takes, Node, NodeId, Set, Seq, Group, Star, tree_at-node, LastCut, LastCopy, CostsWithin, SpansOfGroups, HasSpan, one_start, CopiesLead, node_at, close_at, Matches-forward, GroupSet, Matched, Kept, Region, Subject, Facts, Table}
+use Rattle.sedpass.specs.Decide.{spans_in, undecided, HasAll, flags_of, known_groups, EndsRegion, IsAtEnd, IsGroupDesk, HasDesk, IsSetAt, AreGroupTables, HasSpace, SameTables, KeepsGroupDesk, part_cost, nodes_in, subject_text, NoneSettled, NodeMatches}
+use Rattle.sedpass.specs.Kept.{AllMarked, SameKept, SameSpace, ends_shown, owed_region, KeepsRegion}
 use Rattle.sedpass.specs.Prepared.{IsFacts, is_one_set, repeated_set, reported, holds, AllLong}
 use Rattle.sedpass.specs.Regions.{CeasesAt, IsLastIn, NextCopy, ReachesEnd, IsRunOf, repeated, in_group}
 use Rattle.sedpass.specs.Table.{IsTable, SameShape, MayBegin}
-use Rattle.sedpass.specs.Walks.{settle, drop_groups, GroupStandsIn, NoneDue, IsFirstState, has_group}
+use Rattle.sedpass.specs.Walks.{settle, drop_groups, GroupIsIn, NoneDue, IsFirstState, has_group}
 use Rattle.sedpass.specs.declared.groups.GroupRoom.{GroupRoom}
 use Rattle.sedpass.specs.declared.groups.GroupTables.{GroupTables}
 use Rattle.sedpass.proofs.KeptLemmas.{same_shape, space_same, space_then}
@@ -32,8 +32,8 @@ due_reported due zero whole is = absurd (true≢false (sym is ∙ whole))
 due_reported due (suc k) whole is = and_from (nat_lt 0 (suc k)) (nat_lt (suc k) 10) (lt-ltb 0 (suc k) (omega arith)) (and_parts (nat_lt (suc k) 10) (eqb (bit_at due.bits (suc k)) 1) is).0
 
 -- a node of which no group is due
-pub none_due : (nodes : List Node) (x : ℕ) (facts : Facts) (due : GroupSet) (spans : Groups) → IsFacts (tree_at nodes x) x facts → holds due 0 ≡ false →
-    ((k : ℕ) → IsTrue (holds facts.groups k) → IsTrue (holds due k) → ⊥) → NoneDue (tree_at nodes x) (told_of due spans)
+pub none_due : (nodes : List Node) (x : ℕ) (facts : Facts) (due : GroupSet) (spans : SpansOfGroups) → IsFacts (tree_at nodes x) x facts → holds due 0 ≡ false →
+    ((k : ℕ) → IsTrue (holds facts.groups k) → IsTrue (holds due k) → ⊥) → NoneDue (tree_at nodes x) (known_groups due spans)
 none_due nodes x facts due spans is whole apart k has = elim (cases_Bool (holds due k)) [
   | inl yes_due ↦ absurd (apart k (facts_groups yes_due) yes_due)
   | inr not_due ↦ flags_at due k ∙ not_due
@@ -44,11 +44,11 @@ none_due nodes x facts due spans is whole apart k has = elim (cases_Bool (holds 
 
 -- what is due and is not taken is due still
 still_due : (b r x : Bool) (v : Option (ℕ × ℕ)) → (b ≡ true → r ≡ true) → (b && not (r && x)) ≡ left b (deed x v)
-still_due false r true v told = refl
-still_due false r false v told = refl
-still_due true true true v told = refl
-still_due true true false v told = refl
-still_due true false x v told = absurd (true≢false (sym (told refl)))
+still_due false r true v decided = refl
+still_due false r false v decided = refl
+still_due true true true v decided = refl
+still_due true true false v decided = refl
+still_due true false x v decided = absurd (true≢false (sym (decided refl)))
 
 flags_left : (old other new : GroupSet) (n : ℕ) (x : Bool) (v : Option (ℕ × ℕ)) → holds old 0 ≡ false → holds other n ≡ (reported n && x) → holds new n ≡ (holds old n && not (holds other n)) →
     slice_index_or (flags_of new) n false ≡ left (slice_index_or (flags_of old) n false) (deed x v)
@@ -56,35 +56,35 @@ flags_left old other new n x v whole is without =
     flags_at new n ∙ without ∙ ap (λ b. holds old n && not b) is ∙ still_due (holds old n) (reported n) x v (due_reported old n whole) ∙ ap (λ b. left b (deed x v)) (sym (flags_at old n))
 
 -- a group that is due is settled
-pub settled : (old one new : GroupSet) (k : ℕ) (v : Option (ℕ × ℕ)) (spans : Groups) → holds old 0 ≡ false → holds old k ≡ true →
+pub settled : (old one new : GroupSet) (k : ℕ) (v : Option (ℕ × ℕ)) (spans : SpansOfGroups) → holds old 0 ≡ false → holds old k ≡ true →
     ((n : ℕ) → holds one n ≡ (reported n && eqb k n)) → ((n : ℕ) → holds new n ≡ (holds old n && not (holds one n))) →
-    told_of new (slice_set spans k v) ≡ settle k v (told_of old spans)
+    known_groups new (slice_set spans k v) ≡ settle k v (known_groups old spans)
 settled old one new k v spans whole due alone without =
     same_state (flags_of new) (slice_set (flags_of old) k false) (slice_set spans k v) (slice_set spans k v)
     (ext_get_or false (flags_of new) (slice_set (flags_of old) k false) (sym (length-set (flags_of old) k false)) (λ n _.
     flags_left old one new n (eqb k n) v whole (alone n) (without n) ∙ sym (set_due k n v (flags_of old)))) refl
-    ∙ sym (settle-due k v (told_of old spans) (flags_at old k ∙ due))
+    ∙ sym (settle-due k v (known_groups old spans) (flags_at old k ∙ due))
 
 -- what is taken from what is due is not due before
 pub still_whole : (old other new : GroupSet) → holds old 0 ≡ false → ((n : ℕ) → holds new n ≡ (holds old n && not (holds other n))) → holds new 0 ≡ false
 still_whole old other new whole without = without 0 ∙ ap (λ b. b && not (holds other 0)) whole
 
 -- the groups of a node are taken from what is due
-pub dropped : (nodes : List Node) (x : ℕ) (facts : Facts) (old new : GroupSet) (spans : Groups) → IsFacts (tree_at nodes x) x facts → holds old 0 ≡ false → Blank (told_of old spans) →
-    ((n : ℕ) → holds new n ≡ (holds old n && not (holds facts.groups n))) → told_of new spans ≡ drop_groups (tree_at nodes x) (told_of old spans)
+pub dropped : (nodes : List Node) (x : ℕ) (facts : Facts) (old new : GroupSet) (spans : SpansOfGroups) → IsFacts (tree_at nodes x) x facts → holds old 0 ≡ false → NoneSettled (known_groups old spans) →
+    ((n : ℕ) → holds new n ≡ (holds old n && not (holds facts.groups n))) → known_groups new spans ≡ drop_groups (tree_at nodes x) (known_groups old spans)
 dropped nodes x facts old new spans is whole blank without =
-    drop_as (tree_at nodes x) (told_of old spans) (told_of new spans) blank refl refl (λ k.
+    drop_as (tree_at nodes x) (known_groups old spans) (known_groups new spans) blank refl refl (λ k.
     flags_left old facts.groups new k (has_group (tree_at nodes x) k) None whole (is.groups k) (without k))
 
 -- the groups of the whole expression, and a start with them
-pub all_told : (e : WrittenExpression) (root : ℕ) (facts : Facts) → root + 1 ≡ length e.nodes → IsFacts (tree_at e.nodes root) root facts → HasAll facts.groups (expression_tree e)
-all_told e root facts last is k low high has =
+pub all_shown : (e : WrittenExpression) (root : ℕ) (facts : Facts) → root + 1 ≡ length e.nodes → IsFacts (tree_at e.nodes root) root facts → HasAll facts.groups (expression_tree e)
+all_shown e root facts last is k low high has =
     let same : length e.nodes - 1 ≡ root = omega arith in
     is.groups k
     ∙ and_from (reported k) (has_group (tree_at e.nodes root) k) (and_from (nat_lt 0 k) (nat_lt k 10) (lt-ltb 0 k (omega arith)) (lt-ltb k 10 high))
-    (subst (λ x. GroupStandsIn (tree_at e.nodes x) k) same has)
+    (subst (λ x. GroupIsIn (tree_at e.nodes x) k) same has)
 
-pub starts_due : (e : Tree) (i j : ℕ) (due : GroupSet) → holds due 0 ≡ false → HasAll due e → IsFirstState e i j (told_of due (undecided i j))
+pub starts_due : (e : Tree) (i j : ℕ) (due : GroupSet) → holds due 0 ≡ false → HasAll due e → IsFirstState e i j (known_groups due (undecided i j))
 starts_due e i j due whole all = record {
   whole = whole;
   each = λ k low high has. flags_at due k ∙ all k low high has;
@@ -92,7 +92,7 @@ starts_due e i j due whole all = record {
 }
 
 -- a span more
-pub found_set : (g : Groups) (k : ℕ) (v : Option (ℕ × ℕ)) → spans_in (slice_set g k v) ≤ spans_in g + 1
+pub found_set : (g : SpansOfGroups) (k : ℕ) (v : Option (ℕ × ℕ)) → spans_in (slice_set g k v) ≤ spans_in g + 1
 found_set [] k v = omega arith
 found_set (None ∷ g) zero None = omega arith
 found_set (None ∷ g) zero (Some u) = omega arith
@@ -101,14 +101,14 @@ found_set (Some t ∷ g) zero (Some u) = omega arith
 found_set (None ∷ g) (suc k) v = found_set g k v
 found_set (Some t ∷ g) (suc k) v = omega (arith, found_set g k v)
 
-pub starts_blank : (i j : ℕ) (due : GroupSet) → holds due 0 ≡ false → Blank (told_of due (undecided i j))
+pub starts_blank : (i j : ℕ) (due : GroupSet) → holds due 0 ≡ false → NoneSettled (known_groups due (undecided i j))
 starts_blank i j due whole zero is = absurd (true≢false (sym is ∙ whole))
 starts_blank i j due whole (suc k) is = same_all None 9 k
 
 -- Places.
 
 -- a cut of a null string
-pub null_cut : (s : Subject) (here : Matched) (a b : NodeId) → NodeMatches s here (Seq a b) → here.start ≡ here.stop → LastCut (At (nodes_in s) (subject_text s) a.index) (At (nodes_in s) (subject_text s) b.index) here.start here.stop here.start
+pub null_cut : (s : Subject) (here : Matched) (a b : NodeId) → NodeMatches s here (Seq a b) → here.start ≡ here.stop → LastCut (HasSpan (nodes_in s) (subject_text s) a.index) (HasSpan (nodes_in s) (subject_text s) b.index) here.start here.stop here.start
 null_cut s here a b stands same =
     let nodes = nodes_in s in
     let w = subject_text s in
@@ -117,37 +117,37 @@ null_cut s here a b stands same =
     let on = Matches-forward (tree_at nodes b.index) w parts.0 here.stop parts.2 in
     let there : parts.0 ≡ here.start = omega arith in
     record {
-      left = subst (λ v. At nodes w a.index here.start v) there parts.1;
-      right = subst (λ v. At nodes w b.index v here.stop) there parts.2;
+      left = subst (λ v. HasSpan nodes w a.index here.start v) there parts.1;
+      right = subst (λ v. HasSpan nodes w b.index v here.stop) there parts.2;
       greatest = λ l left right. let on = Matches-forward (tree_at nodes b.index) w l here.stop right in omega arith;
     }
 
 -- a length that is known
-long_at : (nodes : List Node) (w : List ℕ) (x c n : ℕ) (facts : Facts) → x ≡ c → IsFacts (tree_at nodes x) x facts → facts.length ≡ Some n → AllLong (At nodes w c) n
-long_at nodes w x c n facts same is told = subst (λ v. AllLong (At nodes w v) n) same (all_long (tree_at nodes x) w n (sym is.long ∙ told))
+long_at : (nodes : List Node) (w : List ℕ) (x c n : ℕ) (facts : Facts) → x ≡ c → IsFacts (tree_at nodes x) x facts → facts.length ≡ Some n → AllLong (HasSpan nodes w c) n
+long_at nodes w x c n facts same is decided = subst (λ v. AllLong (HasSpan nodes w v) n) same (all_long (tree_at nodes x) w n (sym is.long ∙ decided))
 
 -- it decides a cut, of the left part or of the right one, and a copy
 pub left_fixed : (s : Subject) (here : Matched) (a b : NodeId) (x n : ℕ) (facts : Facts) → NodeMatches s here (Seq a b) → x ≡ a.index → IsFacts (tree_at (nodes_in s) x) x facts → facts.length ≡ Some n →
-    (here.start + n ≤ length (subject_text s)) × LastCut (At (nodes_in s) (subject_text s) a.index) (At (nodes_in s) (subject_text s) b.index) here.start here.stop (here.start + n)
-left_fixed s here a b x n facts stands same is told =
+    (here.start + n ≤ length (subject_text s)) × LastCut (HasSpan (nodes_in s) (subject_text s) a.index) (HasSpan (nodes_in s) (subject_text s) b.index) here.start here.stop (here.start + n)
+left_fixed s here a b x n facts stands same is decided =
     let parts = opened s here (Seq a b) stands in
-    let long = long_at (nodes_in s) (subject_text s) x a.index n facts same is told in
+    let long = long_at (nodes_in s) (subject_text s) x a.index n facts same is decided in
     let on = Matches-forward (tree_at (nodes_in s) b.index) (subject_text s) parts.0 here.stop parts.2 in
-    (omega (arith, long here.start parts.0 parts.1, on, stands.there.fits), left_long (At (nodes_in s) (subject_text s) a.index) (At (nodes_in s) (subject_text s) b.index) here.start here.stop n parts long)
+    (omega (arith, long here.start parts.0 parts.1, on, stands.there.fits), left_long (HasSpan (nodes_in s) (subject_text s) a.index) (HasSpan (nodes_in s) (subject_text s) b.index) here.start here.stop n parts long)
 
 pub right_fixed : (s : Subject) (here : Matched) (a b : NodeId) (x n : ℕ) (facts : Facts) → NodeMatches s here (Seq a b) → x ≡ b.index → IsFacts (tree_at (nodes_in s) x) x facts → facts.length ≡ Some n →
-    (n ≤ here.stop) × LastCut (At (nodes_in s) (subject_text s) a.index) (At (nodes_in s) (subject_text s) b.index) here.start here.stop (here.stop - n)
-right_fixed s here a b x n facts stands same is told =
+    (n ≤ here.stop) × LastCut (HasSpan (nodes_in s) (subject_text s) a.index) (HasSpan (nodes_in s) (subject_text s) b.index) here.start here.stop (here.stop - n)
+right_fixed s here a b x n facts stands same is decided =
     let parts = opened s here (Seq a b) stands in
-    let long = long_at (nodes_in s) (subject_text s) x b.index n facts same is told in
-    (omega (arith, long parts.0 here.stop parts.2), right_long (At (nodes_in s) (subject_text s) a.index) (At (nodes_in s) (subject_text s) b.index) here.start here.stop n parts long)
+    let long = long_at (nodes_in s) (subject_text s) x b.index n facts same is decided in
+    (omega (arith, long parts.0 here.stop parts.2), right_long (HasSpan (nodes_in s) (subject_text s) a.index) (HasSpan (nodes_in s) (subject_text s) b.index) here.start here.stop n parts long)
 
 pub copy_fixed : (s : Subject) (here : Matched) (a : NodeId) (first : Bool) (x n : ℕ) (facts : Facts) → NodeMatches s here (Star a first) → here.start < here.stop → x ≡ a.index → IsFacts (tree_at (nodes_in s) x) x facts →
-    facts.length ≡ Some n → (n ≤ here.stop) × LastCopy (At (nodes_in s) (subject_text s) a.index) here.stop here.start (here.stop - n)
-copy_fixed s here a first x n facts stands some same is told =
-    let long = long_at (nodes_in s) (subject_text s) x a.index n facts same is told in
-    let last = copies_long (At (nodes_in s) (subject_text s) a.index) here.stop n long here.start some (opened s here (Star a first) stands) in
-    let copy = copy_spans (At (nodes_in s) (subject_text s) a.index) here.stop here.start (here.stop - n) last in
+    facts.length ≡ Some n → (n ≤ here.stop) × LastCopy (HasSpan (nodes_in s) (subject_text s) a.index) here.stop here.start (here.stop - n)
+copy_fixed s here a first x n facts stands some same is decided =
+    let long = long_at (nodes_in s) (subject_text s) x a.index n facts same is decided in
+    let last = copies_long (HasSpan (nodes_in s) (subject_text s) a.index) here.stop n long here.start some (opened s here (Star a first) stands) in
+    let copy = copy_spans (HasSpan (nodes_in s) (subject_text s) a.index) here.stop here.start (here.stop - n) last in
     (omega (arith, long (here.stop - n) here.stop copy.2), last)
 
 -- a part of the node is no later than the region's
@@ -170,10 +170,10 @@ abbrev IsRun : List Node → ℕ → ℕ → Type 0
 IsRun nodes x c = IsRunOf nodes c x × IsSetAt nodes c
 
 run_within : (n : ℕ) (nodes : List Node) → IsArena nodes → AreRanges nodes → (x c : ℕ) → x < n → x < length nodes → repeated_set (tree_at nodes x) x ≡ Some c → IsRun nodes x c
-run_within zero nodes arena ranges x c low inside told = absurd (omega arith)
-run_within (suc n) nodes arena ranges x c low inside told =
+run_within zero nodes arena ranges x c low inside decided = absurd (omega arith)
+run_within (suc n) nodes arena ranges x c low inside decided =
     let there = node_at nodes x inside in
-    by (λ y less. run_within n nodes arena ranges y c (omega arith) (omega arith)) there.0 there.1 told
+    by (λ y less. run_within n nodes arena ranges y c (omega arith) (omega arith)) there.0 there.1 decided
   where
     by : ((y : ℕ) → y < x → repeated_set (tree_at nodes y) y ≡ Some c → IsRun nodes y c) → (m : Node) → slice_get nodes x ≡ Some m → repeated_set (tree_at nodes x) x ≡ Some c → IsRun nodes x c
     by below (Group k a) is =
@@ -191,22 +191,22 @@ run_within (suc n) nodes arena ranges x c low inside told =
         (repeated x (a, first, is, here), subst (IsSetAt nodes) here (is_set_at nodes arena a.index (omega arith) both.0)))
     by below other is = rw (tree_at-node nodes x other arena is) (λ h. cc)
 
-pub run_told : (nodes : List Node) (groups x : ℕ) (facts : Facts) (run : Option ℕ) → IsExpr nodes groups → x < length nodes → IsFacts (tree_at nodes x) x facts → facts.run ≡ run →
+pub run_shown : (nodes : List Node) (groups x : ℕ) (facts : Facts) (run : Option ℕ) → IsExpr nodes groups → x < length nodes → IsFacts (tree_at nodes x) x facts → facts.run ≡ run →
     IfSome run (λ c. IsRunOf nodes c x × IsSetAt nodes c)
-run_told nodes groups x facts None expr inside is told = tt
-run_told nodes groups x facts (Some c) expr inside is told = run_within (x + 1) nodes expr.arena expr.ranges x c (omega arith) inside (sym is.run ∙ told)
+run_shown nodes groups x facts None expr inside is decided = tt
+run_shown nodes groups x facts (Some c) expr inside is decided = run_within (x + 1) nodes expr.arena expr.ranges x c (omega arith) inside (sym is.run ∙ decided)
 
 -- Regions.
 
 -- the match ends at the one end that a kept pass answers for
 pub ends_there : (s : Subject) (tables : GroupTables) (kept : Kept) (here : Matched) (node : Node) → IsAtEnd s tables kept here node →
-    ends_told tables.reverse_one.way.all_starts (length (subject_text s)) kept.region.end ≡ one_start here.stop
+    ends_shown tables.reverse_one.way.all_starts (length (subject_text s)) kept.region.end ≡ one_start here.stop
 ends_there s tables kept here node at = rw at.desk.one_end (ap one_start (sym at.ends.1))
 
 -- where a pass over the left part ceases to meet the kept one is the cut
 pub cut_ceases : (s : Subject) (tables : GroupTables) (kept : Kept) (here : Matched) (a b : NodeId) (p : ℕ) → IsAtEnd s tables kept here (Seq a b) →
-    CeasesAt (nodes_in s) (subject_text s) kept.region.root (ends_told tables.reverse_one.way.all_starts (length (subject_text s)) kept.region.end) a.index here.start p →
-    LastCut (At (nodes_in s) (subject_text s) a.index) (At (nodes_in s) (subject_text s) b.index) here.start here.stop p
+    CeasesAt (nodes_in s) (subject_text s) kept.region.root (ends_shown tables.reverse_one.way.all_starts (length (subject_text s)) kept.region.end) a.index here.start p →
+    LastCut (HasSpan (nodes_in s) (subject_text s) a.index) (HasSpan (nodes_in s) (subject_text s) b.index) here.start here.stop p
 cut_ceases s tables kept here a b p at ceases =
     let stands = at.stands in
     stops_at_cut (nodes_in s) (subject_text s) kept.region.root here.stop here.node a b stands.arena at.ends.0 stands.is here.start p stands.there.at
@@ -214,9 +214,9 @@ cut_ceases s tables kept here a b p at ceases =
 
 -- so is the end of a run, where the left part is one
 pub cut_runs : (s : Subject) (tables : GroupTables) (kept : Kept) (here : Matched) (a b : NodeId) (leaf p : ℕ) → IsAtEnd s tables kept here (Seq a b) → IsRunOf (nodes_in s) leaf a.index → IsSetAt (nodes_in s) leaf →
-    here.start ≤ p → AllMarked (nodes_in s) (subject_text s) kept.region.root (ends_told tables.reverse_one.way.all_starts (length (subject_text s)) kept.region.end) leaf true here.start p →
-    (p < kept.region.end → IsTrue false ↔ ReachesEnd (nodes_in s) (subject_text s) kept.region.root (ends_told tables.reverse_one.way.all_starts (length (subject_text s)) kept.region.end) leaf p) →
-    LastCut (At (nodes_in s) (subject_text s) a.index) (At (nodes_in s) (subject_text s) b.index) here.start here.stop p
+    here.start ≤ p → AllMarked (nodes_in s) (subject_text s) kept.region.root (ends_shown tables.reverse_one.way.all_starts (length (subject_text s)) kept.region.end) leaf true here.start p →
+    (p < kept.region.end → IsTrue false ↔ ReachesEnd (nodes_in s) (subject_text s) kept.region.root (ends_shown tables.reverse_one.way.all_starts (length (subject_text s)) kept.region.end) leaf p) →
+    LastCut (HasSpan (nodes_in s) (subject_text s) a.index) (HasSpan (nodes_in s) (subject_text s) b.index) here.start here.stop p
 cut_runs s tables kept here a b leaf p at run a_set up passed found =
     let stands = at.stands in
     let nodes = nodes_in s in
@@ -232,9 +232,9 @@ cut_runs s tables kept here a b leaf p at run a_set up passed found =
 
 -- where a pass over the part of a repetition ceases to meet the kept one is the end of the next copy
 pub copy_ceases : (s : Subject) (tables : GroupTables) (kept : Kept) (here : Matched) (a : NodeId) (first : Bool) (i p : ℕ) → IsAtEnd s tables kept here (Star a first) →
-    CopiesLead (At (nodes_in s) (subject_text s) a.index) here.stop i → i < here.stop →
-    CeasesAt (nodes_in s) (subject_text s) kept.region.root (ends_told tables.reverse_one.way.all_starts (length (subject_text s)) kept.region.end) a.index i p →
-    NextCopy (At (nodes_in s) (subject_text s) a.index) i here.stop p
+    CopiesLead (HasSpan (nodes_in s) (subject_text s) a.index) here.stop i → i < here.stop →
+    CeasesAt (nodes_in s) (subject_text s) kept.region.root (ends_shown tables.reverse_one.way.all_starts (length (subject_text s)) kept.region.end) a.index i p →
+    NextCopy (HasSpan (nodes_in s) (subject_text s) a.index) i here.stop p
 copy_ceases s tables kept here a first i p at copies lt ceases =
     let stands = at.stands in
     stops_at_copy (nodes_in s) (subject_text s) kept.region.root here.stop here.node a first stands.arena at.ends.0 stands.is i p

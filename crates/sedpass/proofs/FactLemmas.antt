@@ -57,10 +57,10 @@ nullable_mirror first last (group k a) = nullable_mirror first last a
 nullable_mirror first last other = refl
 
 -- so what is known of a node serves both ways
-pub null_tells : (mirrored : Bool) (e : WrittenExpression) (kind : PlaceKind) (w : List ℕ) (p : ℕ) → IsPlace w p (at_begin mirrored kind) (at_edge mirrored kind) →
+pub null_shows : (mirrored : Bool) (e : WrittenExpression) (kind : PlaceKind) (w : List ℕ) (p : ℕ) → IsPlace w p (at_begin mirrored kind) (at_edge mirrored kind) →
     AreNull (seen mirrored e).nodes w p (null_in e.nodes kind)
-null_tells false e kind w p there c low = nullable_is w p kind.begin kind.end there (tree_at e.nodes c)
-null_tells true e kind w p there c low =
+null_shows false e kind w p there c low = nullable_is w p kind.begin kind.end there (tree_at e.nodes c)
+null_shows true e kind w p there c low =
     let same : nullable kind.end kind.begin (tree_at (seen true e).nodes c) ≡ null_in e.nodes kind c =
     ap (nullable kind.end kind.begin) (tree_at-mirror e.nodes c) ∙ nullable_mirror kind.end kind.begin (tree_at e.nodes c) in
     rw (← same) (nullable_is w p kind.end kind.begin there (tree_at (seen true e).nodes c))
@@ -69,10 +69,10 @@ null_tells true e kind w p there c low =
 pub null_anywhere : (mirrored : Bool) (e : WrittenExpression) (kind : PlaceKind) → SameNulls e.nodes →
     (w : List ℕ) (p : ℕ) (first last : Bool) → IsPlace w p first last → AreNull (seen mirrored e).nodes w p (null_in e.nodes kind)
 null_anywhere false e kind same w p first last there c low =
-    rw (same c kind.begin kind.end low ∙ sym (same c first last low)) (null_tells false e (record { begin = first; end = last }) w p there c low)
+    rw (same c kind.begin kind.end low ∙ sym (same c first last low)) (null_shows false e (record { begin = first; end = last }) w p there c low)
 null_anywhere true e kind same w p first last there c low =
     let inside : c < length e.nodes = subst (λ n. c < n) (seen-length true e) low in
-    rw (same c kind.begin kind.end inside ∙ sym (same c last first inside)) (null_tells true e (record { begin = last; end = first }) w p there c low)
+    rw (same c kind.begin kind.end inside ∙ sym (same c last first inside)) (null_shows true e (record { begin = last; end = first }) w p there c low)
 
 -- trees are ranges
 
@@ -146,8 +146,8 @@ set_by (alt a b) small long = absurd (omega (arith, small, size_positive a))
 set_by (group k a) small long = absurd (omega (arith, small, size_positive a))
 set_by other small long = absurd (true≢false (sym long))
 
-pub told_set : (a : Tree) (x : ℕ) (part : Facts) → IsFacts a x part → part.low ≡ x → option_eq eqb part.length (Some 1) ≡ true → is_one_set a ≡ true
-told_set a x part told low long = let size_is = told.low in set_by a (omega arith) (rw (← told.long) long)
+pub shown_set : (a : Tree) (x : ℕ) (part : Facts) → IsFacts a x part → part.low ≡ x → option_eq eqb part.length (Some 1) ≡ true → is_one_set a ≡ true
+shown_set a x part shown low long = let size_is = shown.low in set_by a (omega arith) (rw (← shown.long) long)
 
 -- an expression has no longer matches of one length than nodes
 length_short : (t : Tree) (n : ℕ) → length_of t ≡ Some n → n ≤ size t
@@ -165,26 +165,26 @@ short_if : (long : Option ℕ) → ((n : ℕ) → long ≡ Some n → n ≤ 6553
 short_if None small = tt
 short_if (Some n) small = small n refl
 
-pub told_short : (a : Tree) (x : ℕ) (part : Facts) → IsFacts a x part → size a ≤ 65536 → IsShort part.length
-told_short a x part told small = short_if part.length (λ n is. omega (arith, small, length_short a n (sym told.long ∙ is)))
+pub shown_short : (a : Tree) (x : ℕ) (part : Facts) → IsFacts a x part → size a ≤ 65536 → IsShort part.length
+shown_short a x part shown small = short_if part.length (λ n is. omega (arith, small, length_short a n (sym shown.long ∙ is)))
 
 -- what is known of one more
-last_told : (told : List Facts) (next fact : Facts) (x : ℕ) → slice_get (told ++ next ∷ []) x ≡ Some fact → (slice_get told x ≡ Some fact) ⊎ ((x ≡ length told) × (fact ≡ next))
-last_told [] next fact zero is = inr (refl, sym (same_Some next fact is))
-last_told [] next fact (suc x) is = cc
-last_told (first ∷ told) next fact zero is = inl is
-last_told (first ∷ told) next fact (suc x) is = elim (last_told told next fact x is) [ inl old ↦ inl old | inr new ↦ inr (omega (arith, new.0), new.1) ]
+last_shown : (shown : List Facts) (next fact : Facts) (x : ℕ) → slice_get (shown ++ next ∷ []) x ≡ Some fact → (slice_get shown x ≡ Some fact) ⊎ ((x ≡ length shown) × (fact ≡ next))
+last_shown [] next fact zero is = inr (refl, sym (same_Some next fact is))
+last_shown [] next fact (suc x) is = cc
+last_shown (first ∷ shown) next fact zero is = inl is
+last_shown (first ∷ shown) next fact (suc x) is = elim (last_shown shown next fact x is) [ inl old ↦ inl old | inr new ↦ inr (omega (arith, new.0), new.1) ]
 
-pub facts_more : (nodes : List Node) (arena : IsArena nodes) (told : List Facts) (node : Node) (next : Facts) → AreFacts nodes told → slice_get nodes (length told) ≡ Some node →
-    IsFacts (tree_of (tree_at nodes) node) (length told) next → AreFacts nodes (told ++ next ∷ [])
-facts_more nodes arena told node next facts there here x fact is =
-    elim (last_told told next fact x is) [ inl old ↦ facts x fact old | inr new ↦ rw (new.0, new.1, tree_at-node nodes (length told) node arena there) here ]
+pub facts_more : (nodes : List Node) (arena : IsArena nodes) (shown : List Facts) (node : Node) (next : Facts) → AreFacts nodes shown → slice_get nodes (length shown) ≡ Some node →
+    IsFacts (tree_of (tree_at nodes) node) (length shown) next → AreFacts nodes (shown ++ next ∷ [])
+facts_more nodes arena shown node next facts there here x fact is =
+    elim (last_shown shown next fact x is) [ inl old ↦ facts x fact old | inr new ↦ rw (new.0, new.1, tree_at-node nodes (length shown) node arena there) here ]
 
 -- where no node is null at places of some kinds alone
-pub told_anywhere : (nodes : List Node) (told : List Facts) → length told ≡ length nodes → AreFacts nodes told → ((x : ℕ) (here : Facts) → slice_get told x ≡ Some here → IsOfEachKind here.null) →
+pub shown_anywhere : (nodes : List Node) (shown : List Facts) → length shown ≡ length nodes → AreFacts nodes shown → ((x : ℕ) (here : Facts) → slice_get shown x ≡ Some here → IsOfEachKind here.null) →
     SameNulls nodes
-told_anywhere nodes told all facts each x first last inside =
-    elim (slice_get_cases told x).1 [
+shown_anywhere nodes shown all facts each x first last inside =
+    elim (slice_get_cases shown x).1 [
       | inl some ↦ let fact = facts x some.0 some.2 in sym (fact.null first last) ∙ each x some.0 some.2 first last ∙ fact.null false false
       | inr past ↦ let low = past.0 in absurd (omega arith)
     ]
@@ -235,9 +235,9 @@ empty_expr = record {
   few = omega arith;
 }
 
-facts_only : (told : Facts) → IsFacts empty 0 told → AreFacts empty_nodes (told ∷ [])
-facts_only told facts zero here is = rw (← same_Some told here is, one_tree) facts
-facts_only told facts (suc x) here is = absurd (none-some here is)
+facts_only : (shown : Facts) → IsFacts empty 0 shown → AreFacts empty_nodes (shown ∷ [])
+facts_only shown facts zero here is = rw (← same_Some shown here is, one_tree) facts
+facts_only shown facts (suc x) here is = absurd (none-some here is)
 
 nulls_only : SameNulls empty_nodes
 nulls_only zero first last inside = ap (nullable first last) one_tree ∙ sym (ap (nullable false false) one_tree)
@@ -246,12 +246,12 @@ nulls_only (suc x) first last inside = absurd (omega (arith, inside))
 no_sets : HaveSets empty_nodes []
 no_sets x members is = let same = (only x (Set members) is).1 in absurd cc
 
-pub empty_prepared : (told : Facts) (of : List ℕ) (count : ℕ) → IsFacts empty 0 told → ((nodes : List Node) → HaveSets nodes [] → AreClasses nodes of count) →
-    IsPrepared (record { nodes = empty_nodes; groups = 0 }) 0 (told ∷ []) of count false
-empty_prepared told of count facts classes = record {
+pub empty_prepared : (shown : Facts) (of : List ℕ) (count : ℕ) → IsFacts empty 0 shown → ((nodes : List Node) → HaveSets nodes [] → AreClasses nodes of count) →
+    IsPrepared (record { nodes = empty_nodes; groups = 0 }) 0 (shown ∷ []) of count false
+empty_prepared shown of count facts classes = record {
   last = refl;
   all = refl;
-  facts = facts_only told facts;
+  facts = facts_only shown facts;
   classes = classes empty_nodes no_sets;
   anywhere = λ none. nulls_only;
 }

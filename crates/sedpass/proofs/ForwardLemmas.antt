@@ -1,7 +1,7 @@
 -- Passes for the whole expression.
 use Rattle.std.proofs.Common.{inl, inr, ◌≡◌, ℕ, ◌+◌, ◌-◌, ◌*◌, ◌/◌, ◌^◌, ◌<◌, ◌≤◌, ◌⊎◌, ◌↔◌, Bool, true, false, not, ◌&&◌, ◌||◌, List, length, Option, Some, None, IsTrue, refl, sym, ap, ◌∙◌, subst, ⊎_elim, true≢false, arith, mul-le-mul_left, min, slice_get, is_some, IfSome}
 use Rattle.std.specs.Bool.{then_some}
-use Rattle.sedpass.proofs.Words.{option_or, cases_lt, cases_Bool, both_ways, slice_get_within, IsArena, expression_tree, tree_at, Tree, seen, Node, Starts, TakesAtLeast, LooksPast, byte_is_in, At, IsStart, SomeSpan, IsLongestFrom, Matches, SomeFound, Matches-forward, Matches-within, IsPlace, StateFlags, PlaceKind, Prepared, Way, Table, Passed, seen-arena, seen-length, least_less, least_since, least_both}
+use Rattle.sedpass.proofs.Words.{option_or, cases_lt, cases_Bool, both_ways, slice_get_within, IsArena, expression_tree, tree_at, Tree, seen, Node, Starts, TakesAtLeast, LooksPast, byte_is_in, HasSpan, IsStart, SomeSpan, IsLongestFrom, Matches, SomeFound, Matches-forward, Matches-within, IsPlace, StateFlags, PlaceKind, Prepared, Way, Table, Passed, seen-arena, seen-length, least_less, least_since, least_both}
 use Rattle.sedpass.specs.Rows.{nodes_of, at_begin, at_edge, RowOfPlace}
 use Rattle.sedpass.specs.Table.{PassState, state_of, FlagsShow, StateAt, LeadsOn, BeginsIn, NamesState, IsTable, IsForwardOne, IsForwardAny, SameShape, stops, code_of}
 use Rattle.sedpass.specs.Forwards.{starts_of, LastBelow, IsPassEnd, Arrives, EndsBelow, PassIs}
@@ -76,7 +76,7 @@ swept_end false true false false e s is = absurd (true≢false (sym is))
 -- At a place: a code of its state.
 
 module _ (p : Prepared) (t : Table) (w : List ℕ) (start place code o : ℕ) (end : Option ℕ) (table : IsTable p t) (keeps : t.way.keeps ≡ false) (after : start ≤ place) (within : place ≤ length w)
-    (tells : (b : Bool) (u : ℕ) → u < 2147483647 → code ≡ code_of b u → o ≡ u) (n : NamesState (length p.arena.expr.nodes) t (Arrives p t.way w start place) code) (last : EndsBelow p t.way w start place end) where
+    (shows : (b : Bool) (u : ℕ) → u < 2147483647 → code ≡ code_of b u → o ≡ u) (n : NamesState (length p.arena.expr.nodes) t (Arrives p t.way w start place) code) (last : EndsBelow p t.way w start place end) where
   abbrev N : List Node
   N = nodes_of t.way p.arena.expr
 
@@ -90,19 +90,19 @@ module _ (p : Prepared) (t : Table) (w : List ℕ) (start place code o : ℕ) (e
   arena = seen-arena t.way.mirrored p.arena.expr table.expr.arena
 
   arrived : Arrives p t.way w start place here
-  arrived = names_state p t table (Arrives p t.way w start place) code o n tells
+  arrived = names_state p t table (Arrives p t.way w start place) code o n shows
 
-  is_told : FlagsShow here
-  is_told = table.told (o / 2 ^ t.layout.shift) (names_offset p t table (Arrives p t.way w start place) code o n tells).0
+  is_shown : FlagsShow here
+  is_shown = table.shown (o / 2 ^ t.layout.shift) (names_offset p t table (Arrives p t.way w start place) code o n shows).0
 
   code_is : code ≡ code_of (stops t.way here.flags) o
-  code_is = names_code p t table (Arrives p t.way w start place) code o n tells
+  code_is = names_code p t table (Arrives p t.way w start place) code o n shows
 
   ends_here : IsTrue here.flags.ends ↔ SomeSpan N w p.root S place
   ends_here =
       let law = row_root N w here.root place S t.way.keeps here.entered here.ended arena arrived.1 in (
-        λ h. subst (λ r. SomeSpan N w r S place) arrived.0 (law.0 (sym is_told.0 ∙ h)),
-        λ h. is_told.0 ∙ law.1 (subst (λ r. SomeSpan N w r S place) (sym arrived.0) h),
+        λ h. subst (λ r. SomeSpan N w r S place) arrived.0 (law.0 (sym is_shown.0 ∙ h)),
+        λ h. is_shown.0 ∙ law.1 (subst (λ r. SomeSpan N w r S place) (sym arrived.0) h),
       )
 
   -- where the root doesn't end the last end is the one before
@@ -112,21 +112,21 @@ module _ (p : Prepared) (t : Table) (w : List ℕ) (start place code o : ℕ) (e
   -- where no leaf is entered no match goes on
   dead_end : (noted : Option ℕ) → t.way.all_starts ≡ false → IsTrue here.flags.dead → EndsBelow p t.way w start (place + 1) noted → IsPassEnd t.way.all_starts N w p.root S noted
   dead_end noted single is below =
-      let none = row_empty N w here.root place S t.way.keeps here.entered here.ended arrived.1 (is_told.1.0 is) in
+      let none = row_empty N w here.root place S t.way.keeps here.entered here.ended arrived.1 (is_shown.1.0 is) in
       let inside : p.root < length N = omega (arith, p.is_prepared.last, seen-length t.way.mirrored p.arena.expr) in
       all_below N w p.root S t.way.all_starts (place + 1) noted
       (λ k late some.
       let one = subst (λ b. IsStart (starts_of b start w) some.0) single some.1 in
       let low = one.1 in
-      dead N w here.root place some.0 k S arena (subst (λ r. r < length N) (sym arrived.0) inside) none some.1 (omega arith) (omega arith) (subst (λ r. At N w r some.0 k) (sym arrived.0) some.2))
+      dead N w here.root place some.0 k S arena (subst (λ r. r < length N) (sym arrived.0) inside) none some.1 (omega arith) (omega arith) (subst (λ r. HasSpan N w r some.0 k) (sym arrived.0) some.2))
       below
 
   pub arrive_plain : 2147483648 ≤ code → PassIs p t w start (record { offset = o; place = place; end = end; over = false })
   arrive_plain high = record {
     after = after;
     within = within;
-    state = arrived;
-    last = no_end_here (no_end t.way.keeps t.way.all_starts here.flags.ends here.flags.dead keeps (plain_code (stops t.way here.flags) o code code_is (names_small p t table (Arrives p t.way w start place) code o n tells) high));
+    arrived = arrived;
+    last = no_end_here (no_end t.way.keeps t.way.all_starts here.flags.ends here.flags.dead keeps (plain_code (stops t.way here.flags) o code code_is (names_small p t table (Arrives p t.way w start place) code o n shows) high));
     over = λ h. absurd (true≢false (sym h));
   }
 
@@ -144,7 +144,7 @@ module _ (p : Prepared) (t : Table) (w : List ℕ) (start place code o : ℕ) (e
       record {
         after = after;
         within = within;
-        state = arrived;
+        arrived = arrived;
         last = all;
         over = λ h. ⊎_elim
             (λ (all_starts : IsTrue t.way.all_starts).
@@ -175,7 +175,7 @@ goes_on p t u w start byte code edge mid next way pass is edges names arrive =
     arrive (omega arith) (omega arith)
     (subst (λ (x : Way). NamesState (length p.arena.expr.nodes) u (Arrives p x w start (mid.place + 1)) code) (sym way)
     (names_map (length p.arena.expr.nodes) u (LeadsOn (nodes_of t.way p.arena.expr) t.way a byte edge) (Arrives p t.way w start (mid.place + 1)) code
-    (λ b leads. arrives_next p t.way w start mid.place byte edge a b after is inside edges pass.state leads) names))
+    (λ b leads. arrives_next p t.way w start mid.place byte edge a b after is inside edges pass.arrived leads) names))
     (subst (λ (x : Way). EndsBelow p x w start (mid.place + 1) mid.end) (sym way) pass.last)
 
 -- by a filled cell, before the text's last byte
@@ -219,7 +219,7 @@ pass_end p t w start at low pass done =
     done
 
 -- the last node matches what the expression does
-pub root_spans : (p : Prepared) (w : List ℕ) (i k : ℕ) → At p.arena.expr.nodes w p.root i k ↔ Matches (expression_tree p.arena.expr) w i k
+pub root_spans : (p : Prepared) (w : List ℕ) (i k : ℕ) → HasSpan p.arena.expr.nodes w p.root i k ↔ Matches (expression_tree p.arena.expr) w i k
 root_spans p w i k =
     let last : length p.arena.expr.nodes - 1 ≡ p.root = (let all = p.is_prepared.last in omega arith) in
     (subst (λ x. Matches (tree_at p.arena.expr.nodes x) w i k) (sym last), subst (λ x. Matches (tree_at p.arena.expr.nodes x) w i k) last)
@@ -232,7 +232,7 @@ module _ (p : Prepared) (w : List ℕ) (from : ℕ) where
         let low = some.1.0 in
         let high = some.1.1 in
         let same : some.0 ≡ from = omega arith in
-        (root_spans p w from j).0 (subst (λ i. At p.arena.expr.nodes w p.root i j) same some.2)),
+        (root_spans p w from j).0 (subst (λ i. HasSpan p.arena.expr.nodes w p.root i j) same some.2)),
     λ k span. is.1 refl k (from, (omega arith, omega arith), (root_spans p w from k).1 span),
   )
 
@@ -305,9 +305,9 @@ passes_later e w p q s t u low grows looks over = record {
 }
 
 -- where a pass finds an end, it passed over a match
-pub passes_told : (e : Tree) (w : List ℕ) (p s t : ℕ) (end : Option ℕ) (told : Bool) → told ≡ is_some end → IfSome end (λ j. LooksPast e w p s t) → IsTrue told → LooksPast e w p s t
-passes_told e w p s t None told is over h = absurd (true≢false (sym h ∙ is))
-passes_told e w p s t (Some j) told is over h = over
+pub passes_shown : (e : Tree) (w : List ℕ) (p s t : ℕ) (end : Option ℕ) (shown : Bool) → shown ≡ is_some end → IfSome end (λ j. LooksPast e w p s t) → IsTrue shown → LooksPast e w p s t
+passes_shown e w p s t None shown is over h = absurd (true≢false (sym h ∙ is))
+passes_shown e w p s t (Some j) shown is over h = over
 
 -- Costs.
 

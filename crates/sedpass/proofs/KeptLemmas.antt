@@ -1,53 +1,53 @@
 -- What is kept of a pass backwards, and how it comes down by a place.
 use Rattle.std.proofs.Common.{inl, inr, ◌≡◌, ℕ, ◌+◌, ◌-◌, ◌*◌, ◌/◌, ◌^◌, ◌<◌, ◌≤◌, ◌↔◌, ◌⊎◌, ⊎_elim, length-set, mul-le-mul_left, mul-le-mul_right, Bool, true, false, zero, suc, List, [], ◌∷◌, length, Some, refl, sym, ap, ◌∙◌, subst, arith, true≢false, IsTrue, not, reverse, slice_get, slice_index_or, slice_set, vec_capacity, nat_lt}
-use Rattle.sedpass.proofs.Words.{div-mul-le_self, lt-div-mul-add, beq, length-reverse, get_or_default, get_or-set_same, get_or-set_other, IsArena, WrittenExpression, seen, Node, byte_is_in, Starts, At, IsStart, one_start, starts_to, IsPlace, get-reverse, AgreeBelow, row_of, Kept, cases_eq, cases_lt, lt-ltb, ltb-true, Prepared, Way, Work, Table, PlaceKind, both-iff}
+use Rattle.sedpass.proofs.Words.{div-mul-le_self, lt-div-mul-add, beq, length-reverse, get_or_default, get_or-set_same, get_or-set_other, IsArena, WrittenExpression, seen, Node, byte_is_in, Starts, HasSpan, IsStart, one_start, starts_to, IsPlace, get-reverse, AgreeBelow, row_of, Kept, cases_eq, cases_lt, lt-ltb, ltb-true, Prepared, Way, Work, Table, PlaceKind, both-iff}
 use Rattle.sedpass.specs.Regions.{IsLastIn, Opposite, ReachesEnd, MeetsAt}
 use Rattle.sedpass.specs.Rows.{bits, RowOfPlace, RowLeadsTo, IsFirstRow, SameBytes, at_begin, at_edge, nodes_of}
-use Rattle.sedpass.specs.Kept.{starts_told, ends_told, ComesDown, RowKept, KeptAt, IsLive, IsRegion, PassesDownTo, IsEdge, AllMarked, SameKept, SameSpace, EdgesFrom, IsKept, KeepsRegion, Follows, Meet}
+use Rattle.sedpass.specs.Kept.{starts_shown, ends_shown, ComesDown, RowKept, KeptAt, IsLive, IsRegion, PassesDownTo, IsEdge, AllMarked, SameKept, SameSpace, EdgesFrom, IsKept, KeepsRegion, Follows, Meet}
 use Rattle.sedpass.specs.Table.{PassState, state_of, HasRow, LeadsOn, BeginsIn, IsTable, MayBegin, SameShape, AddsStates, IsOffset}
 use Rattle.sedpass.proofs.LeaveLemmas.{last_inside, reaches_last}
 use Rattle.sedpass.proofs.RowLemmas.{behind_reaches, meet_rows, bits_agree, bits_here}
 use Rattle.sedpass.proofs.MeetingLemmas.{meets_early}
 
 -- the starts of the mirrored pass are the places where its matches end
-pub told_opposite : (all_starts : Bool) (n end : ℕ) → end ≤ n → Opposite n (starts_told all_starts n end) (ends_told all_starts n end)
-told_opposite true n end within i d sum = (λ h. (omega arith, omega arith), λ h. (omega arith, omega arith))
-told_opposite false n end within i d sum = (λ h. (omega arith, omega arith), λ h. (omega arith, omega arith))
+pub shown_opposite : (all_starts : Bool) (n end : ℕ) → end ≤ n → Opposite n (starts_shown all_starts n end) (ends_shown all_starts n end)
+shown_opposite true n end within i d sum = (λ h. (omega arith, omega arith), λ h. (omega arith, omega arith))
+shown_opposite false n end within i d sum = (λ h. (omega arith, omega arith), λ h. (omega arith, omega arith))
 
-pub told_last : (all_starts : Bool) (n end : ℕ) → end ≤ n → (ends_told all_starts n end).last ≤ n
-told_last true n end within = omega arith
-told_last false n end within = within
+pub shown_last : (all_starts : Bool) (n end : ℕ) → end ≤ n → (ends_shown all_starts n end).last ≤ n
+shown_last true n end within = omega arith
+shown_last false n end within = within
 
 -- a row of the pass shows which nodes are marked
 pub kept_reaches : (e : WrittenExpression) (w : List ℕ) (mirrored all_starts keeps : Bool) (r end q x : ℕ) (entered ended : ℕ → Bool) → IsArena e.nodes → IsTrue mirrored → IsTrue keeps → q ≤ length w → end ≤ length w →
-    RowOfPlace (seen mirrored e).nodes (reverse w) r (starts_told all_starts (length w) end) keeps (length w - q) entered ended →
-    IsTrue (ended x) ↔ ReachesEnd e.nodes w r (ends_told all_starts (length w) end) x q
+    RowOfPlace (seen mirrored e).nodes (reverse w) r (starts_shown all_starts (length w) end) keeps (length w - q) entered ended →
+    IsTrue (ended x) ↔ ReachesEnd e.nodes w r (ends_shown all_starts (length w) end) x q
 kept_reaches e w true all_starts true r end q x entered ended arena _ _ there within row =
-    behind_reaches e w r x q (length w - q) (starts_told all_starts (length w) end) (ends_told all_starts (length w) end) entered ended arena (told_opposite all_starts (length w) end within) (told_last all_starts (length w) end within) (omega arith) row
+    behind_reaches e w r x q (length w - q) (starts_shown all_starts (length w) end) (ends_shown all_starts (length w) end) entered ended arena (shown_opposite all_starts (length w) end within) (shown_last all_starts (length w) end within) (omega arith) row
 kept_reaches e w false all_starts keeps r end q x entered ended arena mirror _ there within row = absurd (true≢false (sym mirror))
 kept_reaches e w true all_starts false r end q x entered ended arena _ keep there within row = absurd (true≢false (sym keep))
 
 -- and with a row of a pass forwards whether the two meet
 pub kept_meets : (e : WrittenExpression) (w : List ℕ) (mirrored all_starts keeps other : Bool) (r a i end q : ℕ) (front front_ended entered ended : ℕ → Bool) → IsArena e.nodes → IsTrue mirrored → IsTrue keeps → q ≤ length w → end ≤ length w →
     RowOfPlace e.nodes w a (one_start i) other q front front_ended →
-    RowOfPlace (seen mirrored e).nodes (reverse w) r (starts_told all_starts (length w) end) keeps (length w - q) entered ended →
-    ((c : ℕ) × IsTrue (front c) × IsTrue (ended c)) ↔ MeetsAt e.nodes w r (ends_told all_starts (length w) end) a (one_start i) q
+    RowOfPlace (seen mirrored e).nodes (reverse w) r (starts_shown all_starts (length w) end) keeps (length w - q) entered ended →
+    ((c : ℕ) × IsTrue (front c) × IsTrue (ended c)) ↔ MeetsAt e.nodes w r (ends_shown all_starts (length w) end) a (one_start i) q
 kept_meets e w true all_starts true other r a i end q front front_ended entered ended arena _ _ there within forward_one row =
-    meet_rows e w r a q (length w - q) (one_start i) (starts_told all_starts (length w) end) (ends_told all_starts (length w) end) other front front_ended entered ended arena (told_opposite all_starts (length w) end within) (told_last all_starts (length w) end within) (omega arith) forward_one row
+    meet_rows e w r a q (length w - q) (one_start i) (starts_shown all_starts (length w) end) (ends_shown all_starts (length w) end) other front front_ended entered ended arena (shown_opposite all_starts (length w) end within) (shown_last all_starts (length w) end within) (omega arith) forward_one row
 kept_meets e w false all_starts keeps other r a i end q front front_ended entered ended arena mirror _ there within forward_one row = absurd (true≢false (sym mirror))
 kept_meets e w true all_starts false other r a i end q front front_ended entered ended arena _ keep there within forward_one row = absurd (true≢false (sym keep))
 
 -- whether a place after the first of the pass is one of its starts
-told_start : (all_starts : Bool) (n end d : ℕ) → n < d + 1 + end → d < n → IsTrue all_starts ↔ IsStart (starts_told all_starts n end) (d + 1)
-told_start true n end d after within = (λ _. (omega arith, omega arith), λ _. refl)
-told_start false n end d after within = (λ h. absurd (true≢false (sym h)), λ h. absurd (omega arith))
+shown_start : (all_starts : Bool) (n end d : ℕ) → n < d + 1 + end → d < n → IsTrue all_starts ↔ IsStart (starts_shown all_starts n end) (d + 1)
+shown_start true n end d after within = (λ _. (omega arith, omega arith), λ _. refl)
+shown_start false n end d after within = (λ h. absurd (true≢false (sym h)), λ h. absurd (omega arith))
 
 -- the row of the next place, seen from the text's end
 pub kept_step : (e : WrittenExpression) (w : List ℕ) (mirrored all_starts keeps edge : Bool) (r end q byte : ℕ) (entered ended after after_ended : ℕ → Bool) →
     q < end → end ≤ length w → slice_get w q ≡ Some byte → (IsTrue edge ↔ (q ≡ 0)) →
     RowLeadsTo (seen mirrored e).nodes r keeps entered ended (Some byte) edge all_starts after after_ended →
-    RowOfPlace (seen mirrored e).nodes (reverse w) r (starts_told all_starts (length w) end) keeps (length w - (q + 1)) entered ended →
-    RowOfPlace (seen mirrored e).nodes (reverse w) r (starts_told all_starts (length w) end) keeps (length w - q) after after_ended
+    RowOfPlace (seen mirrored e).nodes (reverse w) r (starts_shown all_starts (length w) end) keeps (length w - (q + 1)) entered ended →
+    RowOfPlace (seen mirrored e).nodes (reverse w) r (starts_shown all_starts (length w) end) keeps (length w - q) after after_ended
 kept_step e w mirrored all_starts keeps edge r end q byte entered ended after after_ended before within got last leads row =
     let n = length w in
     let d = n - (q + 1) in
@@ -56,14 +56,14 @@ kept_step e w mirrored all_starts keeps edge r end q byte entered ended after af
     let read : slice_get (reverse w) d ≡ Some byte = get-reverse w q d byte (omega arith) got in
     let bytes : SameBytes (seen mirrored e).nodes (slice_get (reverse w) d) (Some byte) = λ x members _. ap (λ b. byte_is_in b members) read in
     let edges : IsTrue edge ↔ (d + 1 ≡ length (reverse w)) = (λ h. let at : q ≡ 0 = last.0 h in omega arith, λ h. last.1 (omega arith)) in
-    subst (λ p. RowOfPlace (seen mirrored e).nodes (reverse w) r (starts_told all_starts (length w) end) keeps p after after_ended) next
-    (leads (reverse w) (starts_told all_starts n end) d bytes edges (told_start all_starts n end d (omega arith) (omega arith)) row)
+    subst (λ p. RowOfPlace (seen mirrored e).nodes (reverse w) r (starts_shown all_starts (length w) end) keeps p after after_ended) next
+    (leads (reverse w) (starts_shown all_starts n end) d bytes edges (shown_start all_starts n end d (omega arith) (omega arith)) row)
 
 -- the row in which the pass begins
 pub kept_first : (e : WrittenExpression) (w : List ℕ) (mirrored all_starts keeps : Bool) (r end : ℕ) (kind : PlaceKind) (entered ended : ℕ → Bool) → IsTrue mirrored → end ≤ length w → (IsTrue all_starts → end ≡ length w) →
     (IsTrue kind.begin ↔ (end ≡ 0)) → (IsTrue kind.end ↔ (end ≡ length w)) →
     IsFirstRow (seen mirrored e).nodes r keeps (at_begin mirrored kind) (at_edge mirrored kind) entered ended →
-    RowOfPlace (seen mirrored e).nodes (reverse w) r (starts_told all_starts (length w) end) keeps (length w - end) entered ended
+    RowOfPlace (seen mirrored e).nodes (reverse w) r (starts_shown all_starts (length w) end) keeps (length w - end) entered ended
 kept_first e w false all_starts keeps r end kind entered ended mirror within whole begins ends first = absurd (true≢false (sym mirror))
 kept_first e w true false keeps r end kind entered ended _ within whole begins ends first =
     let turned : length (reverse w) ≡ length w = length-reverse w in
@@ -396,7 +396,7 @@ kept_read p w t k q s kept before is =
 
 -- whether a node is marked at a place whose state is in the table
 pub kept_mark : (p : Prepared) (w : List ℕ) (t : Table) (k : Kept) (x q s : ℕ) (mark : Bool) → IsKept p w t k → x < length p.arena.expr.nodes → k.region.from ≤ q → q < k.region.to → s ≡ slice_index_or k.states.items q s →
-    mark ≡ slice_index_or (row_of t.ends s) x false → IsTrue mark ↔ ReachesEnd p.arena.expr.nodes w k.region.root (ends_told t.way.all_starts (length w) k.region.end) x q
+    mark ≡ slice_index_or (row_of t.ends s) x false → IsTrue mark ↔ ReachesEnd p.arena.expr.nodes w k.region.root (ends_shown t.way.all_starts (length w) k.region.end) x q
 kept_mark p w t k x q s mark kept inside above before read is =
     let m = length p.arena.expr.nodes in
     let region : IsRegion p w t k = kept.region in
@@ -404,7 +404,7 @@ kept_mark p w t k x q s mark kept inside above before read is =
     let at : KeptAt p w t.way k.region.root k.region.end q (state_of m t s) = subst (λ v. KeptAt p w t.way k.region.root k.region.end q (state_of m t v)) (sym (kept_read p w t k q s kept before read)) live.1 in
     let bit : bits m (row_of t.ends s) x ≡ mark = bits_here m (row_of t.ends s) x inside ∙ sym is in
     let there : q ≤ length w = (let h = region.within in let g = region.inside in omega (arith, h, g, before)) in
-    subst (λ b. IsTrue b ↔ ReachesEnd p.arena.expr.nodes w k.region.root (ends_told t.way.all_starts (length w) k.region.end) x q) bit
+    subst (λ b. IsTrue b ↔ ReachesEnd p.arena.expr.nodes w k.region.root (ends_shown t.way.all_starts (length w) k.region.end) x q) bit
     (kept_reaches p.arena.expr w t.way.mirrored t.way.all_starts t.way.keeps k.region.root k.region.end q x (bits m (row_of t.leaves s)) (bits m (row_of t.ends s)) region.table.expr.arena region.room.mirrored region.room.keeps there region.inside at.1)
 
 -- and its row there
@@ -417,14 +417,14 @@ kept_row p w t k q s kept above before read =
 
 -- a mark that is as asked, and one that isn't
 pub as_asked : (A : Type 0) (mark asked : Bool) → beq mark asked ≡ true → (IsTrue mark ↔ A) → IsTrue asked ↔ A
-as_asked A true true same tells = tells
-as_asked A false false same tells = tells
-as_asked A mark asked same tells = absurd (true≢false (sym same))
+as_asked A true true same shows = shows
+as_asked A false false same shows = shows
+as_asked A mark asked same shows = absurd (true≢false (sym same))
 
 pub not_asked : (A : Type 0) (mark asked : Bool) → beq mark asked ≡ false → (IsTrue mark ↔ A) → IsTrue (not asked) ↔ A
-not_asked A true false other tells = tells
-not_asked A false true other tells = tells
-not_asked A mark asked other tells = absurd (true≢false other)
+not_asked A true false other shows = shows
+not_asked A false true other shows = shows
+not_asked A mark asked other shows = absurd (true≢false other)
 
 -- a place more was passed
 pub marked_on : (nodes : List Node) (w : List ℕ) (r x : ℕ) (t : Starts) (asked : Bool) (from place : ℕ) → AllMarked nodes w r t x asked from place → (IsTrue asked ↔ ReachesEnd nodes w r t x place) → AllMarked nodes w r t x asked from (place + 1)
@@ -438,22 +438,22 @@ marked_then nodes w r x t asked from place to passed more q after before =
 
 -- a node that is last in the region, before its end
 pub mark_spans : (p : Prepared) (w : List ℕ) (t : Table) (k : Kept) (x q s : ℕ) (mark : Bool) → IsKept p w t k → t.way.all_starts ≡ false → IsLastIn p.arena.expr.nodes k.region.root x → k.region.from ≤ q → q < k.region.to → s ≡ slice_index_or k.states.items q s →
-    mark ≡ slice_index_or (row_of t.ends s) x false → IsTrue mark ↔ At p.arena.expr.nodes w x q k.region.end
+    mark ≡ slice_index_or (row_of t.ends s) x false → IsTrue mark ↔ HasSpan p.arena.expr.nodes w x q k.region.end
 mark_spans p w t k x q s mark kept one last above before read is =
     let arena = kept.region.table.expr.arena in
     let up = last_inside p.arena.expr.nodes w k.region.root (one_start k.region.end) arena x last in
-    let tells : IsTrue mark ↔ ReachesEnd p.arena.expr.nodes w k.region.root (ends_told t.way.all_starts (length w) k.region.end) x q = kept_mark p w t k x q s mark kept (omega (arith, kept.region.root.0, up)) above before read is in
+    let shows : IsTrue mark ↔ ReachesEnd p.arena.expr.nodes w k.region.root (ends_shown t.way.all_starts (length w) k.region.end) x q = kept_mark p w t k x q s mark kept (omega (arith, kept.region.root.0, up)) above before read is in
     let same : IsTrue mark ↔ ReachesEnd p.arena.expr.nodes w k.region.root (one_start k.region.end) x q =
-    subst (λ b. IsTrue mark ↔ ReachesEnd p.arena.expr.nodes w k.region.root (ends_told b (length w) k.region.end) x q) one tells in
+    subst (λ b. IsTrue mark ↔ ReachesEnd p.arena.expr.nodes w k.region.root (ends_shown b (length w) k.region.end) x q) one shows in
     let both = reaches_last p.arena.expr.nodes w k.region.root k.region.end x q arena last in
     (λ h. both.0 (same.0 h), λ h. same.1 (both.1 h))
 
 -- what is said of the region stays so over calls
-pub told_as : (P : ℕ → Starts → Type 0) (p : Prepared) (w : List ℕ) (t after : Table) (k other : Kept) → KeepsRegion p w t after k other → P other.region.root (ends_told after.way.all_starts (length w) other.region.end) →
-    P k.region.root (ends_told t.way.all_starts (length w) k.region.end)
-told_as P p w t after k other keeps told =
-    subst (λ (v : Way). P k.region.root (ends_told v.all_starts (length w) k.region.end)) keeps.shape.0
-    (subst (λ e. P k.region.root (ends_told after.way.all_starts (length w) e)) keeps.same.end (subst (λ r. P r (ends_told after.way.all_starts (length w) other.region.end)) keeps.same.root told))
+pub shown_as : (P : ℕ → Starts → Type 0) (p : Prepared) (w : List ℕ) (t after : Table) (k other : Kept) → KeepsRegion p w t after k other → P other.region.root (ends_shown after.way.all_starts (length w) other.region.end) →
+    P k.region.root (ends_shown t.way.all_starts (length w) k.region.end)
+shown_as P p w t after k other keeps shown =
+    subst (λ (v : Way). P k.region.root (ends_shown v.all_starts (length w) k.region.end)) keeps.shape.0
+    (subst (λ e. P k.region.root (ends_shown after.way.all_starts (length w) e)) keeps.same.end (subst (λ r. P r (ends_shown after.way.all_starts (length w) other.region.end)) keeps.same.root shown))
 
 -- the same, where only the marks for its acts changed
 pub keeps_same : (p : Prepared) (w : List ℕ) (t : Table) (k other : Kept) → other.region ≡ k.region → other.states ≡ k.states → other.edges ≡ k.edges → IsKept p w t k → KeepsRegion p w t t k other
@@ -480,23 +480,23 @@ keeps_same p w t k other region states edges kept =
 
 -- Where they meet.
 
-bit_tells : (m : ℕ) (marks : List Bool) (c : ℕ) → IsTrue (bits m marks c) ↔ ((c < m) × IsTrue (slice_index_or marks c false))
-bit_tells m marks c = both-iff (nat_lt c m) (slice_index_or marks c false) (c < m) (IsTrue (slice_index_or marks c false)) (ltb-true c m, lt-ltb c m) (λ h. h, λ h. h)
+bit_shows : (m : ℕ) (marks : List Bool) (c : ℕ) → IsTrue (bits m marks c) ↔ ((c < m) × IsTrue (slice_index_or marks c false))
+bit_shows m marks c = both-iff (nat_lt c m) (slice_index_or marks c false) (c < m) (IsTrue (slice_index_or marks c false)) (ltb-true c m, lt-ltb c m) (λ h. h, λ h. h)
 
 -- two rows show whether they have a mark in common
 bits_meet : (m : ℕ) (front behind : List Bool) (met : Bool) → (IsTrue met ↔ ((c : ℕ) × (c < m) × IsTrue (slice_index_or front c false) × IsTrue (slice_index_or behind c false))) →
     IsTrue met ↔ ((c : ℕ) × IsTrue (bits m front c) × IsTrue (bits m behind c))
-bits_meet m front behind met tells = (
-  λ h. let there = tells.0 h in (there.0, (bit_tells m front there.0).1 (there.1, there.2), (bit_tells m behind there.0).1 (there.1, there.3)),
-  λ h. let one = (bit_tells m front h.0).0 h.1 in tells.1 (h.0, one.0, one.1, ((bit_tells m behind h.0).0 h.2).1),
+bits_meet m front behind met shows = (
+  λ h. let there = shows.0 h in (there.0, (bit_shows m front there.0).1 (there.1, there.2), (bit_shows m behind there.0).1 (there.1, there.3)),
+  λ h. let one = (bit_shows m front h.0).0 h.1 in shows.1 (h.0, one.0, one.1, ((bit_shows m behind h.0).0 h.2).1),
 )
 
 -- and so whether the passes meet at the place, as its state is read
 pub meet_read : (p : Prepared) (w : List ℕ) (t forward_one : Table) (k : Kept) (a i place offset n front_state s : ℕ) (met : Bool) → IsKept p w t k → k.region.from ≤ place → place < k.region.to → Follows p w forward_one a i place offset →
     n ≡ length p.arena.expr.nodes → front_state ≡ offset / 2 ^ forward_one.layout.shift → s ≡ slice_index_or k.states.items place s →
     (IsTrue met ↔ ((c : ℕ) × (c < n) × IsTrue (slice_index_or (row_of forward_one.leaves front_state) c false) × IsTrue (slice_index_or (row_of t.ends s) c false))) →
-    IsTrue met ↔ MeetsAt p.arena.expr.nodes w k.region.root (ends_told t.way.all_starts (length w) k.region.end) a (one_start i) place
-meet_read p w t forward_one k a i place offset n front_state s met kept above before follows count front_is read tells =
+    IsTrue met ↔ MeetsAt p.arena.expr.nodes w k.region.root (ends_shown t.way.all_starts (length w) k.region.end) a (one_start i) place
+meet_read p w t forward_one k a i place offset n front_state s met kept above before follows count front_is read shows =
     let m = length p.arena.expr.nodes in
     let region : IsRegion p w t k = kept.region in
     let front = state_of m forward_one (offset / 2 ^ forward_one.layout.shift) in
@@ -506,29 +506,29 @@ meet_read p w t forward_one k a i place offset n front_state s met kept above be
     let there : place ≤ length w = (let h = region.within in let g = region.inside in omega (arith, h, g, before)) in
     let one : IsTrue met ↔ ((c : ℕ) × IsTrue (front.entered c) × IsTrue (behind.ended c)) = bits_meet m (row_of forward_one.leaves (offset / 2 ^ forward_one.layout.shift)) (row_of t.ends s) met
     (subst (λ v. IsTrue met ↔ ((c : ℕ) × (c < m) × IsTrue (slice_index_or (row_of forward_one.leaves v) c false) × IsTrue (slice_index_or (row_of t.ends s) c false))) front_is
-    (subst (λ v. IsTrue met ↔ ((c : ℕ) × (c < v) × IsTrue (slice_index_or (row_of forward_one.leaves front_state) c false) × IsTrue (slice_index_or (row_of t.ends s) c false))) count tells)) in
+    (subst (λ v. IsTrue met ↔ ((c : ℕ) × (c < v) × IsTrue (slice_index_or (row_of forward_one.leaves front_state) c false) × IsTrue (slice_index_or (row_of t.ends s) c false))) count shows)) in
     let row : RowOfPlace p.arena.expr.nodes w a (one_start i) forward_one.way.keeps place front.entered front.ended = subst (λ r. RowOfPlace p.arena.expr.nodes w r (one_start i) forward_one.way.keeps place front.entered front.ended) follows.0 follows.1 in
     let two = kept_meets p.arena.expr w t.way.mirrored t.way.all_starts t.way.keeps forward_one.way.keeps k.region.root a i k.region.end place front.entered front.ended behind.entered behind.ended
     region.table.expr.arena region.room.mirrored region.room.keeps there region.inside row at.1 in
     (λ h. two.0 (one.0 h), λ h. one.1 (two.1 h))
 
 -- a place more
-pub meet_on : (p : Prepared) (w : List ℕ) (t : Table) (k : Kept) (a i from place : ℕ) → Meet p w t k a i from place → MeetsAt p.arena.expr.nodes w k.region.root (ends_told t.way.all_starts (length w) k.region.end) a (one_start i) place →
+pub meet_on : (p : Prepared) (w : List ℕ) (t : Table) (k : Kept) (a i from place : ℕ) → Meet p w t k a i from place → MeetsAt p.arena.expr.nodes w k.region.root (ends_shown t.way.all_starts (length w) k.region.end) a (one_start i) place →
     Meet p w t k a i from (place + 1)
 meet_on p w t k a i from place met here q after before =
     ⊎_elim (λ (lt : q < place). met q after lt)
-    (λ (ge : place ≤ q). let e : place ≡ q = omega arith in subst (λ y. MeetsAt p.arena.expr.nodes w k.region.root (ends_told t.way.all_starts (length w) k.region.end) a (one_start i) y) e here) (cases_lt q place)
+    (λ (ge : place ≤ q). let e : place ≡ q = omega arith in subst (λ y. MeetsAt p.arena.expr.nodes w k.region.root (ends_shown t.way.all_starts (length w) k.region.end) a (one_start i) y) e here) (cases_lt q place)
 
 -- nowhere at the region's end
-pub meet_end : (p : Prepared) (w : List ℕ) (t : Table) (k : Kept) (a i : ℕ) → IsKept p w t k → MeetsAt p.arena.expr.nodes w k.region.root (ends_told t.way.all_starts (length w) k.region.end) a (one_start i) k.region.end → ⊥
+pub meet_end : (p : Prepared) (w : List ℕ) (t : Table) (k : Kept) (a i : ℕ) → IsKept p w t k → MeetsAt p.arena.expr.nodes w k.region.root (ends_shown t.way.all_starts (length w) k.region.end) a (one_start i) k.region.end → ⊥
 meet_end p w t k a i kept met =
-    let before : k.region.end < (ends_told t.way.all_starts (length w) k.region.end).last =
-    meets_early p.arena.expr.nodes w k.region.root a k.region.end (one_start i) (ends_told t.way.all_starts (length w) k.region.end) kept.region.table.expr.arena met in
-    last_told t.way.all_starts (length w) k.region.end kept.region.whole before
+    let before : k.region.end < (ends_shown t.way.all_starts (length w) k.region.end).last =
+    meets_early p.arena.expr.nodes w k.region.root a k.region.end (one_start i) (ends_shown t.way.all_starts (length w) k.region.end) kept.region.table.expr.arena met in
+    last_shown t.way.all_starts (length w) k.region.end kept.region.whole before
   where
-    last_told : (all_starts : Bool) (n end : ℕ) → (IsTrue all_starts → end ≡ n) → end < (ends_told all_starts n end).last → ⊥
-    last_told true n end whole before = let e : end ≡ n = whole refl in omega arith
-    last_told false n end whole before = omega arith
+    last_shown : (all_starts : Bool) (n end : ℕ) → (IsTrue all_starts → end ≡ n) → end < (ends_shown all_starts n end).last → ⊥
+    last_shown true n end whole before = let e : end ≡ n = whole refl in omega arith
+    last_shown false n end whole before = omega arith
 
 -- How the pass forwards goes on.
 

@@ -1,16 +1,16 @@
 -- How a part is left, by what follows it in its node, and what a node is left to that nothing follows.
 use Rattle.std.proofs.Common.{◌≡◌, ℕ, ◌+◌, ◌-◌, ◌<◌, ◌≤◌, ◌⊎◌, ◌↔◌, true, List, length, reverse, Some, refl, sym, ap, ◌∙◌, subst, inl, inr, ⊎_elim, arith, slice_get}
-use Rattle.sedpass.proofs.Words.{cases_lt, IsArena, IsPart, HasTwoParts, WrittenExpression, tree_at, mirror_node, seen, seen-node, old_node, Node, Seq, Alt, Group, Star, Opt, Starts, no_copy, At, BeginsWith, IsStart, one_start, Enters, at_root, with_whole, after_left, again, Ends, Matches-forward, close_at, same_node, At-mirror}
-use Rattle.sedpass.specs.Regions.{EndsWith, Leaves, at_end, with_end, before_right, before_copies, ReachesEnd, EndsPastIn, Opposite, IsLastPart, IsLastIn, all_of, last_of}
+use Rattle.sedpass.proofs.Words.{cases_lt, IsArena, IsPart, HasTwoParts, WrittenExpression, tree_at, mirror_node, seen, seen-node, old_node, Node, Seq, Alt, Group, Star, Opt, Starts, no_copy, HasSpan, BeginsWith, IsStart, one_start, Enters, at_root, with_whole, after_left, again, CanEnd, Matches-forward, close_at, same_node, HasSpan-mirror}
+use Rattle.sedpass.specs.Regions.{EndsWith, CanLeave, at_end, with_end, before_right, before_copies, ReachesEnd, EndsPastIn, Opposite, IsLastPart, IsLastIn, all_of, last_of}
 
 -- how the part c of the node at y is left at i
 abbrev pub OutOf : List Node → List ℕ → ℕ → Starts → ℕ → ℕ → ℕ → Node → Type 0
 OutOf nodes w r t y c i (Seq a b) =
-    ((b.index ≡ c) × Leaves nodes w r t y i) ⊎ ((a.index ≡ c) × ((k : ℕ) × Leaves nodes w r t y k × At nodes w b.index i k))
-OutOf nodes w r t y c i (Alt a b) = Leaves nodes w r t y i
-OutOf nodes w r t y c i (Group k a) = Leaves nodes w r t y i
-OutOf nodes w r t y c i (Star a first) = (k : ℕ) × Leaves nodes w r t y k × At nodes w y i k
-OutOf nodes w r t y c i (Opt a first) = Leaves nodes w r t y i
+    ((b.index ≡ c) × CanLeave nodes w r t y i) ⊎ ((a.index ≡ c) × ((k : ℕ) × CanLeave nodes w r t y k × HasSpan nodes w b.index i k))
+OutOf nodes w r t y c i (Alt a b) = CanLeave nodes w r t y i
+OutOf nodes w r t y c i (Group k a) = CanLeave nodes w r t y i
+OutOf nodes w r t y c i (Star a first) = (k : ℕ) × CanLeave nodes w r t y k × HasSpan nodes w y i k
+OutOf nodes w r t y c i (Opt a first) = CanLeave nodes w r t y i
 OutOf nodes w r t y c i other = ⊥
 
 EndsWith-part : (node : Node) (c : ℕ) → EndsWith node c → IsPart node c
@@ -23,7 +23,7 @@ IsLastPart-ends other c h = h
 
 module _ (nodes : List Node) (w : List ℕ) (r : ℕ) (t : Starts) (arena : IsArena nodes) where
   -- a part that ends where its node does
-  OutOf-with_end : (y c i : ℕ) (node : Node) → slice_get nodes y ≡ Some node → EndsWith node c → Leaves nodes w r t y i → OutOf nodes w r t y c i node
+  OutOf-with_end : (y c i : ℕ) (node : Node) → slice_get nodes y ≡ Some node → EndsWith node c → CanLeave nodes w r t y i → OutOf nodes w r t y c i node
   OutOf-with_end y c i (Seq a b) is ends l = inl (ends, l)
   OutOf-with_end y c i (Alt a b) is ends l = l
   OutOf-with_end y c i (Group k a) is ends l = l
@@ -38,40 +38,40 @@ module _ (nodes : List Node) (w : List ℕ) (r : ℕ) (t : Starts) (arena : IsAr
       subst (λ v. OutOf nodes w r t v c i node) both.0 (subst (λ n. OutOf nodes w r t z c i n) both.1 out)
 
   -- a part is left through its node alone
-  pub Leaves-part : (y : ℕ) → y ≤ r → (c i : ℕ) (node : Node) → slice_get nodes y ≡ Some node → IsPart node c → Leaves nodes w r t c i → OutOf nodes w r t y c i node
-  Leaves-part y le c i node is part (at_end _ _ last stop) =
+  pub CanLeave-part : (y : ℕ) → y ≤ r → (c i : ℕ) (node : Node) → slice_get nodes y ≡ Some node → IsPart node c → CanLeave nodes w r t c i → OutOf nodes w r t y c i node
+  CanLeave-part y le c i node is part (at_end _ _ last stop) =
       let below : c < y = arena.below y c node is part in
       absurd (omega arith)
-  Leaves-part y le c i node is part (with_end z _ _ other is' ends l) =
+  CanLeave-part y le c i node is part (with_end z _ _ other is' ends l) =
       moved y z c i node other is is' part (EndsWith-part other c ends) (OutOf-with_end z c i other is' ends l)
-  Leaves-part y le c i node is part (before_right z _ _ k a b is' left l at) =
+  CanLeave-part y le c i node is part (before_right z _ _ k a b is' left l at) =
       moved y z c i node (Seq a b) is is' part (inl left) (inr (left, (k, l, at)))
-  Leaves-part y le c i node is part (before_copies z _ _ k a first is' inner l at) =
+  CanLeave-part y le c i node is part (before_copies z _ _ k a first is' inner l at) =
       moved y z c i node (Star a first) is is' part inner (k, l, at)
 
   -- only r and nodes below it are left, r at the ends alone, and nothing after the last end
-  pub Leaves-all : (x i : ℕ) → Leaves nodes w r t x i → (x ≤ r) × (x ≡ r → IsStart t i) × (i ≤ t.last)
-  Leaves-all x i (at_end _ _ last stop) = (omega arith, λ _. stop, omega arith)
-  Leaves-all x i (with_end z _ _ other is' ends l) =
-      let up = Leaves-all z i l in
+  pub CanLeave-all : (x i : ℕ) → CanLeave nodes w r t x i → (x ≤ r) × (x ≡ r → IsStart t i) × (i ≤ t.last)
+  CanLeave-all x i (at_end _ _ last stop) = (omega arith, λ _. stop, omega arith)
+  CanLeave-all x i (with_end z _ _ other is' ends l) =
+      let up = CanLeave-all z i l in
       let below : x < z = arena.below z x other is' (EndsWith-part other x ends) in
       (omega (arith, up.0), λ same. absurd (omega (arith, up.0, same)), up.2)
-  Leaves-all x i (before_right z _ _ k a b is' left l at) =
-      let up = Leaves-all z k l in
+  CanLeave-all x i (before_right z _ _ k a b is' left l at) =
+      let up = CanLeave-all z k l in
       let below : x < z = arena.below z x (Seq a b) is' (inl left) in
       let on = Matches-forward (tree_at nodes b.index) w i k at in
       (omega (arith, up.0), λ same. absurd (omega (arith, up.0, same)), omega (arith, up.2))
-  Leaves-all x i (before_copies z _ _ k a first is' inner l at) =
-      let up = Leaves-all z k l in
+  CanLeave-all x i (before_copies z _ _ k a first is' inner l at) =
+      let up = CanLeave-all z k l in
       let below : x < z = arena.below z x (Star a first) is' inner in
       let on = Matches-forward (tree_at nodes z) w i k at in
       (omega (arith, up.0), λ same. absurd (omega (arith, up.0, same)), omega (arith, up.2))
 
-  pub Leaves-to : (x i : ℕ) → Leaves nodes w r t x i → i ≤ t.last
-  Leaves-to x i l = (Leaves-all x i l).2
+  pub CanLeave-to : (x i : ℕ) → CanLeave nodes w r t x i → i ≤ t.last
+  CanLeave-to x i l = (CanLeave-all x i l).2
 
   -- a part that ends wherever its node does is left where the node is
-  OutOf-last : (y c i : ℕ) (node : Node) → HasTwoParts node → IsLastPart node c → OutOf nodes w r t y c i node → Leaves nodes w r t y i
+  OutOf-last : (y c i : ℕ) (node : Node) → HasTwoParts node → IsLastPart node c → OutOf nodes w r t y c i node → CanLeave nodes w r t y i
   OutOf-last y c i (Seq a b) two last (inl out) = out.1
   OutOf-last y c i (Seq a b) two last (inr out) = absurd (two (out.0 ∙ sym last))
   OutOf-last y c i (Alt a b) two last out = out
@@ -88,33 +88,33 @@ module _ (nodes : List Node) (w : List ℕ) (r : ℕ) (t : Starts) (arena : IsAr
       omega arith
 
   -- a node that nothing follows is left at the ends, and nowhere else
-  pub Leaves-last : (x i : ℕ) → IsLastIn nodes r x → IsStart t i → Leaves nodes w r t x i
-  Leaves-last x i (all_of _ same) stop = at_end x i same stop
-  Leaves-last x i (last_of y _ node is last up) stop = with_end y x i node is (IsLastPart-ends node x last) (Leaves-last y i up stop)
+  pub CanLeave-last : (x i : ℕ) → IsLastIn nodes r x → IsStart t i → CanLeave nodes w r t x i
+  CanLeave-last x i (all_of _ same) stop = at_end x i same stop
+  CanLeave-last x i (last_of y _ node is last up) stop = with_end y x i node is (IsLastPart-ends node x last) (CanLeave-last y i up stop)
 
-  pub last-leaves : (x i : ℕ) → IsLastIn nodes r x → Leaves nodes w r t x i → IsStart t i
-  last-leaves x i (all_of _ same) l = (Leaves-all x i l).1 same
+  pub last-leaves : (x i : ℕ) → IsLastIn nodes r x → CanLeave nodes w r t x i → IsStart t i
+  last-leaves x i (all_of _ same) l = (CanLeave-all x i l).1 same
   last-leaves x i (last_of y _ node is last up) l =
       let part = EndsWith-part node x (IsLastPart-ends node x last) in
-      last-leaves y i up (OutOf-last y x i node (arena.distinct y node is) last (Leaves-part y (last_inside y up) x i node is part l))
+      last-leaves y i up (OutOf-last y x i node (arena.distinct y node is) last (CanLeave-part y (last_inside y up) x i node is part l))
 
 -- a node that is last in r is marked exactly where it matches up to one of the ends
-pub reaches_ends : (nodes : List Node) (w : List ℕ) (r x p : ℕ) (t : Starts) → IsArena nodes → IsLastIn nodes r x → ReachesEnd nodes w r t x p ↔ ((k : ℕ) × IsStart t k × At nodes w x p k)
-reaches_ends nodes w r x p t arena last = (λ h. (h.0, last-leaves nodes w r t arena x h.0 last h.2, h.1), λ h. (h.0, h.2, Leaves-last nodes w r t arena x h.0 last h.1))
+pub reaches_ends : (nodes : List Node) (w : List ℕ) (r x p : ℕ) (t : Starts) → IsArena nodes → IsLastIn nodes r x → ReachesEnd nodes w r t x p ↔ ((k : ℕ) × IsStart t k × HasSpan nodes w x p k)
+reaches_ends nodes w r x p t arena last = (λ h. (h.0, last-leaves nodes w r t arena x h.0 last h.2, h.1), λ h. (h.0, h.2, CanLeave-last nodes w r t arena x h.0 last h.1))
 
-pub reaches_last : (nodes : List Node) (w : List ℕ) (r j x p : ℕ) → IsArena nodes → IsLastIn nodes r x → ReachesEnd nodes w r (one_start j) x p ↔ At nodes w x p j
+pub reaches_last : (nodes : List Node) (w : List ℕ) (r j x p : ℕ) → IsArena nodes → IsLastIn nodes r x → ReachesEnd nodes w r (one_start j) x p ↔ HasSpan nodes w x p j
 reaches_last nodes w r j x p arena last =
     let both = reaches_ends nodes w r x p (one_start j) arena last in (
       λ h.
           let g = both.0 h in
           let stop = g.1 in
           let same : g.0 ≡ j = omega arith in
-          subst (λ v. At nodes w x p v) same g.2,
+          subst (λ v. HasSpan nodes w x p v) same g.2,
       λ at. both.1 (j, (omega arith, omega arith), at),
     )
 
 -- a node ends with a byte or without
-pub ends_at : (nodes : List Node) (w : List ℕ) (r x q : ℕ) (s : Starts) → EndsPastIn nodes w r s x q ↔ (Ends nodes w r s x q ⊎ (Enters nodes w r s x q × At nodes w x q q))
+pub ends_at : (nodes : List Node) (w : List ℕ) (r x q : ℕ) (s : Starts) → EndsPastIn nodes w r s x q ↔ (CanEnd nodes w r s x q ⊎ (Enters nodes w r s x q × HasSpan nodes w x q q))
 ends_at nodes w r x q s = (
   λ h.
       let on = Matches-forward (tree_at nodes x) w h.0 q h.2 in
@@ -122,7 +122,7 @@ ends_at nodes w r x q s = (
       (λ (lt : h.0 < q). inl (h.0, lt, h.1, h.2))
       (λ (ge : q ≤ h.0).
       let same : h.0 ≡ q = omega arith in
-      inr (subst (λ v. Enters nodes w r s x v) same h.1, subst (λ v. At nodes w x v q) same h.2))
+      inr (subst (λ v. Enters nodes w r s x v) same h.1, subst (λ v. HasSpan nodes w x v q) same h.2))
       (cases_lt h.0 q),
   λ h. elim h [ inl ends ↦ (ends.0, ends.2, ends.3) | inr null ↦ (q, null.0, null.1) ],
 )
@@ -149,51 +149,51 @@ module _ (e : WrittenExpression) (w : List ℕ) (r : ℕ) (s t : Starts) (arena 
       old.1 ∙ ap (λ (n : Node). Some n) (sym (twice old.0) ∙ ap mirror_node old.2)
 
   -- a way out is a way in from the other end
-  pub Leaves-mirror : (x i d : ℕ) → i + d ≡ length w → Leaves e.nodes w r t x i → Enters (seen true e).nodes (reverse w) r s x d
-  Leaves-mirror x i d sum (at_end _ _ last stop) = at_root x d last ((opposite i d sum).1 stop)
-  Leaves-mirror x i d sum (with_end y _ _ node is ends l) =
-      with_whole y x d (mirror_node node) (seen-node true e y node is) (ends-begins node x ends) (Leaves-mirror y i d sum l)
-  Leaves-mirror x i d sum (before_right y _ _ k a b is left l at) =
-      let top = Leaves-to e.nodes w r t arena y k l in
+  pub CanLeave-mirror : (x i d : ℕ) → i + d ≡ length w → CanLeave e.nodes w r t x i → Enters (seen true e).nodes (reverse w) r s x d
+  CanLeave-mirror x i d sum (at_end _ _ last stop) = at_root x d last ((opposite i d sum).1 stop)
+  CanLeave-mirror x i d sum (with_end y _ _ node is ends l) =
+      with_whole y x d (mirror_node node) (seen-node true e y node is) (ends-begins node x ends) (CanLeave-mirror y i d sum l)
+  CanLeave-mirror x i d sum (before_right y _ _ k a b is left l at) =
+      let top = CanLeave-to e.nodes w r t arena y k l in
       let g = length w - k in
       let middle : k + g ≡ length w = omega arith in
-      after_left y x g d b a (seen-node true e y (Seq a b) is) left (Leaves-mirror y k g middle l)
-      ((At-mirror e (seen true e) w (reverse w) b.index i k d g refl refl sum middle).0 at)
-  Leaves-mirror x i d sum (before_copies y _ _ k a first is inner l at) =
-      let top = Leaves-to e.nodes w r t arena y k l in
+      after_left y x g d b a (seen-node true e y (Seq a b) is) left (CanLeave-mirror y k g middle l)
+      ((HasSpan-mirror e (seen true e) w (reverse w) b.index i k d g refl refl sum middle).0 at)
+  CanLeave-mirror x i d sum (before_copies y _ _ k a first is inner l at) =
+      let top = CanLeave-to e.nodes w r t arena y k l in
       let g = length w - k in
       let middle : k + g ≡ length w = omega arith in
-      again y x g d a first (seen-node true e y (Star a first) is) inner (Leaves-mirror y k g middle l)
-      ((At-mirror e (seen true e) w (reverse w) y i k d g refl refl sum middle).0 at)
+      again y x g d a first (seen-node true e y (Star a first) is) inner (CanLeave-mirror y k g middle l)
+      ((HasSpan-mirror e (seen true e) w (reverse w) y i k d g refl refl sum middle).0 at)
 
-  pub Leaves-unmirror : (x d i : ℕ) → i + d ≡ length w → Enters (seen true e).nodes (reverse w) r s x d → Leaves e.nodes w r t x i
-  Leaves-unmirror x d i sum (at_root _ _ last start) = at_end x i last ((opposite i d sum).0 start)
-  Leaves-unmirror x d i sum (with_whole y _ _ node is begins enters) =
-      with_end y x i (mirror_node node) (unmirrored y node is) (begins-ends node x begins) (Leaves-unmirror y d i sum enters)
-  Leaves-unmirror x d i sum (after_left y _ g _ a b is right enters at) =
+  pub CanLeave-unmirror : (x d i : ℕ) → i + d ≡ length w → Enters (seen true e).nodes (reverse w) r s x d → CanLeave e.nodes w r t x i
+  CanLeave-unmirror x d i sum (at_root _ _ last start) = at_end x i last ((opposite i d sum).0 start)
+  CanLeave-unmirror x d i sum (with_whole y _ _ node is begins enters) =
+      with_end y x i (mirror_node node) (unmirrored y node is) (begins-ends node x begins) (CanLeave-unmirror y d i sum enters)
+  CanLeave-unmirror x d i sum (after_left y _ g _ a b is right enters at) =
       let on = Matches-forward (tree_at (seen true e).nodes a.index) (reverse w) g d at in
       let k = length w - g in
       let middle : k + g ≡ length w = omega arith in
-      before_right y x i k b a (unmirrored y (Seq a b) is) right (Leaves-unmirror y g k middle enters)
-      ((At-mirror e (seen true e) w (reverse w) a.index i k d g refl refl sum middle).1 at)
-  Leaves-unmirror x d i sum (again y _ g _ a first is inner enters at) =
+      before_right y x i k b a (unmirrored y (Seq a b) is) right (CanLeave-unmirror y g k middle enters)
+      ((HasSpan-mirror e (seen true e) w (reverse w) a.index i k d g refl refl sum middle).1 at)
+  CanLeave-unmirror x d i sum (again y _ g _ a first is inner enters at) =
       let on = Matches-forward (tree_at (seen true e).nodes y) (reverse w) g d at in
       let k = length w - g in
       let middle : k + g ≡ length w = omega arith in
-      before_copies y x i k a first (unmirrored y (Star a first) is) inner (Leaves-unmirror y g k middle enters)
-      ((At-mirror e (seen true e) w (reverse w) y i k d g refl refl sum middle).1 at)
+      before_copies y x i k a first (unmirrored y (Star a first) is) inner (CanLeave-unmirror y g k middle enters)
+      ((HasSpan-mirror e (seen true e) w (reverse w) y i k d g refl refl sum middle).1 at)
 
   -- so a mark is one of a pass of the mirrored expression over the text read from its end
   pub reaches_mirror : (x p d : ℕ) → p + d ≡ length w → ReachesEnd e.nodes w r t x p ↔ EndsPastIn (seen true e).nodes (reverse w) r s x d
   reaches_mirror x p d sum = (
     λ h.
-        let top = Leaves-to e.nodes w r t arena x h.0 h.2 in
+        let top = CanLeave-to e.nodes w r t arena x h.0 h.2 in
         let g = length w - h.0 in
         let end : h.0 + g ≡ length w = omega arith in
-        (g, Leaves-mirror x h.0 g end h.2, (At-mirror e (seen true e) w (reverse w) x p h.0 d g refl refl sum end).0 h.1),
+        (g, CanLeave-mirror x h.0 g end h.2, (HasSpan-mirror e (seen true e) w (reverse w) x p h.0 d g refl refl sum end).0 h.1),
     λ h.
         let on = Matches-forward (tree_at (seen true e).nodes x) (reverse w) h.0 d h.2 in
         let k = length w - h.0 in
         let end : k + h.0 ≡ length w = omega arith in
-        (k, (At-mirror e (seen true e) w (reverse w) x p k d h.0 refl refl sum end).1 h.2, Leaves-unmirror x h.0 k end h.1),
+        (k, (HasSpan-mirror e (seen true e) w (reverse w) x p k d h.0 refl refl sum end).1 h.2, CanLeave-unmirror x h.0 k end h.1),
   )

@@ -1,10 +1,10 @@
 -- Where a pass forwards over a part and a pass backwards over what holds the part meet, a match of the part goes on and
 -- the end is reached.
 use Rattle.std.proofs.Common.{◌≡◌, ℕ, zero, suc, ◌+◌, ◌-◌, ◌<◌, ◌≤◌, ◌⊎◌, ◌↔◌, Bool, List, length, Some, refl, sym, ◌∙◌, subst, inl, inr, ⊎_elim, arith, slice_get}
-use Rattle.sedpass.proofs.Words.{cases_lt, slice_get_within, IsArena, tree_at, Node, NodeId, Empty, Set, Begin, End, Seq, Alt, Group, Star, Opt, Starts, CopiesLead, no_copy, one_more, LastCut, LastCopy, only, then, IsRepetitionOf, At, BeginsWith, IsStart, one_start, Enters, at_root, with_whole, after_left, again, Matches-forward, CopiesLead-forward, CopiesLead-append, open_at, close_at, Enters-inside, star_copies, BeginsWith-part, node_at}
-use Rattle.sedpass.specs.Regions.{Leaves, with_end, before_right, before_copies, ReachesEnd, IsLastIn, all_of, MeetsAt, MatchesBeyond, CeasesAt, NextCopy, IsRunOf, repeated, in_group}
+use Rattle.sedpass.proofs.Words.{cases_lt, slice_get_within, IsArena, tree_at, Node, NodeId, Empty, Set, Begin, End, Seq, Alt, Group, Star, Opt, Starts, CopiesLead, no_copy, one_more, LastCut, LastCopy, only, then, IsRepetitionOf, HasSpan, BeginsWith, IsStart, one_start, Enters, at_root, with_whole, after_left, again, Matches-forward, CopiesLead-forward, CopiesLead-append, open_at, close_at, Enters-inside, star_copies, BeginsWith-part, node_at}
+use Rattle.sedpass.specs.Regions.{CanLeave, with_end, before_right, before_copies, ReachesEnd, IsLastIn, all_of, MeetsAt, MatchesBeyond, CeasesAt, NextCopy, IsRunOf, repeated, in_group}
 use Rattle.sedtext.proofs.FixedRunLemmas.{CopiesLead-join}
-use Rattle.sedpass.proofs.LeaveLemmas.{OutOf, Leaves-part, Leaves-to, last_inside, last-leaves, Leaves-last}
+use Rattle.sedpass.proofs.LeaveLemmas.{OutOf, CanLeave-part, CanLeave-to, last_inside, last-leaves, CanLeave-last}
 
 -- copies that pass j have one that passes it, and copies lead from its end to theirs
 CopiesLead-cross : (R : ℕ → ℕ → Type 0) (P : ℕ → Type 0) (G : Type 0) (j k : ℕ) →
@@ -27,42 +27,42 @@ first_copy R j i (one_more _ l lt r rest) some = (l, lt, r, rest)
 module _ (nodes : List Node) (w : List ℕ) (r : ℕ) (t : Starts) (a : ℕ) (s : Starts) (arena : IsArena nodes) (within : a ≤ r) where
   -- the node with this part spans p to k, and is left there
   abbrev Wider : ℕ → ℕ → ℕ → Type 0
-  Wider y p q = (k : ℕ) × (q ≤ k) × At nodes w y p k × Leaves nodes w r t y k
+  Wider y p q = (k : ℕ) × (q ≤ k) × HasSpan nodes w y p k × CanLeave nodes w r t y k
 
   -- from a part that begins where its node does
-  wider : (y x : ℕ) (node : Node) → slice_get nodes y ≡ Some node → BeginsWith node x → (p q : ℕ) → At nodes w x p q → OutOf nodes w r t y x q node → Wider y p q
+  wider : (y x : ℕ) (node : Node) → slice_get nodes y ≡ Some node → BeginsWith node x → (p q : ℕ) → HasSpan nodes w x p q → OutOf nodes w r t y x q node → Wider y p q
   wider y x (Seq b c) is begins p q at (inl out) = absurd (arena.distinct y (Seq b c) is (begins ∙ sym out.0))
   wider y x (Seq b c) is begins p q at (inr out) =
       let on = Matches-forward (tree_at nodes c.index) w q out.1.0 out.1.2 in
-      (out.1.0, on, close_at nodes w y (Seq b c) arena is p out.1.0 (q, subst (λ v. At nodes w v p q) (sym begins) at, out.1.2), out.1.1)
+      (out.1.0, on, close_at nodes w y (Seq b c) arena is p out.1.0 (q, subst (λ v. HasSpan nodes w v p q) (sym begins) at, out.1.2), out.1.1)
   wider y x (Alt b c) is begins p q at out = (
     q,
     omega arith,
-    close_at nodes w y (Alt b c) arena is p q (elim begins [ inl l ↦ inl (subst (λ v. At nodes w v p q) (sym l) at) | inr m ↦ inr (subst (λ v. At nodes w v p q) (sym m) at) ]),
+    close_at nodes w y (Alt b c) arena is p q (elim begins [ inl l ↦ inl (subst (λ v. HasSpan nodes w v p q) (sym l) at) | inr m ↦ inr (subst (λ v. HasSpan nodes w v p q) (sym m) at) ]),
     out,
   )
   wider y x (Group g b) is begins p q at out =
-      (q, omega arith, close_at nodes w y (Group g b) arena is p q (subst (λ v. At nodes w v p q) (sym begins) at), out)
+      (q, omega arith, close_at nodes w y (Group g b) arena is p q (subst (λ v. HasSpan nodes w v p q) (sym begins) at), out)
   wider y x (Star b first) is begins p q at out =
       let on = Matches-forward (tree_at nodes y) w q out.0 out.2 in
       let copies = open_at nodes w y (Star b first) arena is q out.0 out.2 in
-      let copy = subst (λ v. At nodes w v p q) (sym begins) at in
-      (out.0, on, close_at nodes w y (Star b first) arena is p out.0 (CopiesLead-before (At nodes w b.index) out.0 q p (Matches-forward (tree_at nodes x) w p q at) copy copies), out.1)
+      let copy = subst (λ v. HasSpan nodes w v p q) (sym begins) at in
+      (out.0, on, close_at nodes w y (Star b first) arena is p out.0 (CopiesLead-before (HasSpan nodes w b.index) out.0 q p (Matches-forward (tree_at nodes x) w p q at) copy copies), out.1)
   wider y x (Opt b first) is begins p q at out =
-      (q, omega arith, close_at nodes w y (Opt b first) arena is p q (inr (subst (λ v. At nodes w v p q) (sym begins) at)), out)
+      (q, omega arith, close_at nodes w y (Opt b first) arena is p q (inr (subst (λ v. HasSpan nodes w v p q) (sym begins) at)), out)
   wider y x other is begins p q at out = absurd begins
 
   -- a match of a from a start up to p ends at q or later, where a is left
   abbrev Onwards : ℕ → ℕ → Type 0
-  Onwards p q = (i : ℕ) × (k : ℕ) × IsStart s i × (i ≤ p) × (q ≤ k) × At nodes w a i k × Leaves nodes w r t a k
+  Onwards p q = (i : ℕ) × (k : ℕ) × IsStart s i × (i ≤ p) × (q ≤ k) × HasSpan nodes w a i k × CanLeave nodes w r t a k
 
   -- sound: a node in a that is entered at p, spans p to q and is left at q is in a match of a, at whose end a is left
-  pub meets_on : (x p : ℕ) → Enters nodes w a s x p → (q : ℕ) → At nodes w x p q → Leaves nodes w r t x q → Onwards p q
+  pub meets_on : (x p : ℕ) → Enters nodes w a s x p → (q : ℕ) → HasSpan nodes w x p q → CanLeave nodes w r t x q → Onwards p q
   meets_on x p (at_root _ _ last begin) q at leaves =
-      (p, q, begin, omega arith, omega arith, subst (λ v. At nodes w v p q) last at, subst (λ v. Leaves nodes w r t v q) last leaves)
+      (p, q, begin, omega arith, omega arith, subst (λ v. HasSpan nodes w v p q) last at, subst (λ v. CanLeave nodes w r t v q) last leaves)
   meets_on x p (with_whole y _ _ node is begins enters) q at leaves =
       let up = Enters-inside nodes w a s arena y p enters in
-      let out = Leaves-part nodes w r t arena y (omega arith) x q node is (BeginsWith-part node x begins) leaves in
+      let out = CanLeave-part nodes w r t arena y (omega arith) x q node is (BeginsWith-part node x begins) leaves in
       let wide = wider y x node is begins p q at out in
       let on = wide.1 in
       let all = meets_on y p enters wide.0 wide.2 wide.3 in
@@ -73,25 +73,25 @@ module _ (nodes : List Node) (w : List ℕ) (r : ℕ) (t : Starts) (a : ℕ) (s 
       let up = Enters-inside nodes w a s arena y i enters in
       let before = Matches-forward (tree_at nodes b.index) w i p left in
       ⊎_elim
-      (λ (last : (c.index ≡ x) × Leaves nodes w r t y q).
-      let whole = close_at nodes w y (Seq b c) arena is i q (p, left, subst (λ v. At nodes w v p q) (sym right) at) in
+      (λ (last : (c.index ≡ x) × CanLeave nodes w r t y q).
+      let whole = close_at nodes w y (Seq b c) arena is i q (p, left, subst (λ v. HasSpan nodes w v p q) (sym right) at) in
       let all = meets_on y i enters q whole last.1 in
       let low = all.3 in
       let high = all.4 in
       (all.0, all.1, all.2, omega arith, high, all.5, all.6))
-      (λ (first : (b.index ≡ x) × ((k : ℕ) × Leaves nodes w r t y k × At nodes w c.index q k)).
+      (λ (first : (b.index ≡ x) × ((k : ℕ) × CanLeave nodes w r t y k × HasSpan nodes w c.index q k)).
       absurd (arena.distinct y (Seq b c) is (first.0 ∙ sym right)))
-      (Leaves-part nodes w r t arena y (omega arith) x q (Seq b c) is (inr right) leaves)
+      (CanLeave-part nodes w r t arena y (omega arith) x q (Seq b c) is (inr right) leaves)
   meets_on x p (again y _ i _ b first is inner enters copied) q at leaves =
       let up = Enters-inside nodes w a s arena y i enters in
-      let out = Leaves-part nodes w r t arena y (omega arith) x q (Star b first) is inner leaves in
+      let out = CanLeave-part nodes w r t arena y (omega arith) x q (Star b first) is inner leaves in
       let before = Matches-forward (tree_at nodes y) w i p copied in
       let behind = Matches-forward (tree_at nodes y) w q out.0 out.2 in
       let head = open_at nodes w y (Star b first) arena is i p copied in
       let tail = open_at nodes w y (Star b first) arena is q out.0 out.2 in
-      let copy = subst (λ v. At nodes w v p q) (sym inner) at in
-      let from_p = CopiesLead-before (At nodes w b.index) out.0 q p (Matches-forward (tree_at nodes x) w p q at) copy tail in
-      let whole = close_at nodes w y (Star b first) arena is i out.0 (CopiesLead-join (At nodes w b.index) out.0 p i head from_p) in
+      let copy = subst (λ v. HasSpan nodes w v p q) (sym inner) at in
+      let from_p = CopiesLead-before (HasSpan nodes w b.index) out.0 q p (Matches-forward (tree_at nodes x) w p q at) copy tail in
+      let whole = close_at nodes w y (Star b first) arena is i out.0 (CopiesLead-join (HasSpan nodes w b.index) out.0 p i head from_p) in
       let all = meets_on y i enters out.0 whole out.1 in
       let low = all.3 in
       let high = all.4 in
@@ -99,14 +99,14 @@ module _ (nodes : List Node) (w : List ℕ) (r : ℕ) (t : Starts) (a : ℕ) (s 
 
   -- complete: a span that passes p, at whose end its node is left, has a set at p that is marked
   module _ (p : ℕ) where
-    passes : (n x : ℕ) (node : Node) → slice_get nodes x ≡ Some node → x < n → (i k : ℕ) → Enters nodes w a s x i → Leaves nodes w r t x k → At nodes w x i k → i ≤ p → p < k → MeetsAt nodes w r t a s p
+    passes : (n x : ℕ) (node : Node) → slice_get nodes x ≡ Some node → x < n → (i k : ℕ) → Enters nodes w a s x i → CanLeave nodes w r t x k → HasSpan nodes w x i k → i ≤ p → p < k → MeetsAt nodes w r t a s p
     passes zero x node is less i k enters leaves at low high = absurd (omega arith)
     passes (suc n) x Empty is less i k enters leaves at low high =
         let f = open_at nodes w x Empty arena is i k at in absurd (omega arith)
     passes (suc n) x (Set members) is less i k enters leaves at low high =
         let f = open_at nodes w x (Set members) arena is i k at in
         let same : i ≡ p = (let end = f.3 in omega arith) in
-        (x, members, is, subst (λ v. Enters nodes w a s x v) same enters, (k, subst (λ v. At nodes w x v k) same at, leaves))
+        (x, members, is, subst (λ v. Enters nodes w a s x v) same enters, (k, subst (λ v. HasSpan nodes w x v k) same at, leaves))
     passes (suc n) x Begin is less i k enters leaves at low high =
         let f = open_at nodes w x Begin arena is i k at in absurd (omega arith)
     passes (suc n) x End is less i k enters leaves at low high =
@@ -131,9 +131,9 @@ module _ (nodes : List Node) (w : List ℕ) (r : ℕ) (t : Starts) (a : ℕ) (s 
         let left = node_at nodes b.index (omega arith) in
         let right = node_at nodes c.index (omega arith) in
         ⊎_elim
-        (λ (l : At nodes w b.index i k). passes n b.index left.0 left.1 (omega arith) i k (with_whole x b.index i (Alt b c) is (inl refl) enters)
+        (λ (l : HasSpan nodes w b.index i k). passes n b.index left.0 left.1 (omega arith) i k (with_whole x b.index i (Alt b c) is (inl refl) enters)
         (with_end x b.index k (Alt b c) is (inl refl) leaves) l low high)
-        (λ (m : At nodes w c.index i k). passes n c.index right.0 right.1 (omega arith) i k (with_whole x c.index i (Alt b c) is (inr refl) enters)
+        (λ (m : HasSpan nodes w c.index i k). passes n c.index right.0 right.1 (omega arith) i k (with_whole x c.index i (Alt b c) is (inr refl) enters)
         (with_end x c.index k (Alt b c) is (inr refl) leaves) m low high)
         (open_at nodes w x (Alt b c) arena is i k at)
     passes (suc n) x (Group g b) is less i k enters leaves at low high =
@@ -146,11 +146,11 @@ module _ (nodes : List Node) (w : List ℕ) (r : ℕ) (t : Starts) (a : ℕ) (s 
         let top = slice_get_within nodes x (Star b first) is in
         let below = arena.below x b.index (Star b first) is refl in
         let inner = node_at nodes b.index (omega arith) in
-        CopiesLead-cross (At nodes w b.index) (λ u. Enters nodes w a s b.index u × CopiesLead (At nodes w b.index) u i) (MeetsAt nodes w r t a s p) p k
+        CopiesLead-cross (HasSpan nodes w b.index) (λ u. Enters nodes w a s b.index u × CopiesLead (HasSpan nodes w b.index) u i) (MeetsAt nodes w r t a s p) p k
         (λ u v from copy rest up on. passes n b.index inner.0 inner.1 (omega arith) u v from.0
         (before_copies x b.index v k b first is refl leaves (close_at nodes w x (Star b first) arena is v k rest)) copy up on)
         (λ u v lt from copy.
-        let copies = CopiesLead-append (At nodes w b.index) u i v from.1 lt copy in
+        let copies = CopiesLead-append (HasSpan nodes w b.index) u i v from.1 lt copy in
         (again x b.index i v b first is refl enters (close_at nodes w x (Star b first) arena is i v copies), copies))
         i (open_at nodes w x (Star b first) arena is i k at) (with_whole x b.index i (Star b first) is refl enters, no_copy) low high
     passes (suc n) x (Opt b first) is less i k enters leaves at low high =
@@ -159,7 +159,7 @@ module _ (nodes : List Node) (w : List ℕ) (r : ℕ) (t : Starts) (a : ℕ) (s 
         let inner = node_at nodes b.index (omega arith) in
         ⊎_elim
         (λ (same : i ≡ k). absurd (omega arith))
-        (λ (m : At nodes w b.index i k). passes n b.index inner.0 inner.1 (omega arith) i k (with_whole x b.index i (Opt b first) is refl enters)
+        (λ (m : HasSpan nodes w b.index i k). passes n b.index inner.0 inner.1 (omega arith) i k (with_whole x b.index i (Opt b first) is refl enters)
         (with_end x b.index k (Opt b first) is refl leaves) m low high)
         (open_at nodes w x (Opt b first) arena is i k at)
 
@@ -179,21 +179,21 @@ meets-goes_on nodes w r a p s t arena inside within = (
 
 -- of the whole node r: exactly where a match of it goes on
 pub meets_whole : (nodes : List Node) (w : List ℕ) (r p : ℕ) (s t : Starts) → IsArena nodes → r < length nodes →
-    MeetsAt nodes w r t r s p ↔ ((i : ℕ) × (k : ℕ) × IsStart s i × (i ≤ p) × (p < k) × At nodes w r i k × IsStart t k)
+    MeetsAt nodes w r t r s p ↔ ((i : ℕ) × (k : ℕ) × IsStart s i × (i ≤ p) × (p < k) × HasSpan nodes w r i k × IsStart t k)
 meets_whole nodes w r p s t arena inside =
     let both = meets-goes_on nodes w r r p s t arena inside (omega arith) in
     let root = all_of r refl in (
       λ h.
           let g = both.0 h in
           (g.0, g.1, g.2, g.3, g.4, g.5, last-leaves nodes w r t arena r g.1 root g.6),
-      λ h. both.1 (h.0, h.1, h.2, h.3, h.4, h.5, Leaves-last nodes w r t arena r h.1 root h.6),
+      λ h. both.1 (h.0, h.1, h.2, h.3, h.4, h.5, CanLeave-last nodes w r t arena r h.1 root h.6),
     )
 
 -- no set is marked at the last end or after it
 pub set_early : (nodes : List Node) (w : List ℕ) (r c p : ℕ) (t : Starts) (members : List Bool) → IsArena nodes → slice_get nodes c ≡ Some (Set members) → ReachesEnd nodes w r t c p → p < t.last
 set_early nodes w r c p t members arena is h =
     let next = (open_at nodes w c (Set members) arena is p h.0 h.1).3 in
-    let late = Leaves-to nodes w r t arena c h.0 h.2 in
+    let late = CanLeave-to nodes w r t arena c h.0 h.2 in
     omega arith
 
 -- and they don't meet there
@@ -203,11 +203,11 @@ meets_early nodes w r a p s t arena h = set_early nodes w r h.0 p t h.1 arena h.
 -- the first place from i on after which A and B hold of none is the greatest of which they do
 first_stop : (A B M : ℕ → Type 0) (i p k : ℕ) → i ≤ k → A k → B k → i ≤ p → ((q : ℕ) → i ≤ q → q ≤ p → M q ↔ ((l : ℕ) × (q < l) × A l × B l)) →
     ((q : ℕ) → i ≤ q → q < p → M q) → (M p → ⊥) → A p × B p × ((l : ℕ) → A l → B l → l ≤ p)
-first_stop A B M i p k low left right on tells more over =
-    let most : (l : ℕ) → A l → B l → l ≤ p = λ l first second. elim (cases_lt p l) [ inl lt ↦ absurd (over ((tells p on (omega arith)).1 (l, lt, first, second))) | inr ge ↦ ge ] in
+first_stop A B M i p k low left right on shows more over =
+    let most : (l : ℕ) → A l → B l → l ≤ p = λ l first second. elim (cases_lt p l) [ inl lt ↦ absurd (over ((shows p on (omega arith)).1 (l, lt, first, second))) | inr ge ↦ ge ] in
     ⊎_elim
     (λ (later : i < p).
-    let g = (tells (p - 1) (omega arith) (omega arith)).0 (more (p - 1) (omega arith) (omega arith)) in
+    let g = (shows (p - 1) (omega arith) (omega arith)).0 (more (p - 1) (omega arith) (omega arith)) in
     let lt = g.1 in
     let top = most g.0 g.2 g.3 in
     let same : g.0 ≡ p = omega arith in
@@ -220,19 +220,19 @@ first_stop A B M i p k low left right on tells more over =
 
 module _ (nodes : List Node) (w : List ℕ) (r j x : ℕ) (a b : NodeId) (arena : IsArena nodes) (last : IsLastIn nodes r x) (is : slice_get nodes x ≡ Some (Seq a b)) where
   -- the left part is left exactly where the right one leads on to the end
-  pub left_leaves : (k : ℕ) → Leaves nodes w r (one_start j) a.index k ↔ At nodes w b.index k j
+  pub left_leaves : (k : ℕ) → CanLeave nodes w r (one_start j) a.index k ↔ HasSpan nodes w b.index k j
   left_leaves k = (
     λ l. ⊎_elim
-        (λ (out : (b.index ≡ a.index) × Leaves nodes w r (one_start j) x k). absurd (arena.distinct x (Seq a b) is (sym out.0)))
-        (λ (out : (a.index ≡ a.index) × ((q : ℕ) × Leaves nodes w r (one_start j) x q × At nodes w b.index k q)).
+        (λ (out : (b.index ≡ a.index) × CanLeave nodes w r (one_start j) x k). absurd (arena.distinct x (Seq a b) is (sym out.0)))
+        (λ (out : (a.index ≡ a.index) × ((q : ℕ) × CanLeave nodes w r (one_start j) x q × HasSpan nodes w b.index k q)).
         let stop = last-leaves nodes w r (one_start j) arena x out.1.0 last out.1.1 in
         let same : out.1.0 ≡ j = omega arith in
-        subst (λ v. At nodes w b.index k v) same out.1.2)
-        (Leaves-part nodes w r (one_start j) arena x (last_inside nodes w r (one_start j) arena x last) a.index k (Seq a b) is (inl refl) l),
-    λ at. before_right x a.index k j a b is refl (Leaves-last nodes w r (one_start j) arena x j last (omega arith, omega arith)) at,
+        subst (λ v. HasSpan nodes w b.index k v) same out.1.2)
+        (CanLeave-part nodes w r (one_start j) arena x (last_inside nodes w r (one_start j) arena x last) a.index k (Seq a b) is (inl refl) l),
+    λ at. before_right x a.index k j a b is refl (CanLeave-last nodes w r (one_start j) arena x j last (omega arith, omega arith)) at,
   )
 
-  pub meets-cut : (i p : ℕ) → i ≤ p → MeetsAt nodes w r (one_start j) a.index (one_start i) p ↔ ((k : ℕ) × (p < k) × At nodes w a.index i k × At nodes w b.index k j)
+  pub meets-cut : (i p : ℕ) → i ≤ p → MeetsAt nodes w r (one_start j) a.index (one_start i) p ↔ ((k : ℕ) × (p < k) × HasSpan nodes w a.index i k × HasSpan nodes w b.index k j)
   meets-cut i p low =
       let top = slice_get_within nodes x (Seq a b) is in
       let up = last_inside nodes w r (one_start j) arena x last in
@@ -242,36 +242,36 @@ module _ (nodes : List Node) (w : List ℕ) (r j x : ℕ) (a b : NodeId) (arena 
             let g = both.0 h in
             let start = g.2 in
             let same : g.0 ≡ i = omega arith in
-            (g.1, g.4, subst (λ v. At nodes w a.index v g.1) same g.5, (left_leaves g.1).0 g.6),
+            (g.1, g.4, subst (λ v. HasSpan nodes w a.index v g.1) same g.5, (left_leaves g.1).0 g.6),
         λ h. both.1 (i, h.0, (omega arith, omega arith), low, h.1, h.2, (left_leaves h.0).1 h.3),
       )
 
   -- what is decided of the places up to p where a cut is
-  cut_at : (i p : ℕ) (M : ℕ → Type 0) → At nodes w x i j → i ≤ p → ((q : ℕ) → i ≤ q → q ≤ p → M q ↔ ((l : ℕ) × (q < l) × At nodes w a.index i l × At nodes w b.index l j)) →
-      ((q : ℕ) → i ≤ q → q < p → M q) → (M p → ⊥) → LastCut (At nodes w a.index) (At nodes w b.index) i j p
-  cut_at i p M at low tells more over =
+  cut_at : (i p : ℕ) (M : ℕ → Type 0) → HasSpan nodes w x i j → i ≤ p → ((q : ℕ) → i ≤ q → q ≤ p → M q ↔ ((l : ℕ) × (q < l) × HasSpan nodes w a.index i l × HasSpan nodes w b.index l j)) →
+      ((q : ℕ) → i ≤ q → q < p → M q) → (M p → ⊥) → LastCut (HasSpan nodes w a.index) (HasSpan nodes w b.index) i j p
+  cut_at i p M at low shows more over =
       let f = open_at nodes w x (Seq a b) arena is i j at in
       let on = Matches-forward (tree_at nodes a.index) w i f.0 f.1 in
-      let stop = first_stop (At nodes w a.index i) (λ k. At nodes w b.index k j) M i p f.0 on f.1 f.2 low tells more over in
+      let stop = first_stop (HasSpan nodes w a.index i) (λ k. HasSpan nodes w b.index k j) M i p f.0 on f.1 f.2 low shows more over in
       record { left = stop.0; right = stop.1; greatest = stop.2 }
 
   -- so a pass over a that goes on while they meet stops at the greatest cut
-  pub stops_at_cut : (i p : ℕ) → At nodes w x i j → CeasesAt nodes w r (one_start j) a.index i p → LastCut (At nodes w a.index) (At nodes w b.index) i j p
+  pub stops_at_cut : (i p : ℕ) → HasSpan nodes w x i j → CeasesAt nodes w r (one_start j) a.index i p → LastCut (HasSpan nodes w a.index) (HasSpan nodes w b.index) i j p
   stops_at_cut i p at stops = cut_at i p (MeetsAt nodes w r (one_start j) a.index (one_start i)) at stops.0 (λ q low up. meets-cut i q low) stops.1 stops.2
 
 module _ (nodes : List Node) (w : List ℕ) (r j x : ℕ) (a : NodeId) (first : Bool) (arena : IsArena nodes) (last : IsLastIn nodes r x) (is : slice_get nodes x ≡ Some (Star a first)) where
   -- a copy is left exactly where copies lead on to the end
-  pub copy_leaves : (k : ℕ) → Leaves nodes w r (one_start j) a.index k ↔ CopiesLead (At nodes w a.index) j k
+  pub copy_leaves : (k : ℕ) → CanLeave nodes w r (one_start j) a.index k ↔ CopiesLead (HasSpan nodes w a.index) j k
   copy_leaves k = (
     λ l.
-        let out = Leaves-part nodes w r (one_start j) arena x (last_inside nodes w r (one_start j) arena x last) a.index k (Star a first) is refl l in
+        let out = CanLeave-part nodes w r (one_start j) arena x (last_inside nodes w r (one_start j) arena x last) a.index k (Star a first) is refl l in
         let stop = last-leaves nodes w r (one_start j) arena x out.0 last out.1 in
         let same : out.0 ≡ j = omega arith in
-        open_at nodes w x (Star a first) arena is k j (subst (λ v. At nodes w x k v) same out.2),
-    λ copies. before_copies x a.index k j a first is refl (Leaves-last nodes w r (one_start j) arena x j last (omega arith, omega arith)) (close_at nodes w x (Star a first) arena is k j copies),
+        open_at nodes w x (Star a first) arena is k j (subst (λ v. HasSpan nodes w x k v) same out.2),
+    λ copies. before_copies x a.index k j a first is refl (CanLeave-last nodes w r (one_start j) arena x j last (omega arith, omega arith)) (close_at nodes w x (Star a first) arena is k j copies),
   )
 
-  pub meets-copy : (i p : ℕ) → i ≤ p → MeetsAt nodes w r (one_start j) a.index (one_start i) p ↔ ((k : ℕ) × (p < k) × At nodes w a.index i k × CopiesLead (At nodes w a.index) j k)
+  pub meets-copy : (i p : ℕ) → i ≤ p → MeetsAt nodes w r (one_start j) a.index (one_start i) p ↔ ((k : ℕ) × (p < k) × HasSpan nodes w a.index i k × CopiesLead (HasSpan nodes w a.index) j k)
   meets-copy i p low =
       let top = slice_get_within nodes x (Star a first) is in
       let up = last_inside nodes w r (one_start j) arena x last in
@@ -281,14 +281,14 @@ module _ (nodes : List Node) (w : List ℕ) (r j x : ℕ) (a : NodeId) (first : 
             let g = both.0 h in
             let start = g.2 in
             let same : g.0 ≡ i = omega arith in
-            (g.1, g.4, subst (λ v. At nodes w a.index v g.1) same g.5, (copy_leaves g.1).0 g.6),
+            (g.1, g.4, subst (λ v. HasSpan nodes w a.index v g.1) same g.5, (copy_leaves g.1).0 g.6),
         λ h. both.1 (i, h.0, (omega arith, omega arith), low, h.1, h.2, (copy_leaves h.0).1 h.3),
       )
 
   -- a pass over a copy stops at the greatest end from which copies lead on
-  pub stops_at_copy : (i p : ℕ) → At nodes w x i j → i < j → CeasesAt nodes w r (one_start j) a.index i p → NextCopy (At nodes w a.index) i j p
+  pub stops_at_copy : (i p : ℕ) → HasSpan nodes w x i j → i < j → CeasesAt nodes w r (one_start j) a.index i p → NextCopy (HasSpan nodes w a.index) i j p
   stops_at_copy i p at some stops =
-      let R = At nodes w a.index in
+      let R = HasSpan nodes w a.index in
       let one = first_copy R j i (open_at nodes w x (Star a first) arena is i j at) some in
       let lt = one.1 in
       let stop = first_stop (R i) (CopiesLead R j) (MeetsAt nodes w r (one_start j) a.index (one_start i)) i p one.0 (omega arith) one.2 one.3 stops.0
@@ -305,23 +305,23 @@ copy_walk R i j k c next (inr done) =
 
 -- a node that is marked at each place from i up to p, and takes a byte, spans that part copy after copy
 run_copies : (nodes : List Node) (w : List ℕ) (r c : ℕ) (t : Starts) (members : List Bool) → IsArena nodes → slice_get nodes c ≡ Some (Set members) →
-    (n i q : ℕ) → q ≡ i + n → ((l : ℕ) → i ≤ l → l < q → ReachesEnd nodes w r t c l) → CopiesLead (At nodes w c) q i
+    (n i q : ℕ) → q ≡ i + n → ((l : ℕ) → i ≤ l → l < q → ReachesEnd nodes w r t c l) → CopiesLead (HasSpan nodes w c) q i
 run_copies nodes w r c t members arena is zero i q sum marked =
     let same : i ≡ q = omega arith in
-    subst (λ v. CopiesLead (At nodes w c) v i) same no_copy
+    subst (λ v. CopiesLead (HasSpan nodes w c) v i) same no_copy
 run_copies nodes w r c t members arena is (suc n) i q sum marked =
     let here = marked (i + n) (omega arith) (omega arith) in
     let next = (open_at nodes w c (Set members) arena is (i + n) here.0 here.1).3 in
     let same : here.0 ≡ q = omega arith in
-    CopiesLead-append (At nodes w c) (i + n) i q (run_copies nodes w r c t members arena is n i (i + n) refl (λ l low up. marked l low (omega arith)))
-    (omega arith) (subst (λ v. At nodes w c (i + n) v) same here.1)
+    CopiesLead-append (HasSpan nodes w c) (i + n) i q (run_copies nodes w r c t members arena is n i (i + n) refl (λ l low up. marked l low (omega arith)))
+    (omega arith) (subst (λ v. HasSpan nodes w c (i + n) v) same here.1)
 
 -- the repetition in a run: it is entered, left and spanned as the run is
 module _ (nodes : List Node) (w : List ℕ) (r : ℕ) (t : Starts) (root : ℕ) (s : Starts) (c : ℕ) (arena : IsArena nodes) where
   abbrev Within : ℕ → Type 0
   Within a =
-      (y : ℕ) × IsRepetitionOf nodes y c × ((i : ℕ) → Enters nodes w root s a i → Enters nodes w root s y i) × ((k : ℕ) → Leaves nodes w r t a k → Leaves nodes w r t y k)
-      × ((i k : ℕ) → At nodes w a i k → At nodes w y i k)
+      (y : ℕ) × IsRepetitionOf nodes y c × ((i : ℕ) → Enters nodes w root s a i → Enters nodes w root s y i) × ((k : ℕ) → CanLeave nodes w r t a k → CanLeave nodes w r t y k)
+      × ((i k : ℕ) → HasSpan nodes w a i k → HasSpan nodes w y i k)
 
   run_within : (a : ℕ) → IsRunOf nodes c a → Within a
   run_within a (repeated _ repeats) = (a, repeats, λ i e. e, λ k l. l, λ i k at. at)
@@ -338,7 +338,7 @@ module _ (nodes : List Node) (w : List ℕ) (r j x : ℕ) (a b : NodeId) (arena 
     (c : ℕ) (members : List Bool) (run : IsRunOf nodes c a.index) (is_set : slice_get nodes c ≡ Some (Set members)) where
   -- while the set is marked, its mark shows whether there is a later cut
   run_decides : (i q : ℕ) → i ≤ q → ((l : ℕ) → i ≤ l → l < q → ReachesEnd nodes w r (one_start j) c l) →
-      ReachesEnd nodes w r (one_start j) c q ↔ ((l : ℕ) × (q < l) × At nodes w a.index i l × At nodes w b.index l j)
+      ReachesEnd nodes w r (one_start j) c q ↔ ((l : ℕ) × (q < l) × HasSpan nodes w a.index i l × HasSpan nodes w b.index l j)
   run_decides i q low marked =
       let star = run_within nodes w r (one_start j) a.index (one_start i) c arena a.index run in
       let y = star.0 in
@@ -352,16 +352,16 @@ module _ (nodes : List Node) (w : List ℕ) (r j x : ℕ) (a b : NodeId) (arena 
             let l = g.0 in
             let leaves = star.3 l ((left_leaves nodes w r j x a b arena last is l).1 g.3) in
             let copies = (star_copies nodes w y c i l arena of).0 (star.4 i l g.2) in
-            CopiesLead-cross (At nodes w c) (λ u. Unit {0}) (ReachesEnd nodes w r (one_start j) c q) q l
+            CopiesLead-cross (HasSpan nodes w c) (λ u. Unit {0}) (ReachesEnd nodes w r (one_start j) c q) q l
             (λ u v _ copy rest up on.
             let next = (open_at nodes w c (Set members) arena is_set u v copy).3 in
             let same : u ≡ q = omega arith in
-            (v, subst (λ p. At nodes w c p v) same copy, before_copies y c v l of.0 of.1 of.2 of.3 leaves ((star_copies nodes w y c v l arena of).1 rest)))
+            (v, subst (λ p. HasSpan nodes w c p v) same copy, before_copies y c v l of.0 of.1 of.2 of.3 leaves ((star_copies nodes w y c v l arena of).1 rest)))
             (λ u v lt _ copy. tt)
             i copies tt low g.1,
       )
 
   -- the greatest cut after a repetition of one set is the first place at which the set isn't marked
-  pub run_stops : (i p : ℕ) → At nodes w x i j → i ≤ p → ((q : ℕ) → i ≤ q → q < p → ReachesEnd nodes w r (one_start j) c q) → (ReachesEnd nodes w r (one_start j) c p → ⊥) → LastCut (At nodes w a.index) (At nodes w b.index) i j p
+  pub run_stops : (i p : ℕ) → HasSpan nodes w x i j → i ≤ p → ((q : ℕ) → i ≤ q → q < p → ReachesEnd nodes w r (one_start j) c q) → (ReachesEnd nodes w r (one_start j) c p → ⊥) → LastCut (HasSpan nodes w a.index) (HasSpan nodes w b.index) i j p
   run_stops i p at up marked over =
       cut_at nodes w r j x a b arena last is i p (ReachesEnd nodes w r (one_start j) c) at up (λ q low on. run_decides i q low (λ l low' lt. marked l low' (omega arith))) marked over

@@ -1,10 +1,10 @@
 -- What becomes of one group of a match while all are decided from its end; so decided, they are those decided from the left.
 use Rattle.std.proofs.Common.{◌≡◌, ℕ, zero, suc, ◌<◌, ◌≤◌, ◌⊎◌, ◌||◌, Bool, true, false, List, [], ◌∷◌, length, Option, None, Some, refl, sym, ap, ◌∙◌, subst, inl, inr, ⊎_elim, true≢false, arith, replicate, eqb, slice_get, slice_set, slice_index_or}
 use Rattle.std.specs.Prelude.{unwrap_or}
-use Rattle.sedpass.proofs.Words.{option_or, cases_Bool, cases_lt, or_left, or_right, or_cases, ext_get_or, get_or-set_other, length-set, slice_get_past, none-some, same_Some, unwrap_or-slice_get, Tree, empty, set, begin, end, seq, alt, group, star, opt, Groups, forget, no_groups, groups_after, Captures, LastCopy, only, then, IsReport, Matches, groups_after-is}
+use Rattle.sedpass.proofs.Words.{option_or, cases_Bool, cases_lt, or_left, or_right, or_cases, ext_get_or, get_or-set_other, length-set, slice_get_past, none-some, same_Some, unwrap_or-slice_get, Tree, empty, set, begin, end, seq, alt, group, star, opt, SpansOfGroups, forget, no_groups, groups_after, Captures, LastCopy, only, then, IsReport, Matches, groups_after-is}
 use Rattle.std.proofs.lemmas.Bool.Decides.{eqb_tells}
 use Rattle.sedtext.proofs.CapsLemmas.{Captures-unique}
-use Rattle.sedpass.specs.Walks.{GroupState, is_due, settle, drop_groups, GroupStandsIn, PassedBy, Walk, IsFirstState, has_group, NoneDue, EntersGroups}
+use Rattle.sedpass.specs.Walks.{GroupState, is_due, settle, drop_groups, GroupIsIn, PassedBy, WalkEnters, IsFirstState, has_group, NoneDue, EntersGroups}
 use Rattle.sedre.specs.Steps.{TakesAtLeast}
 use Rattle.sedtext.proofs.GroupLemmas.{NoGroups}
 
@@ -96,19 +96,19 @@ copy_spans R j i c (only _ lt r) = (omega arith, lt, r)
 copy_spans R j i c (then _ k _ up low r rest most last) = let later = copy_spans R j k c last in (omega arith, later.1, later.2)
 
 -- one group is set
-set_same : (k : ℕ) (v : Span) (g : Groups) → slice_get (slice_set g k v) k ≡ lay (slice_get g k) (Some v)
+set_same : (k : ℕ) (v : Span) (g : SpansOfGroups) → slice_get (slice_set g k v) k ≡ lay (slice_get g k) (Some v)
 set_same k v [] = refl
 set_same zero v (x ∷ g) = refl
 set_same (suc k) v (x ∷ g) = set_same k v g
 
-set_other : (n k : ℕ) (v : Span) (g : Groups) → (n ≡ k → ⊥) → slice_get (slice_set g n v) k ≡ lay (slice_get g k) None
+set_other : (n k : ℕ) (v : Span) (g : SpansOfGroups) → (n ≡ k → ⊥) → slice_get (slice_set g n v) k ≡ lay (slice_get g k) None
 set_other n k v [] ne = refl
 set_other zero zero v (x ∷ g) ne = absurd (ne refl)
 set_other zero (suc k) v (x ∷ g) ne = sym (put-none true (slice_get g k))
 set_other (suc n) zero v (x ∷ g) ne = refl
 set_other (suc n) (suc k) v (x ∷ g) ne = set_other n k v g (λ e. ne (omega (arith, e)))
 
-set_at : (n k : ℕ) (v : Span) (g : Groups) → slice_get (slice_set g n v) k ≡ lay (slice_get g k) (deed (eqb n k) v)
+set_at : (n k : ℕ) (v : Span) (g : SpansOfGroups) → slice_get (slice_set g n v) k ≡ lay (slice_get g k) (deed (eqb n k) v)
 set_at n k v g = elim (eqb_tells n k) [
   | inl same ↦ ap (λ m. slice_get (slice_set g m v) k) same.1 ∙ set_same k v g ∙ ap (λ b. lay (slice_get g k) (deed b v)) (sym same.0)
   | inr other ↦ set_other n k v g other.1 ∙ ap (λ b. lay (slice_get g k) (deed b v)) (sym other.0)
@@ -146,7 +146,7 @@ settle_takes n k v s = elim (cases_Bool (is_due s n)) [
     as_not : is_due s n ≡ false → Takes k (deed (eqb n k) v) s s
     as_not off = elim (eqb_tells n k) [ inl same ↦ takes-not k _ s (ap (is_due s) (sym same.1) ∙ off) | inr other ↦ rw other.0 (takes-none k s) ]
 
-pub index_as : (xs ys : Groups) (k : ℕ) → slice_get xs k ≡ slice_get ys k → slice_index_or xs k None ≡ slice_index_or ys k None
+pub index_as : (xs ys : SpansOfGroups) (k : ℕ) → slice_get xs k ≡ slice_get ys k → slice_index_or xs k None ≡ slice_index_or ys k None
 index_as xs ys k same = sym (unwrap_or-slice_get xs k None) ∙ ap (λ x. unwrap_or x None) same ∙ unwrap_or-slice_get ys k None
 
 -- what is due has no span: so it is after this
@@ -176,7 +176,7 @@ drop_takes other k s = takes-none k s
 forget_two : (x : Option Span) (p q : Bool) → lay (lay x (deed p None)) (deed q None) ≡ lay x (deed (p || q) None)
 forget_two x p q = sym (lay-over x (deed q None) (deed p None)) ∙ ap (lay x) (gone-over p q)
 
-forget_at : (t : Tree) (k : ℕ) (g : Groups) → slice_get (forget t g) k ≡ lay (slice_get g k) (deed (has_group t k) None)
+forget_at : (t : Tree) (k : ℕ) (g : SpansOfGroups) → slice_get (forget t g) k ≡ lay (slice_get g k) (deed (has_group t k) None)
 forget_at (seq a b) k g =
     forget_at b k (forget a g) ∙ ap (λ x. lay x (deed (has_group b k) None)) (forget_at a k g) ∙ forget_two (slice_get g k) (has_group a k) (has_group b k)
 forget_at (alt a b) k g =
@@ -188,7 +188,7 @@ forget_at (opt a first) k g = forget_at a k g
 forget_at other k g = sym (put-none true (slice_get g k))
 
 -- this becomes of entry k of a list, which is nothing unless P
-record Lays (k : ℕ) (P : Type 0) (g h : Groups) (d : Option Span) : Type 0 where
+record Lays (k : ℕ) (P : Type 0) (g h : SpansOfGroups) (d : Option Span) : Type 0 where
   at : slice_get h k ≡ lay (slice_get g k) d
   none : (d ≡ None) ⊎ P
 
@@ -208,26 +208,26 @@ none_in : (P Q : Type 0) (d : Option Span) → (P → Q) → (d ≡ None) ⊎ P 
 none_in P Q d up (inl x) = inl x
 none_in P Q d up (inr p) = inr (up p)
 
-lays-wider : (k : ℕ) (P Q : Type 0) (g h : Groups) (d : Option Span) → (P → Q) → Lays k P g h d → Lays k Q g h d
+lays-wider : (k : ℕ) (P Q : Type 0) (g h : SpansOfGroups) (d : Option Span) → (P → Q) → Lays k P g h d → Lays k Q g h d
 lays-wider k P Q g h d up one = record { at = one.at; none = none_in P Q d up one.none }
 
-lays-none : (k : ℕ) (P : Type 0) (g h : Groups) → h ≡ g → Lays k P g h None
+lays-none : (k : ℕ) (P : Type 0) (g h : SpansOfGroups) → h ≡ g → Lays k P g h None
 lays-none k P g h same = record { at = ap (λ l. slice_get l k) same ∙ sym (put-none true (slice_get g k)); none = inl refl }
 
-lays-then : (k : ℕ) (P : Type 0) (g m h : Groups) (d e : Option Span) → Lays k P g m d → Lays k P m h e → Lays k P g h (option_or e d)
+lays-then : (k : ℕ) (P : Type 0) (g m h : SpansOfGroups) (d e : Option Span) → Lays k P g m d → Lays k P m h e → Lays k P g h (option_or e d)
 lays-then k P g m h d e one two = record {
   at = two.at ∙ ap (λ x. lay x e) one.at ∙ sym (lay-over (slice_get g k) e d);
   none = both_none P e d two.none one.none;
 }
 
-lays-forget : (a : Tree) (k : ℕ) (g : Groups) → Lays k (GroupStandsIn a k) g (forget a g) (deed (has_group a k) None)
+lays-forget : (a : Tree) (k : ℕ) (g : SpansOfGroups) → Lays k (GroupIsIn a k) g (forget a g) (deed (has_group a k) None)
 lays-forget a k g = record {
   at = forget_at a k g;
   none = elim (cases_Bool (has_group a k)) [ inl has ↦ inr has | inr lacks ↦ inl (ap (λ b. deed b None) lacks) ];
 }
 
-lays-within : (a : Tree) (k : ℕ) (g h : Groups) (d : Option Span) → Lays k (GroupStandsIn a k) (forget a g) h d → Lays k (GroupStandsIn a k) g h (within a k d)
-lays-within a k g h d one = lays-then k (GroupStandsIn a k) g (forget a g) h (deed (has_group a k) None) d (lays-forget a k g) one
+lays-within : (a : Tree) (k : ℕ) (g h : SpansOfGroups) (d : Option Span) → Lays k (GroupIsIn a k) (forget a g) h d → Lays k (GroupIsIn a k) g h (within a k d)
+lays-within a k g h d one = lays-then k (GroupIsIn a k) g (forget a g) h (deed (has_group a k) None) d (lays-forget a k g) one
 
 group_at : (x d : Option Span) (v : Span) (same has : Bool) → lay (lay (lay x (deed (same || has) None)) d) (deed same v) ≡ lay x (option_or (deed same v) (option_or d (deed has None)))
 group_at None d v same has = refl
@@ -235,19 +235,19 @@ group_at (Some u) None v true has = refl
 group_at (Some u) (Some t) v true has = refl
 group_at (Some u) d v false has = put-none true (lay (lay (Some u) (deed has None)) d) ∙ sym (lay-over (Some u) d (deed has None))
 
-lays-around : (n : ℕ) (v : Span) (a : Tree) (k : ℕ) (g h : Groups) (d : Option Span) → Lays k (GroupStandsIn a k) (forget (group n a) g) h d →
-    Lays k (GroupStandsIn (group n a) k) g (slice_set h n v) (around n v a k d)
+lays-around : (n : ℕ) (v : Span) (a : Tree) (k : ℕ) (g h : SpansOfGroups) (d : Option Span) → Lays k (GroupIsIn a k) (forget (group n a) g) h d →
+    Lays k (GroupIsIn (group n a) k) g (slice_set h n v) (around n v a k d)
 lays-around n v a k g h d one =
-    let P = GroupStandsIn (group n a) k in
+    let P = GroupIsIn (group n a) k in
     record {
       at = set_at n k v h ∙ ap (λ x. lay x (deed (eqb n k) v)) (one.at ∙ ap (λ x. lay x d) (forget_at (group n a) k g)) ∙ group_at (slice_get g k) d v (eqb n k) (has_group a k);
       none = both_none P (deed (eqb n k) v) _
           (elim (eqb_tells n k) [ inl same ↦ inr (or_left (eqb n k) (has_group a k) same.0) | inr other ↦ inl (ap (λ b. deed b v) other.0) ])
-          (none_in (GroupStandsIn a k) P _ (or_right (eqb n k) (has_group a k)) (both_none (GroupStandsIn a k) d _ one.none (lays-forget a k g).none));
+          (none_in (GroupIsIn a k) P _ (or_right (eqb n k) (has_group a k)) (both_none (GroupIsIn a k) d _ one.none (lays-forget a k g).none));
     }
 
 -- what becomes of the group in a match, its groups decided from the left
-abbrev taken : (k : ℕ) (e : Tree) (w : List ℕ) (i j : ℕ) (g h : Groups) → Captures e w i j g h → Option Span
+abbrev taken : (k : ℕ) (e : Tree) (w : List ℕ) (i j : ℕ) (g h : SpansOfGroups) → Captures e w i j g h → Option Span
 taken k (seq a b) w i j g h c = option_or (taken k b w c.0 j c.2.0 h c.2.2) (taken k a w i c.0 g c.2.0 c.2.1)
 taken k (alt a b) w i j g h (inl c) = taken k a w i j g h c.1
 taken k (alt a b) w i j g h (inr c) = taken k b w i j g h c.1
@@ -260,14 +260,14 @@ taken k (opt a first) w i j g h (inr (inl c)) = within a k (taken k a w i i (for
 taken k (opt a first) w i j g h (inr (inr c)) = None
 taken k other w i j g h c = None
 
-captured : (k : ℕ) (e : Tree) (w : List ℕ) (i j : ℕ) (g h : Groups) (c : Captures e w i j g h) → Lays k (GroupStandsIn e k) g h (taken k e w i j g h c)
+captured : (k : ℕ) (e : Tree) (w : List ℕ) (i j : ℕ) (g h : SpansOfGroups) (c : Captures e w i j g h) → Lays k (GroupIsIn e k) g h (taken k e w i j g h c)
 captured k (seq a b) w i j g h c =
-    lays-then k (GroupStandsIn (seq a b) k) g c.2.0 h _ _ (lays-wider k (GroupStandsIn a k) _ g c.2.0 _ (or_left (has_group a k) (has_group b k)) (captured k a w i c.0 g c.2.0 c.2.1))
-    (lays-wider k (GroupStandsIn b k) _ c.2.0 h _ (or_right (has_group a k) (has_group b k)) (captured k b w c.0 j c.2.0 h c.2.2))
-captured k (alt a b) w i j g h (inl c) = lays-wider k (GroupStandsIn a k) _ g h _ (or_left (has_group a k) (has_group b k)) (captured k a w i j g h c.1)
-captured k (alt a b) w i j g h (inr c) = lays-wider k (GroupStandsIn b k) _ g h _ (or_right (has_group a k) (has_group b k)) (captured k b w i j g h c.1)
+    lays-then k (GroupIsIn (seq a b) k) g c.2.0 h _ _ (lays-wider k (GroupIsIn a k) _ g c.2.0 _ (or_left (has_group a k) (has_group b k)) (captured k a w i c.0 g c.2.0 c.2.1))
+    (lays-wider k (GroupIsIn b k) _ c.2.0 h _ (or_right (has_group a k) (has_group b k)) (captured k b w c.0 j c.2.0 h c.2.2))
+captured k (alt a b) w i j g h (inl c) = lays-wider k (GroupIsIn a k) _ g h _ (or_left (has_group a k) (has_group b k)) (captured k a w i j g h c.1)
+captured k (alt a b) w i j g h (inr c) = lays-wider k (GroupIsIn b k) _ g h _ (or_right (has_group a k) (has_group b k)) (captured k b w i j g h c.1)
 captured k (group n a) w i j g h c =
-    subst (λ l. Lays k (GroupStandsIn (group n a) k) g l (taken k (group n a) w i j g h c)) (sym c.2) (lays-around n (Some (i, j)) a k g c.0 _ (captured k a w i j (forget (group n a) g) c.0 c.1))
+    subst (λ l. Lays k (GroupIsIn (group n a) k) g l (taken k (group n a) w i j g h c)) (sym c.2) (lays-around n (Some (i, j)) a k g c.0 _ (captured k a w i j (forget (group n a) g) c.0 c.1))
 captured k (star a first) w i j g h (inl c) = lays-within a k g h _ (captured k a w c.1.0 j (forget a g) h c.1.2)
 captured k (star a first) w i j g h (inr (inl c)) = lays-within a k g h _ (captured k a w i i (forget a g) h c.3)
 captured k (star a first) w i j g h (inr (inr c)) = lays-none k _ g h c.1.1
@@ -277,8 +277,8 @@ captured k (opt a first) w i j g h (inr (inr c)) = lays-none k _ g h c.1.1
 captured k other w i j g h is = lays-none k _ g h is
 
 -- a walk over the match does the same to what is due
-abbrev Ends : ℕ → Tree → List ℕ → ℕ → ℕ → Groups → GroupState → GroupState → Type 0
-Ends k e w i j g old new = (h : Groups) × (c : Captures e w i j g h) × Takes k (taken k e w i j g h c) old new
+abbrev Ends : ℕ → Tree → List ℕ → ℕ → ℕ → SpansOfGroups → GroupState → GroupState → Type 0
+Ends k e w i j g old new = (h : SpansOfGroups) × (c : Captures e w i j g h) × Takes k (taken k e w i j g h c) old new
 
 module _ (k : ℕ) where
   still : (old new : GroupState) → new ≡ old → Takes k None old new
@@ -287,7 +287,7 @@ module _ (k : ℕ) where
   inside : (a : Tree) (d : Option Span) (old mid new : GroupState) → new ≡ drop_groups a mid → Takes k d old mid → Takes k (within a k d) old new
   inside a d old mid new is one = takes-then k d (deed (has_group a k) None) old mid new one (subst (Takes k (deed (has_group a k) None) mid) (sym is) (drop_takes a k mid))
 
-  passed : (e : Tree) (w : List ℕ) (i j n : ℕ) (old new : GroupState) → Matches e w i j → PassedBy e old new n → (g : Groups) → Ends k e w i j g old new
+  passed : (e : Tree) (w : List ℕ) (i j n : ℕ) (old new : GroupState) → Matches e w i j → PassedBy e old new n → (g : SpansOfGroups) → Ends k e w i j g old new
   passed e w i j n old new spans by g =
       let h = groups_after e w i j g in
       let c = groups_after-is e w i j g spans in
@@ -300,7 +300,7 @@ module _ (k : ℕ) where
         ]),
       )
 
-  walked : (e : Tree) (w : List ℕ) (i j n : ℕ) (old new : GroupState) → Matches e w i j → Walk e w i j old new n → (g : Groups) → Ends k e w i j g old new
+  walked : (e : Tree) (w : List ℕ) (i j n : ℕ) (old new : GroupState) → Matches e w i j → WalkEnters e w i j old new n → (g : SpansOfGroups) → Ends k e w i j g old new
   walked empty w i j n old new spans walk g = (g, refl, still old new walk.0)
   walked (set has) w i j n old new spans walk g = (g, refl, still old new walk.0)
   walked begin w i j n old new spans walk g = (g, refl, still old new walk.0)
@@ -342,12 +342,12 @@ same_lists (x ∷ xs) [] each = absurd (none-some x (sym (each 0)))
 same_lists (x ∷ xs) (y ∷ ys) each = let one = same_Some x y (each 0) in ap (λ b. b ∷ xs) one ∙ ap (λ l. y ∷ l) (same_lists xs ys (λ k. each (suc k)))
 
 -- entry 0 has no part in the others
-later : (span : Span) (k : ℕ) (inner : Groups) → slice_get (slice_set inner 0 span) (suc k) ≡ slice_get inner (suc k)
+later : (span : Span) (k : ℕ) (inner : SpansOfGroups) → slice_get (slice_set inner 0 span) (suc k) ≡ slice_get inner (suc k)
 later span k [] = refl
 later span k (x ∷ inner) = refl
 
 -- from a state with the match's span alone, an entry that is due is that of the report
-due_entry : (e : Tree) (w : List ℕ) (i j n k : ℕ) (old new : GroupState) (inner : Groups) → old.spans ≡ Some (i, j) ∷ replicate 9 None → Matches e w i j → Walk e w i j old new n →
+due_entry : (e : Tree) (w : List ℕ) (i j n k : ℕ) (old new : GroupState) (inner : SpansOfGroups) → old.spans ≡ Some (i, j) ∷ replicate 9 None → Matches e w i j → WalkEnters e w i j old new n →
     Captures e w i j no_groups inner → is_due old (suc k) ≡ true → slice_get new.spans (suc k) ≡ slice_get inner (suc k)
 due_entry e w i j n k old new inner start spans walk captures due =
     let one = walked (suc k) e w i j n old new spans walk no_groups in
@@ -355,27 +355,27 @@ due_entry e w i j n k old new inner start spans walk captures due =
     one.2.span ∙ ap (λ b. put b (slice_get old.spans (suc k)) d) due ∙ ap (λ l. lay (slice_get l (suc k)) d) start ∙ sym (captured (suc k) e w i j no_groups one.0 one.1).at
     ∙ ap (λ g. slice_get g (suc k)) (Captures-unique e w i j no_groups one.0 inner one.1 captures)
 
-pub wanted : (e : Tree) (w : List ℕ) (i j n k : ℕ) (old new : GroupState) (groups : Groups) → old.spans ≡ Some (i, j) ∷ replicate 9 None → Matches e w i j → Walk e w i j old new n →
+pub wanted : (e : Tree) (w : List ℕ) (i j n k : ℕ) (old new : GroupState) (groups : SpansOfGroups) → old.spans ≡ Some (i, j) ∷ replicate 9 None → Matches e w i j → WalkEnters e w i j old new n →
     IsReport e w i j groups → is_due old (suc k) ≡ true → slice_index_or new.spans (suc k) None ≡ slice_index_or groups (suc k) None
 wanted e w i j n k old new groups start spans walk report due =
     index_as new.spans groups (suc k)
     (due_entry e w i j n k old new report.0 start spans walk report.1 due ∙ sym (ap (λ g. slice_get g (suc k)) report.2 ∙ later (Some (i, j)) k report.0))
 
 -- and if all groups of the expression are due, all entries are
-pub walk_report : (e : Tree) (w : List ℕ) (i j n : ℕ) (old new : GroupState) → IsFirstState e i j old → Matches e w i j → Walk e w i j old new n → IsReport e w i j new.spans
+pub walk_report : (e : Tree) (w : List ℕ) (i j n : ℕ) (old new : GroupState) → IsFirstState e i j old → Matches e w i j → WalkEnters e w i j old new n → IsReport e w i j new.spans
 walk_report e w i j n old new start spans walk =
     let inner = groups_after e w i j no_groups in
     let captures = groups_after-is e w i j no_groups spans in
     (inner, captures, same_lists new.spans (slice_set inner 0 (Some (i, j))) (each inner captures))
   where
-    first : Groups
+    first : SpansOfGroups
     first = Some (i, j) ∷ replicate 9 None
 
     -- an entry that isn't due is as before
     before : (k : ℕ) → is_due old k ≡ false → slice_get new.spans k ≡ slice_get first k
     before k not = let one = walked k e w i j n old new spans walk no_groups in one.2.span ∙ ap (λ b. put b (slice_get old.spans k) (taken k e w i j no_groups one.0 one.1)) not ∙ ap (λ l. slice_get l k) start.none
 
-    each : (inner : Groups) → Captures e w i j no_groups inner → (k : ℕ) → slice_get new.spans k ≡ slice_get (slice_set inner 0 (Some (i, j))) k
+    each : (inner : SpansOfGroups) → Captures e w i j no_groups inner → (k : ℕ) → slice_get new.spans k ≡ slice_get (slice_set inner 0 (Some (i, j))) k
     each inner captures zero =
         let d = taken 0 e w i j no_groups inner captures in
         before 0 start.whole ∙ sym (set_same 0 (Some (i, j)) inner ∙ ap (λ x. lay x (Some (Some (i, j)))) (captured 0 e w i j no_groups inner captures).at ∙ lay_some d)
@@ -400,25 +400,25 @@ walk_report e w i j n old new start spans walk =
               ]
             ]
 
-abbrev pub made : List Bool → Groups → GroupState
+abbrev pub made : List Bool → SpansOfGroups → GroupState
 made due spans = record { due = due; spans = spans }
 
-pub same_state : (due rest : List Bool) (g h : Groups) → due ≡ rest → g ≡ h → made due g ≡ made rest h
+pub same_state : (due rest : List Bool) (g h : SpansOfGroups) → due ≡ rest → g ≡ h → made due g ≡ made rest h
 same_state due rest g h one two = ap (λ v. made v g) one ∙ ap (made rest) two
 
 -- where what is due has no span, to drop the groups of a tree is to take them from what is due
 pub drop_as : (t : Tree) (s new : GroupState) → ((k : ℕ) → is_due s k ≡ true → slice_index_or s.spans k None ≡ None) → new.spans ≡ s.spans → length new.due ≡ length s.due →
     ((k : ℕ) → is_due new k ≡ left (is_due s k) (deed (has_group t k) None)) → new ≡ drop_groups t s
-drop_as t s new blank same long tells =
+drop_as t s new blank same long shows =
     same_state new.due (drop_groups t s).due new.spans (drop_groups t s).spans
-    (ext_get_or false new.due (drop_groups t s).due (long ∙ sym (drop_takes t 0 s).long) (λ k _. tells k ∙ sym (drop_takes t k s).due))
+    (ext_get_or false new.due (drop_groups t s).due (long ∙ sym (drop_takes t 0 s).long) (λ k _. shows k ∙ sym (drop_takes t k s).due))
     (same ∙ same_lists s.spans (drop_groups t s).spans (λ k. sym ((drop_takes t k s).span
     ∙ blank_put (is_due s k) (slice_get s.spans k) (has_group t k) (λ due. unwrap_or-slice_get s.spans k None ∙ blank k due))))
 
 -- A walk over a match, as nodes are entered one after another.
 
 -- a walk passes by what has no group that is due
-pub passes_by : (e : Tree) (w : List ℕ) (i j : ℕ) (s : GroupState) → NoneDue e s → Walk e w i j s s 0
+pub passes_by : (e : Tree) (w : List ℕ) (i j : ℕ) (s : GroupState) → NoneDue e s → WalkEnters e w i j s s 0
 passes_by empty w i j s none = (refl, refl)
 passes_by (set has) w i j s none = (refl, refl)
 passes_by begin w i j s none = (refl, refl)
@@ -431,7 +431,7 @@ enters_later e w i j a b c up enters =
     let looks = enters.2 in
     (enters.0, enters.1, record { last = looks.last; n = looks.n; walk = looks.walk; counts = let h = looks.counts in omega (arith, up, h) })
 
-groupless : (e : Tree) → NoGroups e → (k : ℕ) → GroupStandsIn e k → ⊥
+groupless : (e : Tree) → NoGroups e → (k : ℕ) → GroupIsIn e k → ⊥
 groupless (seq a b) none k has = ⊎_elim (groupless a none.0 k) (groupless b none.1 k) (or_cases (has_group a k) (has_group b k) has)
 groupless (alt a b) none k has = ⊎_elim (groupless a none.0 k) (groupless b none.1 k) (or_cases (has_group a k) (has_group b k) has)
 groupless (group n a) none k has = none

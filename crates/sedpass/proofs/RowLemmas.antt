@@ -1,10 +1,10 @@
 -- How the marks at a place follow from what the leaves took, and what a row shows.
 use Rattle.std.proofs.Common.{length-set, ◌≡◌, ℕ, ◌+◌, ◌-◌, ◌*◌, ◌<◌, ◌≤◌, ◌⊎◌, ◌↔◌, Bool, List, length, Option, Some, None, IsTrue, refl, sym, ap, ◌∙◌, subst, inl, inr, ⊎_elim, true≢false, true, false, ◌&&◌, ◌||◌, arith, slice_get, slice_index_or, slice_set, eqb, nat_lt, reverse}
 use Rattle.std.proofs.Math.Path.{fun_ext}
-use Rattle.sedpass.proofs.Words.{slice_get_within, get_or-set_same, get_or-set_other, and_parts, and_from, cases_lt, cases_eq, eqb-true, eq-eqb, lt-ltb, le-ltb, IsArena, IsPart, WrittenExpression, tree_at, mirror_node, seen, seen-node, old_node, Node, NodeId, Empty, Set, Begin, End, Seq, Alt, Group, Star, Opt, Starts, CopiesLead, byte_is_in, enter_parts, takes_any, AgreeBelow, At, IsStart, one_start, SomeSpan, BeginsWith, Marked, Enters, at_root, with_whole, after_left, again, Ends, Matches-forward, CopiesLead-append, CopiesLead-last, open_at, close_at, takes_some, FromNode, Enters-from, Enters-part, Enters-inside, Enters-root, BeginsWith-part, both-iff, either-iff}
+use Rattle.sedpass.proofs.Words.{slice_get_within, get_or-set_same, get_or-set_other, and_parts, and_from, cases_lt, cases_eq, eqb-true, eq-eqb, lt-ltb, le-ltb, IsArena, IsPart, WrittenExpression, tree_at, mirror_node, seen, seen-node, old_node, Node, NodeId, Empty, Set, Begin, End, Seq, Alt, Group, Star, Opt, Starts, CopiesLead, byte_is_in, enter_parts, takes_any, AgreeBelow, HasSpan, IsStart, one_start, SomeSpan, BeginsWith, Marked, Enters, at_root, with_whole, after_left, again, CanEnd, Matches-forward, CopiesLead-append, CopiesLead-last, open_at, close_at, takes_some, FromNode, Enters-from, Enters-part, Enters-inside, Enters-root, BeginsWith-part, both-iff, either-iff}
 use Rattle.sedre.specs.Packed.{PartsBelow}
 use Rattle.sedpass.specs.Regions.{EndsPastIn, Opposite, ReachesEnd, MeetsAt}
-use Rattle.sedpass.specs.Rows.{Took, SameBytes, NoneEntered, InTree, is_tree, part_of, IsNodeRange, TreeBelow, TreeFrom, AreNull, ended_by, enter_looks, bits, TellTook, RowOfPlace, LeafAt, EndKept, TellFrom, RowFrom, RowLeadsTo}
+use Rattle.sedpass.specs.Rows.{Took, SameBytes, NoneEntered, InTree, is_tree, part_of, IsNodeRange, TreeBelow, TreeFrom, AreNull, ended_by, enter_looks, bits, ShowTook, RowOfPlace, LeafAt, EndKept, ShowFrom, RowFrom, RowLeadsTo}
 use Rattle.sedpass.proofs.LeaveLemmas.{ends_at, reaches_mirror}
 use Rattle.sedpass.proofs.MeetingLemmas.{meets_whole}
 
@@ -15,8 +15,8 @@ not_true A none = (λ h. absurd (true≢false (sym h)), λ a. absurd (none a))
 module _ (nodes : List Node) (w : List ℕ) (r : ℕ) (s : Starts) (arena : IsArena nodes) where
   -- a whole node ends where its part does that is entered with it alone
   up_with : (x j c : ℕ) (node : Node) → x ≤ r → slice_get nodes x ≡ Some node → IsPart node c →
-      ((i : ℕ) → FromNode nodes w r s x c i node → Enters nodes w r s x i) → ((i : ℕ) → At nodes w c i j → At nodes w x i j) →
-      Ends nodes w r s c j → Ends nodes w r s x j
+      ((i : ℕ) → FromNode nodes w r s x c i node → Enters nodes w r s x i) → ((i : ℕ) → HasSpan nodes w c i j → HasSpan nodes w x i j) →
+      CanEnd nodes w r s c j → CanEnd nodes w r s x j
   up_with x j c node le is part from whole end = (end.0, end.1, from end.0 (Enters-part nodes w r s arena x le c end.0 node is part end.2), whole end.0 end.3)
 
   -- the left part of a concatenation is entered with it
@@ -25,36 +25,36 @@ module _ (nodes : List Node) (w : List ℕ) (r : ℕ) (s : Starts) (arena : IsAr
       elim (Enters-part nodes w r s arena x le a.index i (Seq a b) is (inl refl) e) [ inl from ↦ from.1 | inr same ↦ absurd (arena.distinct x (Seq a b) is (sym same.0)) ]
 
   -- the right part where the left one ends
-  after_seq : (x i : ℕ) (a b : NodeId) → x ≤ r → slice_get nodes x ≡ Some (Seq a b) → Enters nodes w r s b.index i → (k : ℕ) × Enters nodes w r s x k × At nodes w a.index k i
+  after_seq : (x i : ℕ) (a b : NodeId) → x ≤ r → slice_get nodes x ≡ Some (Seq a b) → Enters nodes w r s b.index i → (k : ℕ) × Enters nodes w r s x k × HasSpan nodes w a.index k i
   after_seq x i a b le is e =
       elim (Enters-part nodes w r s arena x le b.index i (Seq a b) is (inr refl) e) [ inl same ↦ absurd (arena.distinct x (Seq a b) is same.0) | inr from ↦ from.1 ]
 
   -- a repetition goes on with one more copy
-  one_copy : (x j : ℕ) (a : NodeId) (first : Bool) → x ≤ r → slice_get nodes x ≡ Some (Star a first) → Ends nodes w r s a.index j →
-      (i : ℕ) × (i < j) × Enters nodes w r s x i × At nodes w x i j
+  one_copy : (x j : ℕ) (a : NodeId) (first : Bool) → x ≤ r → slice_get nodes x ≡ Some (Star a first) → CanEnd nodes w r s a.index j →
+      (i : ℕ) × (i < j) × Enters nodes w r s x i × HasSpan nodes w x i j
   one_copy x j a first le is end =
       let from = Enters-part nodes w r s arena x le a.index end.0 (Star a first) is refl end.2 in
       let on = Matches-forward (tree_at nodes x) w from.0 end.0 from.2 in
       let less = end.1 in
-      let copies = CopiesLead-append (At nodes w a.index) end.0 from.0 j (open_at nodes w x (Star a first) arena is from.0 end.0 from.2) end.1 end.3 in
+      let copies = CopiesLead-append (HasSpan nodes w a.index) end.0 from.0 j (open_at nodes w x (Star a first) arena is from.0 end.0 from.2) end.1 end.3 in
       (from.0, omega arith, from.1, close_at nodes w x (Star a first) arena is from.0 j copies)
 
   -- and its last copy ends with it
-  last_copy : (x i j : ℕ) (a : NodeId) (first : Bool) → slice_get nodes x ≡ Some (Star a first) → Enters nodes w r s x i → At nodes w x i j → (i ≡ j) ⊎ Ends nodes w r s a.index j
+  last_copy : (x i j : ℕ) (a : NodeId) (first : Bool) → slice_get nodes x ≡ Some (Star a first) → Enters nodes w r s x i → HasSpan nodes w x i j → (i ≡ j) ⊎ CanEnd nodes w r s a.index j
   last_copy x i j a first is e at =
       ⊎_elim
       (λ (none : i ≡ j). inl none)
-      (λ (last : (k : ℕ) × CopiesLead (At nodes w a.index) k i × (k < j) × At nodes w a.index k j).
+      (λ (last : (k : ℕ) × CopiesLead (HasSpan nodes w a.index) k i × (k < j) × HasSpan nodes w a.index k j).
       inr (last.0, last.2, again x a.index i last.0 a first is refl e (close_at nodes w x (Star a first) arena is i last.0 last.1), last.3))
-      (CopiesLead-last (At nodes w a.index) j i (open_at nodes w x (Star a first) arena is i j at))
+      (CopiesLead-last (HasSpan nodes w a.index) j i (open_at nodes w x (Star a first) arena is i j at))
 
   -- upwards: the mark of a node that ends with a byte, by those of its parts
   module _ (took : List Bool → Bool) (null ended : ℕ → Bool) (x j : ℕ) (le : x ≤ r) where
     ended_is : (node : Node) → slice_get nodes x ≡ Some node → ((m : List Bool) → node ≡ Set m → IsTrue (took m) ↔ Took nodes w r s j x m) →
-        ((c : ℕ) → IsPart node c → IsTrue (null c) ↔ At nodes w c j j) → ((c : ℕ) → IsPart node c → IsTrue (ended c) ↔ Ends nodes w r s c j) → IsTrue (ended_by took null ended node) ↔ Ends nodes w r s x j
-    ended_is Empty is takes nulls ends = not_true (Ends nodes w r s x j) (λ h. let f = open_at nodes w x Empty arena is h.0 j h.3 in let less = h.1 in omega arith)
-    ended_is Begin is takes nulls ends = not_true (Ends nodes w r s x j) (λ h. let f = open_at nodes w x Begin arena is h.0 j h.3 in let less = h.1 in omega (arith, f.1))
-    ended_is End is takes nulls ends = not_true (Ends nodes w r s x j) (λ h. let f = open_at nodes w x End arena is h.0 j h.3 in let less = h.1 in omega (arith, f.0, f.1))
+        ((c : ℕ) → IsPart node c → IsTrue (null c) ↔ HasSpan nodes w c j j) → ((c : ℕ) → IsPart node c → IsTrue (ended c) ↔ CanEnd nodes w r s c j) → IsTrue (ended_by took null ended node) ↔ CanEnd nodes w r s x j
+    ended_is Empty is takes nulls ends = not_true (CanEnd nodes w r s x j) (λ h. let f = open_at nodes w x Empty arena is h.0 j h.3 in let less = h.1 in omega arith)
+    ended_is Begin is takes nulls ends = not_true (CanEnd nodes w r s x j) (λ h. let f = open_at nodes w x Begin arena is h.0 j h.3 in let less = h.1 in omega (arith, f.1))
+    ended_is End is takes nulls ends = not_true (CanEnd nodes w r s x j) (λ h. let f = open_at nodes w x End arena is h.0 j h.3 in let less = h.1 in omega (arith, f.0, f.1))
     ended_is (Set m) is takes nulls ends =
         let truth = takes m refl in (
           λ h. let here = truth.0 h in
@@ -63,15 +63,15 @@ module _ (nodes : List Node) (w : List ℕ) (r : ℕ) (s : Starts) (arena : IsAr
           λ h. let f = open_at nodes w x (Set m) arena is h.0 j h.3 in truth.1 (h.0, sym f.3, h.2, subst (λ o. IsTrue (byte_is_in o m)) (sym f.1) f.2),
         )
     ended_is (Seq a b) is takes nulls ends =
-        let truth = either-iff (ended b.index) (ended a.index && null b.index) (Ends nodes w r s b.index j) (Ends nodes w r s a.index j × At nodes w b.index j j) (ends b.index (inr refl))
-        (both-iff (ended a.index) (null b.index) (Ends nodes w r s a.index j) (At nodes w b.index j j) (ends a.index (inl refl)) (nulls b.index (inr refl))) in (
+        let truth = either-iff (ended b.index) (ended a.index && null b.index) (CanEnd nodes w r s b.index j) (CanEnd nodes w r s a.index j × HasSpan nodes w b.index j j) (ends b.index (inr refl))
+        (both-iff (ended a.index) (null b.index) (CanEnd nodes w r s a.index j) (HasSpan nodes w b.index j j) (ends a.index (inl refl)) (nulls b.index (inr refl))) in (
           λ h. ⊎_elim
-              (λ (right : Ends nodes w r s b.index j).
+              (λ (right : CanEnd nodes w r s b.index j).
               let from = after_seq x right.0 a b le is right.2 in
               let on = Matches-forward (tree_at nodes a.index) w from.0 right.0 from.2 in
               let less = right.1 in
               (from.0, omega arith, from.1, close_at nodes w x (Seq a b) arena is from.0 j (right.0, from.2, right.3)))
-              (λ (left : Ends nodes w r s a.index j × At nodes w b.index j j).
+              (λ (left : CanEnd nodes w r s a.index j × HasSpan nodes w b.index j j).
               let end = left.0 in
               (end.0, end.1, with_seq x end.0 a b le is end.2, close_at nodes w x (Seq a b) arena is end.0 j (j, end.3, left.1)))
               (truth.0 h),
@@ -81,18 +81,18 @@ module _ (nodes : List Node) (w : List ℕ) (r : ℕ) (s : Starts) (arena : IsAr
               (λ (lt : f.0 < j). inl (f.0, lt, after_left x b.index h.0 f.0 a b is refl h.2 f.1, f.2))
               (λ (ge : j ≤ f.0).
               let e : f.0 ≡ j = omega arith in
-              inr ((h.0, h.1, with_whole x a.index h.0 (Seq a b) is refl h.2, subst (λ k. At nodes w a.index h.0 k) e f.1), subst (λ k. At nodes w b.index k j) e f.2))
+              inr ((h.0, h.1, with_whole x a.index h.0 (Seq a b) is refl h.2, subst (λ k. HasSpan nodes w a.index h.0 k) e f.1), subst (λ k. HasSpan nodes w b.index k j) e f.2))
               (cases_lt f.0 j)),
         )
     ended_is (Alt a b) is takes nulls ends =
-        let truth = either-iff (ended a.index) (ended b.index) (Ends nodes w r s a.index j) (Ends nodes w r s b.index j) (ends a.index (inl refl)) (ends b.index (inr refl)) in (
+        let truth = either-iff (ended a.index) (ended b.index) (CanEnd nodes w r s a.index j) (CanEnd nodes w r s b.index j) (ends a.index (inl refl)) (ends b.index (inr refl)) in (
           λ h. ⊎_elim
-              (λ (l : Ends nodes w r s a.index j). up_with x j a.index (Alt a b) le is (inl refl) (λ i f. f) (λ i at. close_at nodes w x (Alt a b) arena is i j (inl at)) l)
-              (λ (m : Ends nodes w r s b.index j). up_with x j b.index (Alt a b) le is (inr refl) (λ i f. f) (λ i at. close_at nodes w x (Alt a b) arena is i j (inr at)) m)
+              (λ (l : CanEnd nodes w r s a.index j). up_with x j a.index (Alt a b) le is (inl refl) (λ i f. f) (λ i at. close_at nodes w x (Alt a b) arena is i j (inl at)) l)
+              (λ (m : CanEnd nodes w r s b.index j). up_with x j b.index (Alt a b) le is (inr refl) (λ i f. f) (λ i at. close_at nodes w x (Alt a b) arena is i j (inr at)) m)
               (truth.0 h),
           λ h. truth.1 (⊎_elim
-              (λ (l : At nodes w a.index h.0 j). inl (h.0, h.1, with_whole x a.index h.0 (Alt a b) is (inl refl) h.2, l))
-              (λ (m : At nodes w b.index h.0 j). inr (h.0, h.1, with_whole x b.index h.0 (Alt a b) is (inr refl) h.2, m))
+              (λ (l : HasSpan nodes w a.index h.0 j). inl (h.0, h.1, with_whole x a.index h.0 (Alt a b) is (inl refl) h.2, l))
+              (λ (m : HasSpan nodes w b.index h.0 j). inr (h.0, h.1, with_whole x b.index h.0 (Alt a b) is (inr refl) h.2, m))
               (open_at nodes w x (Alt a b) arena is h.0 j h.3)),
         )
     ended_is (Group k a) is takes nulls ends = (
@@ -116,10 +116,10 @@ module _ (nodes : List Node) (w : List ℕ) (r : ℕ) (s : Starts) (arena : IsAr
     with_node c node is begins alone =
         (λ h. with_whole x c p node is begins (enters.0 h), λ h. enters.1 (alone (Enters-part nodes w r s arena x le c p node is (BeginsWith-part node c begins) h)))
 
-    right_part : (a b : NodeId) → slice_get nodes x ≡ Some (Seq a b) → (null ended : Bool) → (IsTrue null ↔ At nodes w a.index p p) → (IsTrue ended ↔ Ends nodes w r s a.index p) →
+    right_part : (a b : NodeId) → slice_get nodes x ≡ Some (Seq a b) → (null ended : Bool) → (IsTrue null ↔ HasSpan nodes w a.index p p) → (IsTrue ended ↔ CanEnd nodes w r s a.index p) →
         IsTrue (ended || (here && null)) ↔ Enters nodes w r s b.index p
     right_part a b is null ended nulls ends =
-        let truth = either-iff ended (here && null) (Ends nodes w r s a.index p) (Enters nodes w r s x p × At nodes w a.index p p) ends (both-iff here null (Enters nodes w r s x p) (At nodes w a.index p p) enters nulls) in (
+        let truth = either-iff ended (here && null) (CanEnd nodes w r s a.index p) (Enters nodes w r s x p × HasSpan nodes w a.index p p) ends (both-iff here null (Enters nodes w r s x p) (HasSpan nodes w a.index p p) enters nulls) in (
           λ h. elim (truth.0 h) [ inl end ↦ after_left x b.index end.0 p a b is refl (with_seq x end.0 a b le is end.2) end.3 | inr none ↦ after_left x b.index p p a b is refl none.0 none.1 ],
           λ h. let from = after_seq x p a b le is h in
               let on = Matches-forward (tree_at nodes a.index) w from.0 p from.2 in
@@ -127,20 +127,20 @@ module _ (nodes : List Node) (w : List ℕ) (r : ℕ) (s : Starts) (arena : IsAr
               (λ (lt : from.0 < p). inl (from.0, lt, with_whole x a.index from.0 (Seq a b) is refl from.1, from.2))
               (λ (ge : p ≤ from.0).
               let e : from.0 ≡ p = omega arith in
-              inr (subst (λ k. Enters nodes w r s x k) e from.1, subst (λ k. At nodes w a.index k p) e from.2))
+              inr (subst (λ k. Enters nodes w r s x k) e from.1, subst (λ k. HasSpan nodes w a.index k p) e from.2))
               (cases_lt from.0 p)),
         )
 
-    copy_part : (a : NodeId) (first : Bool) → slice_get nodes x ≡ Some (Star a first) → (ended : Bool) → (IsTrue ended ↔ Ends nodes w r s a.index p) → IsTrue (here || ended) ↔ Enters nodes w r s a.index p
+    copy_part : (a : NodeId) (first : Bool) → slice_get nodes x ≡ Some (Star a first) → (ended : Bool) → (IsTrue ended ↔ CanEnd nodes w r s a.index p) → IsTrue (here || ended) ↔ Enters nodes w r s a.index p
     copy_part a first is ended ends =
-        let truth = either-iff here ended (Enters nodes w r s x p) (Ends nodes w r s a.index p) enters ends in (
+        let truth = either-iff here ended (Enters nodes w r s x p) (CanEnd nodes w r s a.index p) enters ends in (
           λ h. elim (truth.0 h) [ inl begins ↦ with_whole x a.index p (Star a first) is refl begins | inr end ↦ let more = one_copy x p a first le is end in again x a.index more.0 p a first is refl more.2 more.3 ],
           λ h. let from = Enters-part nodes w r s arena x le a.index p (Star a first) is refl h in
               truth.1 (elim (last_copy x from.0 p a first is from.1 from.2) [ inl none ↦ inl (subst (λ k. Enters nodes w r s x k) none from.1) | inr end ↦ inr end ]),
         )
 
 -- where no leaf is entered no match goes on
-pub dead : (nodes : List Node) (w : List ℕ) (r p i k : ℕ) (s : Starts) → IsArena nodes → r < length nodes → NoneEntered nodes w r s p → IsStart s i → i ≤ p → p < k → At nodes w r i k → ⊥
+pub dead : (nodes : List Node) (w : List ℕ) (r p i k : ℕ) (s : Starts) → IsArena nodes → r < length nodes → NoneEntered nodes w r s p → IsStart s i → i ≤ p → p < k → HasSpan nodes w r i k → ⊥
 dead nodes w r p i k s arena inside none start low high at =
     let met = (meets_whole nodes w r p s (one_start k) arena inside).1 (i, k, start, low, high, at, (omega arith, omega arith)) in
     none met.0 met.1 met.2 met.3
@@ -162,22 +162,22 @@ enters_tree nodes w r s x j (after_left y _ i _ a b is right e at) = part_of y x
 enters_tree nodes w r s x j (again y _ i _ a first is inner e at) = part_of y x (Star a first) is inner (enters_tree nodes w r s y i e)
 
 -- a node in r is r, or a part of one above it
-pub tree_told : (nodes : List Node) → IsArena nodes → (r x : ℕ) → InTree nodes r x → TreeFrom nodes r (x + 1) x
-tree_told nodes arena r x (is_tree _ e) = (is_tree x e, inl e)
-tree_told nodes arena r x (part_of y _ node is part up) =
+pub tree_shown : (nodes : List Node) → IsArena nodes → (r x : ℕ) → InTree nodes r x → TreeFrom nodes r (x + 1) x
+tree_shown nodes arena r x (is_tree _ e) = (is_tree x e, inl e)
+tree_shown nodes arena r x (part_of y _ node is part up) =
     let less = arena.below y x node is part in
     (part_of y x node is part up, inr (y, node, omega arith, (InTree-inside nodes arena r y up), is, part))
 
 tree_step : (nodes : List Node) (r x : ℕ) (node : Node) → slice_get nodes x ≡ Some node → (c : ℕ) → TreeFrom nodes r x c → TreeFrom nodes r (x + 1) c ⊎ IsPart node c
-tree_step nodes r x node is c told = elim told.1 [
-  | inl e ↦ inl (told.0, inl e)
+tree_step nodes r x node is c shown = elim shown.1 [
+  | inl e ↦ inl (shown.0, inl e)
   | inr h ↦ let low = h.2 in
       elim (cases_eq h.0 x) [
         | inl e ↦
             let at : slice_get nodes x ≡ Some h.1 = ap (slice_get nodes) (sym e) ∙ h.4 in
             let here : h.1 ≡ node = cc in
             inr (subst (λ n. IsPart n c) here h.5)
-        | inr ne ↦ inl (told.0, inr (h.0, h.1, omega arith, h.3, h.4, h.5))
+        | inr ne ↦ inl (shown.0, inr (h.0, h.1, omega arith, h.3, h.4, h.5))
       ]
 ]
 
@@ -188,31 +188,31 @@ pub set_same : (marks after : List Bool) (x : ℕ) (v : Bool) → x < length mar
 set_same marks after x v inside is = ap (λ l. slice_index_or l x false) is ∙ get_or-set_same marks x v false inside
 
 -- one more bit that is true exactly where P is
-one_told : (bits after : ℕ → Bool) (P : ℕ → Type 0) (x : ℕ) (v : Bool) → after x ≡ v → (IsTrue v ↔ P x) → ((c : ℕ) → (c ≡ x → ⊥) → after c ≡ bits c) → (c : ℕ) → ((c ≡ x → ⊥) → IsTrue (bits c) ↔ P c) → IsTrue (after c) ↔ P c
-one_told bits after P x v is truth others c old = ⊎_elim (λ (e : c ≡ x). rw (e, is) truth) (λ (ne : c ≡ x → ⊥). rw (others c ne) (old ne)) (cases_eq c x)
+one_shown : (bits after : ℕ → Bool) (P : ℕ → Type 0) (x : ℕ) (v : Bool) → after x ≡ v → (IsTrue v ↔ P x) → ((c : ℕ) → (c ≡ x → ⊥) → after c ≡ bits c) → (c : ℕ) → ((c ≡ x → ⊥) → IsTrue (bits c) ↔ P c) → IsTrue (after c) ↔ P c
+one_shown bits after P x v is truth others c old = ⊎_elim (λ (e : c ≡ x). rw (e, is) truth) (λ (ne : c ≡ x → ⊥). rw (others c ne) (old ne)) (cases_eq c x)
 
 mark_one : (marks after : List Bool) (x : ℕ) (v : Bool) (S R P : ℕ → Type 0) → after ≡ slice_set marks x v → x < length marks → (IsTrue v ↔ P x) → ((c : ℕ) → R c → S c ⊎ (c ≡ x)) →
     Marked marks S P → Marked after R P
-mark_one marks after x v S R P is inside truth more marked c told =
-    one_told (λ n. slice_index_or marks n false) (λ n. slice_index_or after n false) P x v (set_same marks after x v inside is) truth (λ n ne. set_other marks after x n v ne is) c
-    (λ ne. elim (more c told) [ inl h ↦ marked c h | inr e ↦ absurd (ne e) ])
+mark_one marks after x v S R P is inside truth more marked c shown =
+    one_shown (λ n. slice_index_or marks n false) (λ n. slice_index_or after n false) P x v (set_same marks after x v inside is) truth (λ n ne. set_other marks after x n v ne is) c
+    (λ ne. elim (more c shown) [ inl h ↦ marked c h | inr e ↦ absurd (ne e) ])
 
 module _ (nodes : List Node) (w : List ℕ) (r x p : ℕ) (s : Starts) (node : Node) (arena : IsArena nodes) (inside : r < length nodes) (there : InTree nodes r x) (is : slice_get nodes x ≡ Some node)
     (null : ℕ → Bool) (nulls : AreNull nodes w p null) where
   in_tree : x ≤ r
   in_tree = InTree-inside nodes arena r x there
 
-  null_part : (c : ℕ) → IsPart node c → IsTrue (null c) ↔ At nodes w c p p
+  null_part : (c : ℕ) → IsPart node c → IsTrue (null c) ↔ HasSpan nodes w c p p
   null_part c part = let less = arena.below x c node is part in let low = in_tree in nulls c (omega arith)
 
   -- one turn of the scan upwards
   pub up : (took : List Bool → Bool) (v : Bool) (marks after : List Bool) → ((m : List Bool) → node ≡ Set m → IsTrue (took m) ↔ Took nodes w r s p x m) →
       x < length marks → v ≡ ended_by took null (λ c. slice_index_or marks c false) node → after ≡ slice_set marks x v →
-      Marked marks (TreeBelow nodes r x) (λ c. Ends nodes w r s c p) → Marked after (TreeBelow nodes r (x + 1)) (λ c. Ends nodes w r s c p)
+      Marked marks (TreeBelow nodes r x) (λ c. CanEnd nodes w r s c p) → Marked after (TreeBelow nodes r (x + 1)) (λ c. CanEnd nodes w r s c p)
   up took v marks after takes_it long value is_after marked =
       let law = ended_is nodes w r s arena took null (λ c. slice_index_or marks c false) x p in_tree node is takes_it null_part (λ c part. marked c (part_of x c node is part there, arena.below x c node is part)) in
-      mark_one marks after x v (TreeBelow nodes r x) (TreeBelow nodes r (x + 1)) (λ c. Ends nodes w r s c p) is_after long (λ h. law.0 (sym value ∙ h), λ h. value ∙ law.1 h)
-      (λ c told. ⊎_elim (λ (e : c ≡ x). inr e) (λ (ne : c ≡ x → ⊥). inl (told.0, let less = told.1 in omega arith)) (cases_eq c x))
+      mark_one marks after x v (TreeBelow nodes r x) (TreeBelow nodes r (x + 1)) (λ c. CanEnd nodes w r s c p) is_after long (λ h. law.0 (sym value ∙ h), λ h. value ∙ law.1 h)
+      (λ c shown. ⊎_elim (λ (e : c ≡ x). inr e) (λ (ne : c ≡ x → ⊥). inl (shown.0, let less = shown.1 in omega arith)) (cases_eq c x))
       marked
 
 -- the scan downwards begins at the root
@@ -221,30 +221,30 @@ pub down_root : (nodes : List Node) (w : List ℕ) (r p y : ℕ) (s : Starts) (f
 down_root nodes w r p y s first marks after arena all long is_after begins =
     mark_one marks after r first (λ c. ⊥) (TreeFrom nodes r y) (λ c. Enters nodes w r s c p) is_after long
     (λ h. at_root r p refl (begins.0 h), λ h. begins.1 (Enters-root nodes w r s arena r p refl h))
-    (λ c told. ⊎_elim (λ (e : c ≡ r). inr e) (λ (h : (z : ℕ) × (n : Node) × (y ≤ z) × (z ≤ r) × (slice_get nodes z ≡ Some n) × IsPart n c). absurd (let low = h.2 in let high = h.3 in omega arith)) told.1)
+    (λ c shown. ⊎_elim (λ (e : c ≡ r). inr e) (λ (h : (z : ℕ) × (n : Node) × (y ≤ z) × (z ≤ r) × (slice_get nodes z ≡ Some n) × IsPart n c). absurd (let low = h.2 in let high = h.3 in omega arith)) shown.1)
     (λ c none. absurd none)
 
 -- one turn of the scan downwards
 module _ (nodes : List Node) (w : List ℕ) (r x p : ℕ) (s : Starts) (arena : IsArena nodes) (inside : r < length nodes) (there : InTree nodes r x)
-    (null ended : ℕ → Bool) (nulls : AreNull nodes w p null) (ends : (c : ℕ) → InTree nodes r c → IsTrue (ended c) ↔ Ends nodes w r s c p)
+    (null ended : ℕ → Bool) (nulls : AreNull nodes w p null) (ends : (c : ℕ) → InTree nodes r c → IsTrue (ended c) ↔ CanEnd nodes w r s c p)
     (marks : List Bool) (long : length nodes ≤ length marks) (marked : Marked marks (TreeFrom nodes r (x + 1)) (λ c. Enters nodes w r s c p)) where
   abbrev here_mark : Bool
   here_mark = slice_index_or marks x false
 
-  here_told : IsTrue here_mark ↔ Enters nodes w r s x p
-  here_told = marked x (tree_told nodes arena r x there)
+  here_shown : IsTrue here_mark ↔ Enters nodes w r s x p
+  here_shown = marked x (tree_shown nodes arena r x there)
 
   low_root : x ≤ r
   low_root = InTree-inside nodes arena r x there
 
   none_more : (node : Node) → slice_get nodes x ≡ Some node → ((c : ℕ) → IsPart node c → ⊥) → Marked marks (TreeFrom nodes r x) (λ c. Enters nodes w r s c p)
-  none_more node is none c told = marked c (⊎_elim (λ (t : TreeFrom nodes r (x + 1) c). t) (λ (part : IsPart node c). absurd (none c part)) (tree_step nodes r x node is c told))
+  none_more node is none c shown = marked c (⊎_elim (λ (t : TreeFrom nodes r (x + 1) c). t) (λ (part : IsPart node c). absurd (none c part)) (tree_step nodes r x node is c shown))
 
   one_more_part : (node : Node) (a : ℕ) (v : Bool) (after : List Bool) → slice_get nodes x ≡ Some node → a < x → ((c : ℕ) → IsPart node c → a ≡ c) → after ≡ slice_set marks a v → (IsTrue v ↔ Enters nodes w r s a p) →
       Marked after (TreeFrom nodes r x) (λ c. Enters nodes w r s c p)
   one_more_part node a v after is less only is_after truth =
       mark_one marks after a v (TreeFrom nodes r (x + 1)) (TreeFrom nodes r x) (λ c. Enters nodes w r s c p) is_after (let low = low_root in omega arith) truth
-      (λ c told. ⊎_elim (λ (t : TreeFrom nodes r (x + 1) c). inl t) (λ (part : IsPart node c). inr (sym (only c part))) (tree_step nodes r x node is c told)) marked
+      (λ c shown. ⊎_elim (λ (t : TreeFrom nodes r (x + 1) c). inl t) (λ (part : IsPart node c). inr (sym (only c part))) (tree_step nodes r x node is c shown)) marked
 
   two_more_parts : (node : Node) (a b : ℕ) (u v : Bool) (after : List Bool) → slice_get nodes x ≡ Some node → a < x → b < x → ((c : ℕ) → IsPart node c → (a ≡ c) ⊎ (b ≡ c)) →
       after ≡ slice_set (slice_set marks a u) b v → (IsTrue u ↔ Enters nodes w r s a p) → (IsTrue v ↔ Enters nodes w r s b p) →
@@ -254,7 +254,7 @@ module _ (nodes : List Node) (w : List ℕ) (r x p : ℕ) (s : Starts) (arena : 
       let first : Marked (slice_set marks a u) (λ c. TreeFrom nodes r (x + 1) c ⊎ (c ≡ a)) (λ c. Enters nodes w r s c p) =
       mark_one marks (slice_set marks a u) a u (TreeFrom nodes r (x + 1)) (λ c. TreeFrom nodes r (x + 1) c ⊎ (c ≡ a)) (λ c. Enters nodes w r s c p) refl (omega arith) truth (λ c t. t) marked in
       mark_one (slice_set marks a u) after b v (λ c. TreeFrom nodes r (x + 1) c ⊎ (c ≡ a)) (TreeFrom nodes r x) (λ c. Enters nodes w r s c p) is_after (omega (arith, length-set marks a u)) truth'
-      (λ c told. elim (tree_step nodes r x node is c told) [ inl t ↦ inl (inl t) | inr part ↦ ⊎_elim (λ (l : a ≡ c). inl (inr (sym l))) (λ (m : b ≡ c). inr (sym m)) (only c part) ]) first
+      (λ c shown. elim (tree_step nodes r x node is c shown) [ inl t ↦ inl (inl t) | inr part ↦ ⊎_elim (λ (l : a ≡ c). inl (inr (sym l))) (λ (m : b ≡ c). inr (sym m)) (only c part) ]) first
 
   pub down : (node : Node) (after : List Bool) → slice_get nodes x ≡ Some node → after ≡ enter_parts here_mark null ended node marks →
       Marked after (TreeFrom nodes r x) (λ c. Enters nodes w r s c p)
@@ -263,21 +263,21 @@ module _ (nodes : List Node) (w : List ℕ) (r x p : ℕ) (s : Starts) (arena : 
       let less' = arena.below x b.index (Seq a b) is (inr refl) in
       let low = low_root in
       two_more_parts (Seq a b) a.index b.index here_mark (ended a.index || (here_mark && null a.index)) after is less less' (λ c part. part) is_after
-      (with_node nodes w r s arena x p low here_mark here_told a.index (Seq a b) is refl (λ h. elim h [ inl left ↦ left.1 | inr same ↦ absurd (arena.distinct x (Seq a b) is (sym same.0)) ]))
-      (right_part nodes w r s arena x p low here_mark here_told a b is (null a.index) (ended a.index) (nulls a.index (omega arith)) (ends a.index (part_of x a.index (Seq a b) is (inl refl) there)))
+      (with_node nodes w r s arena x p low here_mark here_shown a.index (Seq a b) is refl (λ h. elim h [ inl left ↦ left.1 | inr same ↦ absurd (arena.distinct x (Seq a b) is (sym same.0)) ]))
+      (right_part nodes w r s arena x p low here_mark here_shown a b is (null a.index) (ended a.index) (nulls a.index (omega arith)) (ends a.index (part_of x a.index (Seq a b) is (inl refl) there)))
   down (Alt a b) after is is_after =
       two_more_parts (Alt a b) a.index b.index here_mark here_mark after is (arena.below x a.index (Alt a b) is (inl refl)) (arena.below x b.index (Alt a b) is (inr refl)) (λ c part. part) is_after
-      (with_node nodes w r s arena x p low_root here_mark here_told a.index (Alt a b) is (inl refl) (λ h. h))
-      (with_node nodes w r s arena x p low_root here_mark here_told b.index (Alt a b) is (inr refl) (λ h. h))
+      (with_node nodes w r s arena x p low_root here_mark here_shown a.index (Alt a b) is (inl refl) (λ h. h))
+      (with_node nodes w r s arena x p low_root here_mark here_shown b.index (Alt a b) is (inr refl) (λ h. h))
   down (Group k a) after is is_after =
       one_more_part (Group k a) a.index here_mark after is (arena.below x a.index (Group k a) is refl) (λ c part. part) is_after
-      (with_node nodes w r s arena x p low_root here_mark here_told a.index (Group k a) is refl (λ h. h))
+      (with_node nodes w r s arena x p low_root here_mark here_shown a.index (Group k a) is refl (λ h. h))
   down (Star a first) after is is_after =
       one_more_part (Star a first) a.index (here_mark || ended a.index) after is (arena.below x a.index (Star a first) is refl) (λ c part. part) is_after
-      (copy_part nodes w r s arena x p low_root here_mark here_told a first is (ended a.index) (ends a.index (part_of x a.index (Star a first) is refl there)))
+      (copy_part nodes w r s arena x p low_root here_mark here_shown a first is (ended a.index) (ends a.index (part_of x a.index (Star a first) is refl there)))
   down (Opt a first) after is is_after =
       one_more_part (Opt a first) a.index here_mark after is (arena.below x a.index (Opt a first) is refl) (λ c part. part) is_after
-      (with_node nodes w r s arena x p low_root here_mark here_told a.index (Opt a first) is refl (λ h. h))
+      (with_node nodes w r s arena x p low_root here_mark here_shown a.index (Opt a first) is refl (λ h. h))
   down other after is is_after = subst (λ l. Marked l (TreeFrom nodes r x) (λ c. Enters nodes w r s c p)) (sym is_after) (none_more other is (λ c part. part))
 
 -- The row of a place, bit for bit.
@@ -290,16 +290,16 @@ is_set (Set m) h = (m, refl)
 is_set other h = absurd (true≢false (sym h))
 
 -- the bits from y on decide P, by one after another
-tell_none : (bits : ℕ → Bool) (P : ℕ → Type 0) (y : ℕ) → ((c : ℕ) → bits c ≡ false) → ((c : ℕ) → P c → c < y) → TellFrom y bits P
-tell_none bits P y none all c = (λ h. absurd (false_bit (bits c) (none c) h), λ h. let low = h.0 in let less = all c h.1 in absurd (omega arith))
+show_none : (bits : ℕ → Bool) (P : ℕ → Type 0) (y : ℕ) → ((c : ℕ) → bits c ≡ false) → ((c : ℕ) → P c → c < y) → ShowFrom y bits P
+show_none bits P y none all c = (λ h. absurd (false_bit (bits c) (none c) h), λ h. let low = h.0 in let less = all c h.1 in absurd (omega arith))
 
-tell_more : (bits after : ℕ → Bool) (P : ℕ → Type 0) (x : ℕ) (v : Bool) → after x ≡ v → (IsTrue v ↔ P x) → ((c : ℕ) → (c ≡ x → ⊥) → after c ≡ bits c) → TellFrom (x + 1) bits P → TellFrom x after P
-tell_more bits after P x v is truth others told c =
-    one_told bits after (λ n. (x ≤ n) × P n) x v is (λ h. (omega arith, truth.0 h), λ h. truth.1 h.1) others c
-    (λ ne. (λ h. let old = (told c).0 h in let low = old.0 in (omega arith, old.1), λ h. let low = h.0 in (told c).1 (omega arith, h.1)))
+show_more : (bits after : ℕ → Bool) (P : ℕ → Type 0) (x : ℕ) (v : Bool) → after x ≡ v → (IsTrue v ↔ P x) → ((c : ℕ) → (c ≡ x → ⊥) → after c ≡ bits c) → ShowFrom (x + 1) bits P → ShowFrom x after P
+show_more bits after P x v is truth others shown c =
+    one_shown bits after (λ n. (x ≤ n) × P n) x v is (λ h. (omega arith, truth.0 h), λ h. truth.1 h.1) others c
+    (λ ne. (λ h. let old = (shown c).0 h in let low = old.0 in (omega arith, old.1), λ h. let low = h.0 in (shown c).1 (omega arith, h.1)))
 
-tell_all : (bits : ℕ → Bool) (P : ℕ → Type 0) (low : ℕ) → ((c : ℕ) → P c → low ≤ c) → TellFrom low bits P → (c : ℕ) → IsTrue (bits c) ↔ P c
-tell_all bits P low all told c = (λ h. ((told c).0 h).1, λ h. (told c).1 (all c h, h))
+show_all : (bits : ℕ → Bool) (P : ℕ → Type 0) (low : ℕ) → ((c : ℕ) → P c → low ≤ c) → ShowFrom low bits P → (c : ℕ) → IsTrue (bits c) ↔ P c
+show_all bits P low all shown c = (λ h. ((shown c).0 h).1, λ h. (shown c).1 (all c h, h))
 
 module _ (nodes : List Node) (w : List ℕ) (r p : ℕ) (s : Starts) (keeps : Bool) where
   abbrev Leaf : ℕ → Type 0
@@ -310,12 +310,12 @@ module _ (nodes : List Node) (w : List ℕ) (r p : ℕ) (s : Starts) (keeps : Bo
 
   pub row_none : (y : ℕ) (entered ended : ℕ → Bool) → IsArena nodes → r < y → ((c : ℕ) → entered c ≡ false) → ((c : ℕ) → ended c ≡ false) → RowFrom nodes w r s keeps p y entered ended
   row_none y entered ended arena past no_leaf no_end = (
-    tell_none entered Leaf y no_leaf (λ c h. let up = Enters-inside nodes w r s arena c p h.2 in omega arith),
-    tell_none ended Kept y no_end (λ c h. let up = Enters-inside nodes w r s arena c h.1.0 h.1.1 in omega arith),
+    show_none entered Leaf y no_leaf (λ c h. let up = Enters-inside nodes w r s arena c p h.2 in omega arith),
+    show_none ended Kept y no_end (λ c h. let up = Enters-inside nodes w r s arena c h.1.0 h.1.1 in omega arith),
   )
 
   pub row_step : (x : ℕ) (node : Node) (here end null : Bool) (entered ended after after_ended : ℕ → Bool) → slice_get nodes x ≡ Some node →
-      (IsTrue here ↔ Enters nodes w r s x p) → (IsTrue end ↔ Ends nodes w r s x p) → (IsTrue null ↔ At nodes w x p p) →
+      (IsTrue here ↔ Enters nodes w r s x p) → (IsTrue end ↔ CanEnd nodes w r s x p) → (IsTrue null ↔ HasSpan nodes w x p p) →
       after x ≡ (takes_any node && here) → after_ended x ≡ ((keeps || eqb x r) && (end || (here && null))) →
       ((c : ℕ) → (c ≡ x → ⊥) → (after c ≡ entered c) × (after_ended c ≡ ended c)) →
       RowFrom nodes w r s keeps p (x + 1) entered ended → RowFrom nodes w r s keeps p x after after_ended
@@ -329,18 +329,18 @@ module _ (nodes : List Node) (w : List ℕ) (r p : ℕ) (s : Starts) (keeps : Bo
       ) in
       let asked : IsTrue (keeps || eqb x r) ↔ (IsTrue keeps ⊎ (x ≡ r)) = either-iff keeps (eqb x r) (IsTrue keeps) (x ≡ r) (λ h. h, λ h. h) (eqb-true x r, eq-eqb x r) in
       let law = ends_at nodes w r x p s in
-      let truth = either-iff end (here && null) (Ends nodes w r s x p) (Enters nodes w r s x p × At nodes w x p p) ends (both-iff here null (Enters nodes w r s x p) (At nodes w x p p) enters nulls) in
+      let truth = either-iff end (here && null) (CanEnd nodes w r s x p) (Enters nodes w r s x p × HasSpan nodes w x p p) ends (both-iff here null (Enters nodes w r s x p) (HasSpan nodes w x p p) enters nulls) in
       let over : IsTrue (end || (here && null)) ↔ EndsPastIn nodes w r s x p = (λ h. law.1 (truth.0 h), λ h. truth.1 (law.0 h)) in
       let kept = both-iff (keeps || eqb x r) (end || (here && null)) (IsTrue keeps ⊎ (x ≡ r)) (EndsPastIn nodes w r s x p) asked over in (
-        tell_more entered after Leaf x (takes_any node && here) is_after leaf (λ c ne. (others c ne).0) row.0,
-        tell_more ended after_ended Kept x ((keeps || eqb x r) && (end || (here && null))) is_ended kept (λ c ne. (others c ne).1) row.1,
+        show_more entered after Leaf x (takes_any node && here) is_after leaf (λ c ne. (others c ne).0) row.0,
+        show_more ended after_ended Kept x ((keeps || eqb x r) && (end || (here && null))) is_ended kept (λ c ne. (others c ne).1) row.1,
       )
 
   pub row_done : (low : ℕ) (entered ended : ℕ → Bool) → ((c : ℕ) → InTree nodes r c → low ≤ c) → RowFrom nodes w r s keeps p low entered ended → RowOfPlace nodes w r s keeps p entered ended
   row_done low entered ended all row =
       record {
-        leaves = tell_all entered Leaf low (λ c h. all c (enters_tree nodes w r s c p h.2)) row.0;
-        ends = tell_all ended Kept low (λ c h. all c (enters_tree nodes w r s c h.1.0 h.1.1)) row.1;
+        leaves = show_all entered Leaf low (λ c h. all c (enters_tree nodes w r s c p h.2)) row.0;
+        ends = show_all ended Kept low (λ c h. all c (enters_tree nodes w r s c h.1.0 h.1.1)) row.1;
       }
 
 -- a row shows which leaves take the byte that comes
@@ -466,13 +466,13 @@ enters_few x other below = omega arith
 
 -- a row shows, with the byte that came, which leaves took it
 pub took_bits : (nodes : List Node) (w : List ℕ) (r p : ℕ) (s : Starts) (keeps : Bool) (m : ℕ) (leaves : List Bool) (before : ℕ → Bool) (byte : Option ℕ) → length nodes ≡ m → SameBytes nodes (slice_get w p) byte →
-    RowOfPlace nodes w r s keeps p (bits m leaves) before → TellTook nodes w r s (p + 1) byte leaves
+    RowOfPlace nodes w r s keeps p (bits m leaves) before → ShowTook nodes w r s (p + 1) byte leaves
 took_bits nodes w r p s keeps m leaves before byte long bytes row c members inside is =
     let low = slice_get_within nodes c (Set members) is in
     rw (← bits_here m leaves c (omega arith)) (row_took nodes w r c p s keeps (bits m leaves) before byte members row bytes is)
 
 -- none did before the first start
-pub first_bits : (nodes : List Node) (w : List ℕ) (r : ℕ) (s : Starts) (leaves : List Bool) → TellTook nodes w r s s.first None leaves
+pub first_bits : (nodes : List Node) (w : List ℕ) (r : ℕ) (s : Starts) (leaves : List Bool) → ShowTook nodes w r s s.first None leaves
 first_bits nodes w r s leaves c members inside is = (
   λ h. absurd (true≢false (sym (and_parts (slice_index_or leaves c false) false h).1)),
   λ h. let up = Enters-from nodes w r s c h.0 h.2 in let next = h.1 in absurd (omega arith),

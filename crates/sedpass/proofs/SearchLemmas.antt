@@ -1,9 +1,9 @@
 -- What the pass from the text's end says of matches of the whole expression, and what searches cost.
 use Rattle.std.proofs.Common.{inl, inr, ◌≡◌, ℕ, zero, suc, ◌+◌, ◌-◌, ◌*◌, ◌/◌, ◌<◌, ◌≤◌, ◌↔◌, Bool, true, false, max, List, length, Option, Some, None, IsTrue, refl, sym, ap, ◌∙◌, subst, ⊎_elim, true≢false, arith, mul-le-mul_left, IfSome, if◌then◌else◌}
-use Rattle.sedpass.proofs.Words.{cases_lt, IsArena, WrittenExpression, expression_tree, Tree, TakesAtLeast, SpanAnswer, Starts, At, one_start, IsLongestFrom, starts_to, AllBegin, NextStart, NoneIn, Table, Matches, IsLeftmostLongest, NotFound, SomeFound, Matches-forward, Matches-within, Region, Seeking, Prepared, least_less, least_none, least_both, least_since, Kept, Work, Way}
+use Rattle.sedpass.proofs.Words.{cases_lt, IsArena, WrittenExpression, expression_tree, Tree, TakesAtLeast, SpanAnswer, Starts, HasSpan, one_start, IsLongestFrom, starts_to, AllBegin, NextStart, NoneIn, Table, Matches, IsLeftmostLongest, NotFound, SomeFound, Matches-forward, Matches-within, Region, Seeking, Prepared, least_less, least_none, least_both, least_since, Kept, Work, Way}
 use Rattle.sedtext.specs.declared.beginnings.Begins.{Begins}
 use Rattle.sedpass.specs.Table.{IsTable, SameShape, PassState, state_of, LeadsOn, NamesState, cell_of, MayBegin, IsColumn, IsForwardOne}
-use Rattle.sedpass.specs.Kept.{AllMarked, SameSpace, ends_told, IsKept, IsRegion}
+use Rattle.sedpass.specs.Kept.{AllMarked, SameSpace, ends_shown, IsKept, IsRegion}
 use Rattle.sedpass.specs.Regions.{CeasesAt, all_of, ReachesEnd}
 use Rattle.sedpass.specs.Search.{LooksFrom, TrialsMade, owed_after_search, owed_kept, owed_seeking, search_cost, SearchServes, MaySearch, Searched}
 use Rattle.sedpass.proofs.KeptLemmas.{space_same, keeps_same, same_shape, space_then}
@@ -45,7 +45,7 @@ module _ (p : Prepared) (w : List ℕ) (arena : IsArena p.arena.expr.nodes) wher
   none_marked from start low none = λ i k after before span. absurd (true≢false (sym ((none i after before).1 ((begins_at i (omega arith)).1 (k, span)))))
 
   -- nor at the end, where it doesn't match the null string
-  pub none_kept : (from : ℕ) → NoneIn (expression_tree p.arena.expr) w from (length w) → (At p.arena.expr.nodes w p.root (length w) (length w) → ⊥) → NotFound (expression_tree p.arena.expr) w from
+  pub none_kept : (from : ℕ) → NoneIn (expression_tree p.arena.expr) w from (length w) → (HasSpan p.arena.expr.nodes w p.root (length w) (length w) → ⊥) → NotFound (expression_tree p.arena.expr) w from
   none_kept from none null = λ i k after within span.
       ⊎_elim
       (λ (before : i < length w). none i k after before span)
@@ -54,7 +54,7 @@ module _ (p : Prepared) (w : List ℕ) (arena : IsArena p.arena.expr.nodes) wher
       let in_text = Matches-within (expression_tree p.arena.expr) w i k within span in
       let same : i ≡ length w = omega arith in
       let end : k ≡ length w = omega arith in
-      null (subst (λ v. At p.arena.expr.nodes w p.root v (length w)) same (subst (λ v. At p.arena.expr.nodes w p.root i v) end ((root_spans p w i k).1 span))))
+      null (subst (λ v. HasSpan p.arena.expr.nodes w p.root v (length w)) same (subst (λ v. HasSpan p.arena.expr.nodes w p.root i v) end ((root_spans p w i k).1 span))))
       (cases_lt i (length w))
 
   -- a pass from where one begins ceases to meet the kept one at its longest end
@@ -86,35 +86,35 @@ module _ (p : Prepared) (w : List ℕ) (arena : IsArena p.arena.expr.nodes) wher
       (cases_lt start stop)
 
 -- what a kept pass over all places says
-told_whole : (P : ℕ → Starts → Type 0) (p : Prepared) (n : ℕ) (b : Bool) (r end : ℕ) → IsTrue b → r ≡ p.root → P r (ends_told b n end) → P p.root (starts_to 0 n)
-told_whole P p n b r end all_starts root told = subst (λ v. P p.root (ends_told v n end)) all_starts (subst (λ v. P v (ends_told b n end)) root told)
+shown_whole : (P : ℕ → Starts → Type 0) (p : Prepared) (n : ℕ) (b : Bool) (r end : ℕ) → IsTrue b → r ≡ p.root → P r (ends_shown b n end) → P p.root (starts_to 0 n)
+shown_whole P p n b r end all_starts root shown = subst (λ v. P p.root (ends_shown v n end)) all_starts (subst (λ v. P v (ends_shown b n end)) root shown)
 
 -- no match is found where the root is marked nowhere, nor null at the end
 pub kept_none : (p : Prepared) (w : List ℕ) (b : Bool) (r end from start : ℕ) (begins : Bool) → IsArena p.arena.expr.nodes → IsTrue b → r ≡ p.root → start ≤ length w →
-    AllMarked p.arena.expr.nodes w r (ends_told b (length w) end) p.root false from start → (start < length w → IsTrue begins) → (start ≡ length w → IsTrue begins ↔ At p.arena.expr.nodes w p.root start start) → begins ≡ false →
+    AllMarked p.arena.expr.nodes w r (ends_shown b (length w) end) p.root false from start → (start < length w → IsTrue begins) → (start ≡ length w → IsTrue begins ↔ HasSpan p.arena.expr.nodes w p.root start start) → begins ≡ false →
     NotFound (expression_tree p.arena.expr) w from
 kept_none p w b r end from start begins arena all_starts root low none inside null is =
     let at : start ≡ length w = ⊎_elim (λ (lt : start < length w). absurd (true≢false (sym (inside lt) ∙ is))) (λ (ge : length w ≤ start). omega arith) (cases_lt start (length w)) in
-    let before = none_marked p w arena from start low (told_whole (λ v t. AllMarked p.arena.expr.nodes w v t p.root false from start) p (length w) b r end all_starts root none) in
+    let before = none_marked p w arena from start low (shown_whole (λ v t. AllMarked p.arena.expr.nodes w v t p.root false from start) p (length w) b r end all_starts root none) in
     none_kept p w arena from (subst (NoneIn (expression_tree p.arena.expr) w from) at before)
-    (λ span. absurd (true≢false (sym ((null at).1 (subst (λ v. At p.arena.expr.nodes w p.root v v) (sym at) span)) ∙ is)))
+    (λ span. absurd (true≢false (sym ((null at).1 (subst (λ v. HasSpan p.arena.expr.nodes w p.root v v) (sym at) span)) ∙ is)))
 
 -- where one begins, and a pass from there ceases to meet the kept one, is the one sought
 pub kept_found : (p : Prepared) (w : List ℕ) (b : Bool) (r end : ℕ) (b' : Bool) (r' end' from start stop : ℕ) → IsArena p.arena.expr.nodes → IsTrue b → r ≡ p.root → IsTrue b' → r' ≡ p.root → from ≤ start → start ≤ length w →
-    AllMarked p.arena.expr.nodes w r (ends_told b (length w) end) p.root false from start → ((k : ℕ) × Matches (expression_tree p.arena.expr) w start k) →
-    CeasesAt p.arena.expr.nodes w r' (ends_told b' (length w) end') p.root start stop → IsLeftmostLongest (expression_tree p.arena.expr) w from start stop
+    AllMarked p.arena.expr.nodes w r (ends_shown b (length w) end) p.root false from start → ((k : ℕ) × Matches (expression_tree p.arena.expr) w start k) →
+    CeasesAt p.arena.expr.nodes w r' (ends_shown b' (length w) end') p.root start stop → IsLeftmostLongest (expression_tree p.arena.expr) w from start stop
 kept_found p w b r end b' r' end' from start stop arena all_starts root all_starts' root' after low none begins ceases =
-    let marked = told_whole (λ v t. AllMarked p.arena.expr.nodes w v t p.root false from start) p (length w) b r end all_starts root none in
-    let met = told_whole (λ v t. CeasesAt p.arena.expr.nodes w v t p.root start stop) p (length w) b' r' end' all_starts' root' ceases in
+    let marked = shown_whole (λ v t. AllMarked p.arena.expr.nodes w v t p.root false from start) p (length w) b r end all_starts root none in
+    let met = shown_whole (λ v t. CeasesAt p.arena.expr.nodes w v t p.root start stop) p (length w) b' r' end' all_starts' root' ceases in
     found_at p.arena.expr w from start stop after (none_marked p w arena from start low marked) (longest_kept p w arena start stop begins.0 low begins.1 met)
 
 -- one begins where the root is marked before the end, or, at the end, where it is null
 pub begins_some : (p : Prepared) (w : List ℕ) (b : Bool) (r end start : ℕ) (begins : Bool) → IsArena p.arena.expr.nodes → IsTrue b → r ≡ p.root → end ≡ length w → start ≤ length w →
-    (start < end → IsTrue true ↔ ReachesEnd p.arena.expr.nodes w r (ends_told b (length w) end) p.root start) → (start ≡ length w → IsTrue begins ↔ At p.arena.expr.nodes w p.root start start) → IsTrue begins →
+    (start < end → IsTrue true ↔ ReachesEnd p.arena.expr.nodes w r (ends_shown b (length w) end) p.root start) → (start ≡ length w → IsTrue begins ↔ HasSpan p.arena.expr.nodes w p.root start start) → IsTrue begins →
     (k : ℕ) × Matches (expression_tree p.arena.expr) w start k
 begins_some p w b r end start begins arena all_starts root whole low found null is =
     ⊎_elim
-    (λ (lt : start < end). (begins_at p w arena start low).0 (told_whole (λ v t. ReachesEnd p.arena.expr.nodes w v t p.root start) p (length w) b r end all_starts root ((found lt).0 refl)))
+    (λ (lt : start < end). (begins_at p w arena start low).0 (shown_whole (λ v t. ReachesEnd p.arena.expr.nodes w v t p.root start) p (length w) b r end all_starts root ((found lt).0 refl)))
     (λ (ge : end ≤ start). let at : start ≡ length w = omega arith in (start, (root_spans p w start start).0 ((null at).0 is)))
     (cases_lt start end)
 
@@ -427,7 +427,7 @@ module _ (p q : Prepared) (same : p.arena.expr ≡ q.arena.expr) where
     room = rw (← same) table.room;
     layout = rw (← same) table.layout;
     roots = λ n low. rw (← same) (table.roots n low);
-    told = λ n low. rw (← same) (table.told n low);
+    shown = λ n low. rw (← same) (table.shown n low);
     filled = λ n k low column some. subst (λ (e : WrittenExpression). NamesState (length e.nodes) t (LeadsIn e t n k) (cell_of t n k)) same (table.filled n k low column some);
     begun = λ root kind may now. rw (← same) (table.begun root kind (begins_for q p (sym same) t.way root may) now);
   }

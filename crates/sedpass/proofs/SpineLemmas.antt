@@ -1,10 +1,10 @@
 -- What holds while a spine is followed from node to node, and while tasks wait.
 use Rattle.std.proofs.Common.{◌≡◌, ℕ, zero, suc, true, false, true≢false, ◌+◌, ◌-◌, ◌*◌, ◌≤◌, List, [], ◌∷◌, ◌++◌, length, reverse, Option, None, Some, refl, sym, ap, ◌∙◌, subst, inl, inr, arith, mul-le-mul_left, slice_index_or}
-use Rattle.sedpass.proofs.Words.{reverse-append, size, Tree, tree_at, expression_tree, Node, IsReport, Groups, Matches, size-pos, GroupSet, Matched, GroupTask, Apart, Forget, Done, One, Two, Decided, Region, Subject, least_less, least_none, least_both}
+use Rattle.sedpass.proofs.Words.{reverse-append, size, Tree, tree_at, expression_tree, Node, IsReport, SpansOfGroups, Matches, size-pos, GroupSet, Matched, GroupTask, Apart, Forget, Done, One, Two, Decided, Region, Subject, least_less, least_none, least_both}
 use Rattle.sedre.specs.Steps.{Takes, TakesExactly, TakesAtLeast}
-use Rattle.sedpass.specs.Decide.{told_of, told_in, spans_in, GoesOn, HasBlank, IsTurn, Turned, Works, undecided, next_of, part_cost, kind_cost, nodes_in, subject_text, AreReady, AreShort, AreWithin, RunsTasks, weights, looks, descents, tasks_after, entered_at}
+use Rattle.sedpass.specs.Decide.{known_groups, known_groups_in, spans_in, GoesOn, HasBlank, IsTurn, Turned, Works, undecided, next_of, part_cost, kind_cost, nodes_in, subject_text, AreReady, AreShort, AreWithin, RunsTasks, weights, looks, descents, tasks_after, entered_at}
 use Rattle.sedpass.specs.Prepared.{holds}
-use Rattle.sedpass.specs.Walks.{GroupState, drop_groups, Walk}
+use Rattle.sedpass.specs.Walks.{GroupState, drop_groups, WalkEnters}
 use Rattle.sedpass.specs.declared.groups.Then.{Then}
 use Rattle.sedpass.proofs.DecideLemmas.{flags_at}
 use Rattle.sedpass.proofs.OneGroupLemmas.{wanted}
@@ -15,21 +15,21 @@ use Rattle.sedpass.proofs.TurnLemmas.{left_turn}
 runs_as : (s : Subject) (tasks : List GroupTask) (old new : GroupState) (m n : ℕ) → m ≡ n → RunsTasks (nodes_in s) (subject_text s) tasks old new m → RunsTasks (nodes_in s) (subject_text s) tasks old new n
 runs_as s tasks old new m n same run = subst (RunsTasks (nodes_in s) (subject_text s) tasks old new) same run
 
-pub works_none : (s : Subject) (tasks : List GroupTask) (told : Decided) (steps : ℕ) → HasBlank told → AreReady (nodes_in s) (subject_text s) tasks → Works s tasks told tasks told 0 steps steps
-works_none s tasks told steps is ready = record {
-  told = is;
+pub works_none : (s : Subject) (tasks : List GroupTask) (decided : Decided) (steps : ℕ) → HasBlank decided → AreReady (nodes_in s) (subject_text s) tasks → Works s tasks decided tasks decided 0 steps steps
+works_none s tasks decided steps is ready = record {
+  decided = is;
   ready = ready;
   less = omega arith;
   spent = λ long short. (short, (omega arith, omega arith));
   n = 0;
-  run = λ f m run. runs_as s tasks (told_in told) f m (0 + m) (omega arith) run;
+  run = λ f m run. runs_as s tasks (known_groups_in decided) f m (0 + m) (omega arith) run;
   entered = least_none steps 0 refl;
   counts = least_none steps _ (omega arith);
 }
 
 pub works_then : (s : Subject) (t0 t1 t2 : List GroupTask) (a b c : Decided) (d e n x y z : ℕ) → n ≤ d + e → Works s t0 a t1 b d x y → Works s t1 b t2 c e y z → Works s t0 a t2 c n x z
 works_then s t0 t1 t2 a b c d e n x y z few one two = record {
-  told = two.told;
+  decided = two.decided;
   ready = two.ready;
   less = omega (arith, few, one.less, two.less);
   spent = λ long short.
@@ -37,21 +37,21 @@ works_then s t0 t1 t2 a b c d e n x y z few one two = record {
       let second = two.spent long first.0 in
       (second.0, (omega (arith, first.1.0, second.1.0), omega (arith, first.1.1, second.1.1)));
   n = one.n + two.n;
-  run = λ f m run. runs_as s t0 (told_in a) f _ _ (omega arith) (one.run f (two.n + m) (two.run f m run));
+  run = λ f m run. runs_as s t0 (known_groups_in a) f _ _ (omega arith) (one.run f (two.n + m) (two.run f m run));
   entered = least_both x y z _ _ _ one.entered two.entered (omega arith);
   counts = least_both x y z _ _ _ one.counts two.counts (omega arith);
 }
 
 -- groups are forgotten
 pub works_forget : (s : Subject) (x : ℕ) (rest : List GroupTask) (old new : Decided) (steps : ℕ) → AreReady (nodes_in s) (subject_text s) (Forget x ∷ rest) → HasBlank new →
-    told_in new ≡ drop_groups (tree_at (nodes_in s) x) (told_in old) → new.spans ≡ old.spans → Works s (Forget x ∷ rest) old rest new 1 steps steps
-works_forget s x rest old new steps ready told state spans = record {
-  told = told;
+    known_groups_in new ≡ drop_groups (tree_at (nodes_in s) x) (known_groups_in old) → new.spans ≡ old.spans → Works s (Forget x ∷ rest) old rest new 1 steps steps
+works_forget s x rest old new steps ready decided state spans = record {
+  decided = decided;
   ready = ready.1;
   less = omega arith;
   spent = λ long short. (short, (omega arith, omega arith));
   n = 0;
-  run = λ f m run. runs_as s rest (drop_groups (tree_at (nodes_in s) x) (told_in old)) f m (0 + m) (omega arith) (subst (λ v. RunsTasks (nodes_in s) (subject_text s) rest v f m) state run);
+  run = λ f m run. runs_as s rest (drop_groups (tree_at (nodes_in s) x) (known_groups_in old)) f m (0 + m) (omega arith) (subst (λ v. RunsTasks (nodes_in s) (subject_text s) rest v f m) state run);
   entered = least_none steps 0 refl;
   counts = least_none steps _ (rw spans (omega arith));
 }
@@ -112,13 +112,13 @@ short-append long i j (Apart here ∷ tasks) rest short within all = (omega (ari
 short-append long i j (Forget x ∷ tasks) rest short within all = short-append long i j tasks rest short within all
 
 turn_works : (s : Subject) (here : Matched) (then : Then) (rest : List GroupTask) (old new : Decided) (n before after : ℕ) → AreReady (nodes_in s) (subject_text s) (Apart here ∷ rest) →
-    IsTurn s here (told_in old) (told_in new) then n → Takes before after (kind_cost s here (next_of then) + 1) → TakesAtLeast before after n → HasBlank new →
+    IsTurn s here (known_groups_in old) (known_groups_in new) then n → Takes before after (kind_cost s here (next_of then) + 1) → TakesAtLeast before after n → HasBlank new →
     TakesAtLeast before after (spans_in new.spans - spans_in old.spans) → Works s (Apart here ∷ rest) old (tasks_after then ++ rest) new 1 before after
-turn_works s here then rest old new n before after ready turn cost entered told counts =
+turn_works s here then rest old new n before after ready turn cost entered decided counts =
     let nodes = nodes_in s in
     let fewer = turn_fewer nodes (size (tree_at nodes here.node)) then rest turn.fewer in
     record {
-      told = told;
+      decided = decided;
       ready = ready-append nodes (subject_text s) (tasks_after then) rest turn.ready ready.1;
       less = omega (arith, turn.less, weights-append nodes (tasks_after then) rest);
       spent = λ long short. (
@@ -137,14 +137,14 @@ least_look s t u a b look up few = omega (arith, look, up, few)
 
 -- whether the node was looked at or not
 pub works_turn : (s : Subject) (here : Matched) (then : Then) (rest : List GroupTask) (old new : Decided) (r : Region) (before after : ℕ) → AreReady (nodes_in s) (subject_text s) (Apart here ∷ rest) →
-    Turned s here (told_in old) (told_in new) r then before after → HasBlank new → TakesAtLeast before after (spans_in new.spans - spans_in old.spans) →
+    Turned s here (known_groups_in old) (known_groups_in new) r then before after → HasBlank new → TakesAtLeast before after (spans_in new.spans - spans_in old.spans) →
     Works s (Apart here ∷ rest) old (tasks_after then ++ rest) new 1 before after
-works_turn s here then rest old new r before after ready (inl (none, same, nothing, still)) told counts =
-    turn_works s here then rest old new 0 before after ready (rw (same, nothing) (left_turn s here (told_in old) none)) (rw (nothing, still) (omega arith, omega arith)) (rw still (least_none before 0 refl)) told counts
-works_turn s here then rest old new r before after ready (inr (node, begun, is, look, once, turned)) told counts =
+works_turn s here then rest old new r before after ready (inl (none, same, nothing, still)) decided counts =
+    turn_works s here then rest old new 0 before after ready (rw (same, nothing) (left_turn s here (known_groups_in old) none)) (rw (nothing, still) (omega arith, omega arith)) (rw still (least_none before 0 refl)) decided counts
+works_turn s here then rest old new r before after ready (inr (node, begun, is, look, once, turned)) decided counts =
     let cost = turned.cost in
     turn_works s here then rest old new (entered_at node) before after ready turned.turn (omega (arith, once.0, cost.0), omega (arith, once.1, cost.1))
-    (least_less before after 1 (entered_at node) (least_look before begun after 0 1 look cost.0 (omega arith)) (omega arith)) told counts
+    (least_less before after 1 (entered_at node) (least_look before begun after 0 1 look cost.0 (omega arith)) (omega arith)) decided counts
 
 pub turned_goes : (s : Subject) (here : Matched) (then : Then) (old new : GroupState) (r : Region) (before after : ℕ) → Turned s here old new r then before after → GoesOn s r (next_of then)
 turned_goes s here then old new r before after (inl (none, same, nothing, still)) = rw nothing tt
@@ -154,22 +154,22 @@ turned_goes s here then old new r before after (inr (node, begun, is, look, once
 
 -- the walk that was made over the match of the whole expression, and that each node was looked at that it enters
 pub walk_made : (s : Subject) (root i j d : ℕ) (start now : Decided) (before after : ℕ) → root + 1 ≡ length (nodes_in s) →
-    Works s (Apart (record { node = root; start = i; stop = j }) ∷ []) start [] now d before after → (n : ℕ) × Walk (expression_tree s.prepared.now.arena.expr) (subject_text s) i j (told_in start) (told_in now) n × TakesAtLeast before after n
+    Works s (Apart (record { node = root; start = i; stop = j }) ∷ []) start [] now d before after → (n : ℕ) × WalkEnters (expression_tree s.prepared.now.arena.expr) (subject_text s) i j (known_groups_in start) (known_groups_in now) n × TakesAtLeast before after n
 walk_made s root i j d start now before after last works =
-    let run = works.run (told_in now) 0 (refl, refl) in
+    let run = works.run (known_groups_in now) 0 (refl, refl) in
     let same : root ≡ length (nodes_in s) - 1 = omega arith in
     let w = subject_text s in (
       run.1,
-      subst (λ x. Walk (tree_at (nodes_in s) x) w i j (told_in start) (told_in now) run.1) same
-          (subst (λ mid. Walk (tree_at (nodes_in s) root) w i j (told_in start) mid run.1) (sym run.4.0) run.3),
+      subst (λ x. WalkEnters (tree_at (nodes_in s) x) w i j (known_groups_in start) (known_groups_in now) run.1) same
+          (subst (λ mid. WalkEnters (tree_at (nodes_in s) root) w i j (known_groups_in start) mid run.1) (sym run.4.0) run.3),
       least_less before after works.n run.1 works.entered (omega (arith, run.5)),
     )
 
 -- it gives each group that is due the span that the report says
-pub due_told : (e : Tree) (w : List ℕ) (i j n k : ℕ) (due : GroupSet) (now : GroupState) (groups : Groups) → holds due 0 ≡ false → Matches e w i j → Walk e w i j (told_of due (undecided i j)) now n →
+pub due_shown : (e : Tree) (w : List ℕ) (i j n k : ℕ) (due : GroupSet) (now : GroupState) (groups : SpansOfGroups) → holds due 0 ≡ false → Matches e w i j → WalkEnters e w i j (known_groups due (undecided i j)) now n →
     IsReport e w i j groups → holds due k ≡ true → slice_index_or now.spans k None ≡ slice_index_or groups k None
-due_told e w i j n zero due now groups whole at walk report is = absurd (true≢false (sym is ∙ whole))
-due_told e w i j n (suc k) due now groups whole at walk report is = wanted e w i j n k (told_of due (undecided i j)) now groups refl at walk report (flags_at due (suc k) ∙ is)
+due_shown e w i j n zero due now groups whole at walk report is = absurd (true≢false (sym is ∙ whole))
+due_shown e w i j n (suc k) due now groups whole at walk report is = wanted e w i j n k (known_groups due (undecided i j)) now groups refl at walk report (flags_at due (suc k) ∙ is)
 
 -- what all nodes cost together
 pub all_paid : (s t m long n : ℕ) → n ≤ m → t + (part_cost m long * 0 + 2 * 0) ≤ s + (part_cost m long * ((n - 1) + 0) + 2 * (n + 0)) → t ≤ s + (172 * m * (m - 1) * long + 2 * m)

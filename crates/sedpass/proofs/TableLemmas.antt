@@ -163,7 +163,7 @@ module _ (p : Prepared) (t t' : Table) (adds : AddsStates (length p.arena.expr.n
   pub one_more : IsTable p t → HasRoom m t' → t'.count ≡ t.count + 1 → t'.beginnings ≡ t.beginnings →
       ((q k : ℕ) → q < t.count → k < t.layout.width → cell_of t' q k ≡ cell_of t q k) → ((k : ℕ) → k < t.layout.width → cell_of t' t.count k ≡ 0) →
       (state_of m t' t.count).root < m → FlagsShow (state_of m t' t.count) → IsTable p t'
-  one_more table room count begins before clear root told = record {
+  one_more table room count begins before clear root shown = record {
     expr = table.expr;
     room = room;
     layout = subst (λ l. IsLayout p.arena.expr.nodes l) (sym adds.shape.2) table.layout;
@@ -171,9 +171,9 @@ module _ (p : Prepared) (t t' : Table) (adds : AddsStates (length p.arena.expr.n
         (λ (e : q ≡ t.count). subst (λ x. (state_of m t' x).root < m) (sym e) root)
         (λ (ne : q ≢ t.count). let less : q < t.count = omega (arith, ne) in subst (λ (a : PassState). a.root < m) (sym (adds.kept epoch q less)) (table.roots q less))
         (cases_eq q t.count);
-    told = λ q there. ⊎_elim
-        (λ (e : q ≡ t.count). subst (λ x. FlagsShow (state_of m t' x)) (sym e) told)
-        (λ (ne : q ≢ t.count). let less : q < t.count = omega (arith, ne) in subst (λ (a : PassState). FlagsShow a) (sym (adds.kept epoch q less)) (table.told q less))
+    shown = λ q there. ⊎_elim
+        (λ (e : q ≡ t.count). subst (λ x. FlagsShow (state_of m t' x)) (sym e) shown)
+        (λ (ne : q ≢ t.count). let less : q < t.count = omega (arith, ne) in subst (λ (a : PassState). FlagsShow a) (sym (adds.kept epoch q less)) (table.shown q less))
         (cases_eq q t.count);
     filled = λ q k there column some.
         let narrow : k < t.layout.width = subst (λ (l : Layout). k < l.width) adds.shape.2 column in
@@ -242,7 +242,7 @@ note_cell p t table offset k v byte edge there small column leads anywhere =
       room = room;
       layout = table.layout;
       roots = table.roots;
-      told = table.told;
+      shown = table.shown;
       filled = λ x j less near some.
           ⊎_elim
           (λ (e : x * size + j ≡ offset + k).
@@ -285,7 +285,7 @@ note_beginning p t table root code kind may epoch begins =
       room = room;
       layout = table.layout;
       roots = table.roots;
-      told = table.told;
+      shown = table.shown;
       filled = λ q k low near some. same_names (LeadsBy p t q k) (cell_of t q k) (table.filled q k low near some);
       begun = λ x other may' now.
           let i = beginning_at t.way.all_starts x other in
@@ -309,7 +309,7 @@ no_states p t expr room layout none past = record {
   room = room;
   layout = layout;
   roots = λ q low. absurd (omega arith);
-  told = λ q low. absurd (omega arith);
+  shown = λ q low. absurd (omega arith);
   filled = λ q k low col some. absurd (omega arith);
   begun = λ root kind may now. let before = past (beginning_at t.way.all_starts root kind) in absurd (omega (arith, before, now));
 }
@@ -432,7 +432,7 @@ code_some false o v is = omega arith
 pub names_some : (p : Prepared) (t : Table) (P : PassState → Type 0) (v : ℕ) → NamesState (length p.arena.expr.nodes) t P v → 0 < v
 names_some p t P v n = code_some (stops t.way (state_of (length p.arena.expr.nodes) t n.to).flags) (n.to * 2 ^ t.layout.shift) v n.code
 
-module _ (p : Prepared) (t : Table) (table : IsTable p t) (P : PassState → Type 0) (v o : ℕ) (n : NamesState (length p.arena.expr.nodes) t P v) (tells : (b : Bool) (u : ℕ) → u < 2147483647 → v ≡ code_of b u → o ≡ u) where
+module _ (p : Prepared) (t : Table) (table : IsTable p t) (P : PassState → Type 0) (v o : ℕ) (n : NamesState (length p.arena.expr.nodes) t P v) (shows : (b : Bool) (u : ℕ) → u < 2147483647 → v ≡ code_of b u → o ≡ u) where
   named : PassState
   named = state_of (length p.arena.expr.nodes) t n.to
 
@@ -440,7 +440,7 @@ module _ (p : Prepared) (t : Table) (table : IsTable p t) (P : PassState → Typ
   small_offset = few_offset n.to t.room t.layout.shift (let low = n.there in let most = table.room.count in omega arith) table.room.rows.few table.layout.small
 
   offset_is : o ≡ n.to * 2 ^ t.layout.shift
-  offset_is = tells (stops t.way (state_of (length p.arena.expr.nodes) t n.to).flags) (n.to * 2 ^ t.layout.shift) small_offset n.code
+  offset_is = shows (stops t.way (state_of (length p.arena.expr.nodes) t n.to).flags) (n.to * 2 ^ t.layout.shift) small_offset n.code
 
   reverse_any : o / 2 ^ t.layout.shift ≡ n.to
   reverse_any = ap (λ x. x / 2 ^ t.layout.shift) offset_is ∙ shl-shr n.to t.layout.shift

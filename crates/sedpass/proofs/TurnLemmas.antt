@@ -1,20 +1,20 @@
 -- What comes in place of a node, by its kind.
 use Rattle.std.proofs.Common.{◌≡◌, ℕ, ◌+◌, ◌-◌, ◌<◌, ◌≤◌, ◌⊎◌, Bool, [], ◌∷◌, length, Option, None, Some, IsTrue, refl, sym, ap, ◌∙◌, subst, inl, inr, ⊎_elim, arith}
-use Rattle.sedpass.proofs.Words.{Tree, tree_of, tree_at, size, IsPart, Takes, TakesAtLeast, Node, NodeId, Empty, Set, Begin, End, Seq, Alt, Group, Star, Opt, tree_at-node, At, LastCut, parts_of, total_size, Matches, open_at, Matches-forward, size-parts, size-pos, Matched, Apart, Forget, Done, One, Two, Region, Subject}
-use Rattle.sedpass.specs.Decide.{EndsRegion, HasNoKnownLength, IsCopyFrom, LooksAt, NodeTurned, part_cost, nodes_in, subject_text, NodeMatches, IsTurn, Blank, entered_at}
+use Rattle.sedpass.proofs.Words.{Tree, tree_of, tree_at, size, IsPart, Takes, TakesAtLeast, Node, NodeId, Empty, Set, Begin, End, Seq, Alt, Group, Star, Opt, tree_at-node, HasSpan, LastCut, parts_of, total_size, Matches, open_at, Matches-forward, size-parts, size-pos, Matched, Apart, Forget, Done, One, Two, Region, Subject}
+use Rattle.sedpass.specs.Decide.{EndsRegion, HasNoKnownLength, IsCopyFrom, LooksAt, NodeTurned, part_cost, nodes_in, subject_text, NodeMatches, IsTurn, NoneSettled, entered_at}
 use Rattle.sedpass.specs.Regions.{all_of, last_of}
-use Rattle.sedpass.specs.Walks.{GroupState, settle, drop_groups, NoneDue, Walk}
+use Rattle.sedpass.specs.Walks.{GroupState, settle, drop_groups, NoneDue, WalkEnters}
 use Rattle.sedpass.proofs.OneGroupLemmas.{copy_spans, settle_takes, drop_takes, takes_blank, passes_by}
 
 -- what is due has no span, before and after
-pub settle_blank : (k : ℕ) (v : Option (ℕ × ℕ)) (s : GroupState) → Blank s → Blank (settle k v s)
+pub settle_blank : (k : ℕ) (v : Option (ℕ × ℕ)) (s : GroupState) → NoneSettled s → NoneSettled (settle k v s)
 settle_blank k v s blank n is = takes_blank n _ s (settle k v s) (settle_takes k n v s) (blank n) is
 
-pub drop_blank : (t : Tree) (s : GroupState) → Blank s → Blank (drop_groups t s)
+pub drop_blank : (t : Tree) (s : GroupState) → NoneSettled s → NoneSettled (drop_groups t s)
 drop_blank t s blank n is = takes_blank n _ s (drop_groups t s) (drop_takes t n s) (blank n) is
 
 -- nothing comes in place of the node
-done_turn : (s : Subject) (here : Matched) (old new : GroupState) (n : ℕ) → Walk (tree_at (nodes_in s) here.node) (subject_text s) here.start here.stop old new n → IsTurn s here old new Done n
+done_turn : (s : Subject) (here : Matched) (old new : GroupState) (n : ℕ) → WalkEnters (tree_at (nodes_in s) here.node) (subject_text s) here.start here.stop old new n → IsTurn s here old new Done n
 done_turn s here old new n walk = record {
   run = λ rest f m run. (new, n, m, walk, run, refl);
   ready = tt;
@@ -40,13 +40,13 @@ module _ (s : Subject) (here : Matched) (node : Node) (stands : NodeMatches s he
   long : size (tree_at (nodes_in s) here.node) ≡ 1 + total_size (nodes_in s) (parts_of node)
   long = size-parts (nodes_in s) stands.arena here.node node stands.is
 
-  close_walk : (old new : GroupState) (n : ℕ) → Walk (tree_of (tree_at (nodes_in s)) node) (subject_text s) here.start here.stop old new n → Walk (tree_at (nodes_in s) here.node) (subject_text s) here.start here.stop old new n
-  close_walk old new n walk = subst (λ t. Walk t (subject_text s) here.start here.stop old new n) (sym (tree_at-node (nodes_in s) here.node node stands.arena stands.is)) walk
+  close_walk : (old new : GroupState) (n : ℕ) → WalkEnters (tree_of (tree_at (nodes_in s)) node) (subject_text s) here.start here.stop old new n → WalkEnters (tree_at (nodes_in s) here.node) (subject_text s) here.start here.stop old new n
+  close_walk old new n walk = subst (λ t. WalkEnters t (subject_text s) here.start here.stop old new n) (sym (tree_at-node (nodes_in s) here.node node stands.arena stands.is)) walk
 
   -- the match of a part comes in its place, and what is still due in the part then is forgotten
-  inner_turn : (a : NodeId) (c : ℕ) (old new : GroupState) → IsPart node a.index → parts_of node ≡ a.index ∷ [] → here.start ≤ c → c ≤ here.stop → At (nodes_in s) (subject_text s) a.index c here.stop →
-      ((mid : GroupState) (m : ℕ) → Walk (tree_at (nodes_in s) a.index) (subject_text s) c here.stop new mid m →
-      Walk (tree_of (tree_at (nodes_in s)) node) (subject_text s) here.start here.stop old (drop_groups (tree_at (nodes_in s) a.index) mid) (1 + m)) →
+  inner_turn : (a : NodeId) (c : ℕ) (old new : GroupState) → IsPart node a.index → parts_of node ≡ a.index ∷ [] → here.start ≤ c → c ≤ here.stop → HasSpan (nodes_in s) (subject_text s) a.index c here.stop →
+      ((mid : GroupState) (m : ℕ) → WalkEnters (tree_at (nodes_in s) a.index) (subject_text s) c here.stop new mid m →
+      WalkEnters (tree_of (tree_at (nodes_in s)) node) (subject_text s) here.start here.stop old (drop_groups (tree_at (nodes_in s) a.index) mid) (1 + m)) →
       IsTurn s here old new (Two (record { node = a.index; start = c; stop = here.stop }) (Forget a.index)) 1
   inner_turn a c old new part parts from up at go =
       let inside = part_inside a.index part in
@@ -60,21 +60,21 @@ module _ (s : Subject) (here : Matched) (node : Node) (stands : NodeMatches s he
       }
 
 -- a node of no other kind has no parts: nothing comes in its place
-pub leaf_told : (node : Node) → ((a b : NodeId) → node ≡ Seq a b → ⊥) → ((a b : NodeId) → node ≡ Alt a b → ⊥) → ((k : ℕ) (a : NodeId) → node ≡ Group k a → ⊥) → ((a : NodeId) (first : Bool) → node ≡ Star a first → ⊥) →
+pub leaf_shown : (node : Node) → ((a b : NodeId) → node ≡ Seq a b → ⊥) → ((a b : NodeId) → node ≡ Alt a b → ⊥) → ((k : ℕ) (a : NodeId) → node ≡ Group k a → ⊥) → ((a : NodeId) (first : Bool) → node ≡ Star a first → ⊥) →
     ((a : NodeId) (first : Bool) → node ≡ Opt a first → ⊥) → parts_of node ≡ []
-leaf_told (Seq a b) seq alt group star opt = absurd (seq a b refl)
-leaf_told (Alt a b) seq alt group star opt = absurd (alt a b refl)
-leaf_told (Group k a) seq alt group star opt = absurd (group k a refl)
-leaf_told (Star a first) seq alt group star opt = absurd (star a first refl)
-leaf_told (Opt a first) seq alt group star opt = absurd (opt a first refl)
-leaf_told other seq alt group star opt = refl
+leaf_shown (Seq a b) seq alt group star opt = absurd (seq a b refl)
+leaf_shown (Alt a b) seq alt group star opt = absurd (alt a b refl)
+leaf_shown (Group k a) seq alt group star opt = absurd (group k a refl)
+leaf_shown (Star a first) seq alt group star opt = absurd (star a first refl)
+leaf_shown (Opt a first) seq alt group star opt = absurd (opt a first refl)
+leaf_shown other seq alt group star opt = refl
 
 pub leaf_turned : (s : Subject) (here : Matched) (node : Node) (state : GroupState) (r : Region) (steps : ℕ) → NodeMatches s here node → parts_of node ≡ [] → NodeTurned s here node state state r Done steps steps
 leaf_turned s here node state r steps stands leaf =
     let both = by node leaf in
     record { turn = done_turn s here state state (entered_at node) (close_walk s here node stands state state _ both.0); goes = tt; cost = (omega arith, omega arith); looks = both.1 }
   where
-    by : (n : Node) → parts_of n ≡ [] → Walk (tree_of (tree_at (nodes_in s)) n) (subject_text s) here.start here.stop state state (entered_at n) × LooksAt s here n None steps steps
+    by : (n : Node) → parts_of n ≡ [] → WalkEnters (tree_of (tree_at (nodes_in s)) n) (subject_text s) here.start here.stop state state (entered_at n) × LooksAt s here n None steps steps
     by Empty leaf = ((refl, refl), tt)
     by (Set members) leaf = ((refl, refl), tt)
     by Begin leaf = ((refl, refl), tt)
@@ -83,7 +83,7 @@ leaf_turned s here node state r steps stands leaf =
 
 -- a concatenation goes on with its right part; the left one is a task
 pub seq_turned : (s : Subject) (here : Matched) (a b : NodeId) (k : ℕ) (state : GroupState) (r : Region) (before after : ℕ) → NodeMatches s here (Seq a b) → EndsRegion s r here →
-    LastCut (At (nodes_in s) (subject_text s) a.index) (At (nodes_in s) (subject_text s) b.index) here.start here.stop k → Takes before after (part_cost (length (nodes_in s)) (here.stop - here.start)) →
+    LastCut (HasSpan (nodes_in s) (subject_text s) a.index) (HasSpan (nodes_in s) (subject_text s) b.index) here.start here.stop k → Takes before after (part_cost (length (nodes_in s)) (here.stop - here.start)) →
     (HasNoKnownLength (nodes_in s) a.index → HasNoKnownLength (nodes_in s) b.index → TakesAtLeast before after (k - here.start)) →
     NodeTurned s here (Seq a b) state state r (Two (record { node = b.index; start = k; stop = here.stop }) (Apart (record { node = a.index; start = here.start; stop = k }))) before after
 seq_turned s here a b k state r before after stands ends cut cost looks =
@@ -119,21 +119,21 @@ seq_turned s here a b k state r before after stands ends cut cost looks =
 
 -- an alternation goes on with the left alternative, or with the right one if the left one doesn't match
 pub alt_turned : (s : Subject) (here : Matched) (a b : NodeId) (c : ℕ) (state : GroupState) (r : Region) (before after : ℕ) → NodeMatches s here (Alt a b) → EndsRegion s r here →
-    ((c ≡ a.index) × At (nodes_in s) (subject_text s) a.index here.start here.stop) ⊎ ((c ≡ b.index) × (At (nodes_in s) (subject_text s) a.index here.start here.stop → ⊥)) →
+    ((c ≡ a.index) × HasSpan (nodes_in s) (subject_text s) a.index here.start here.stop) ⊎ ((c ≡ b.index) × (HasSpan (nodes_in s) (subject_text s) a.index here.start here.stop → ⊥)) →
     Takes before after (part_cost (length (nodes_in s)) (here.stop - here.start) + 1) → TakesAtLeast before after 1 →
     NodeTurned s here (Alt a b) state state r (One (record { node = c; start = here.start; stop = here.stop })) before after
 alt_turned s here a b c state r before after stands ends which cost looks =
     let nodes = nodes_in s in
     let w = subject_text s in
     let part : IsPart (Alt a b) c = elim which [ inl left ↦ inl (sym left.0) | inr right ↦ inr (sym right.0) ] in
-    let at : At nodes w c here.start here.stop = elim which [
-      | inl left ↦ subst (λ v. At nodes w v here.start here.stop) (sym left.0) left.1
-      | inr right ↦ subst (λ v. At nodes w v here.start here.stop) (sym right.0)
-          (⊎_elim (λ (l : At nodes w a.index here.start here.stop). absurd (right.1 l)) (λ (r : At nodes w b.index here.start here.stop). r) (opened s here (Alt a b) stands))
+    let at : HasSpan nodes w c here.start here.stop = elim which [
+      | inl left ↦ subst (λ v. HasSpan nodes w v here.start here.stop) (sym left.0) left.1
+      | inr right ↦ subst (λ v. HasSpan nodes w v here.start here.stop) (sym right.0)
+          (⊎_elim (λ (l : HasSpan nodes w a.index here.start here.stop). absurd (right.1 l)) (λ (r : HasSpan nodes w b.index here.start here.stop). r) (opened s here (Alt a b) stands))
     ] in
-    let walk : (mid : GroupState) (m : ℕ) → Walk (tree_at nodes c) w here.start here.stop state mid m → Walk (tree_of (tree_at nodes) (Alt a b)) w here.start here.stop state mid (1 + m) = λ mid m go. elim which [
-      | inl left ↦ inr (m, refl, inl (left.1, subst (λ v. Walk (tree_at nodes v) w here.start here.stop state mid m) left.0 go))
-      | inr right ↦ inr (m, refl, inr (right.1, subst (λ v. Walk (tree_at nodes v) w here.start here.stop state mid m) right.0 go))
+    let walk : (mid : GroupState) (m : ℕ) → WalkEnters (tree_at nodes c) w here.start here.stop state mid m → WalkEnters (tree_of (tree_at nodes) (Alt a b)) w here.start here.stop state mid (1 + m) = λ mid m go. elim which [
+      | inl left ↦ inr (m, refl, inl (left.1, subst (λ v. WalkEnters (tree_at nodes v) w here.start here.stop state mid m) left.0 go))
+      | inr right ↦ inr (m, refl, inr (right.1, subst (λ v. WalkEnters (tree_at nodes v) w here.start here.stop state mid m) right.0 go))
     ] in
     let size_is = long s here (Alt a b) stands in
     let less : size (tree_at nodes c) ≤ size (tree_at nodes a.index) + size (tree_at nodes b.index) =
@@ -170,21 +170,21 @@ star_turned s here a first c state r before after stands copy root end cost look
   where
     by : IsCopyFrom s here a first (Some c) → IsTurn s here state state (Two (record { node = a.index; start = c; stop = here.stop }) (Forget a.index)) 1
     by (inl (lt, last)) =
-        let spans = copy_spans (At (nodes_in s) (subject_text s) a.index) here.stop here.start c last in
+        let spans = copy_spans (HasSpan (nodes_in s) (subject_text s) a.index) here.stop here.start c last in
         inner_turn s here (Star a first) stands a c state state refl refl spans.0 (let less = spans.1 in omega arith) spans.2 (λ mid m walk. inr (m, refl, inl (lt, c, last, mid, walk, refl)))
     by (inr (same, null, there)) =
         let start : c ≡ here.start = there in
         let stop : c ≡ here.stop = there ∙ same in
-        inner_turn s here (Star a first) stands a c state state refl refl (omega arith) (omega arith) (subst (At (nodes_in s) (subject_text s) a.index c) stop null.1)
+        inner_turn s here (Star a first) stands a c state state refl refl (omega arith) (omega arith) (subst (HasSpan (nodes_in s) (subject_text s) a.index c) stop null.1)
         (λ mid m walk. inr (
           m,
           refl,
           inr (inl (
             same,
             null.0,
-            subst (λ v. At (nodes_in s) (subject_text s) a.index v v) start null.1,
+            subst (λ v. HasSpan (nodes_in s) (subject_text s) a.index v v) start null.1,
             mid,
-            subst (λ v. Walk (tree_at (nodes_in s) a.index) (subject_text s) here.start v state mid m) (sym same) (subst (λ v. Walk (tree_at (nodes_in s) a.index) (subject_text s) v here.stop state mid m) start walk),
+            subst (λ v. WalkEnters (tree_at (nodes_in s) a.index) (subject_text s) here.start v state mid m) (sym same) (subst (λ v. WalkEnters (tree_at (nodes_in s) a.index) (subject_text s) v here.stop state mid m) start walk),
             refl,
           )),
         ))
@@ -203,7 +203,7 @@ star_done s here a first state r before after stands none cost looks =
 
 -- what may be there once is, or an empty copy of it is taken
 pub opt_turned : (s : Subject) (here : Matched) (a : NodeId) (first : Bool) (state : GroupState) (r : Region) (before after : ℕ) → NodeMatches s here (Opt a first) → EndsRegion s r here →
-    (here.start < here.stop) ⊎ ((here.stop ≤ here.start) × (IsTrue first × At (nodes_in s) (subject_text s) a.index here.start here.start)) → Takes before after 1 →
+    (here.start < here.stop) ⊎ ((here.stop ≤ here.start) × (IsTrue first × HasSpan (nodes_in s) (subject_text s) a.index here.start here.start)) → Takes before after 1 →
     NodeTurned s here (Opt a first) state state r (Two (record { node = a.index; start = here.start; stop = here.stop }) (Forget a.index)) before after
 opt_turned s here a first state r before after stands ends which cost = record {
   turn = by which;
@@ -212,19 +212,19 @@ opt_turned s here a first state r before after stands ends which cost = record {
   looks = tt;
 }
   where
-    by : (here.start < here.stop) ⊎ ((here.stop ≤ here.start) × (IsTrue first × At (nodes_in s) (subject_text s) a.index here.start here.start)) →
+    by : (here.start < here.stop) ⊎ ((here.stop ≤ here.start) × (IsTrue first × HasSpan (nodes_in s) (subject_text s) a.index here.start here.start)) →
         IsTurn s here state state (Two (record { node = a.index; start = here.start; stop = here.stop }) (Forget a.index)) 1
     by (inl lt) =
-        let at : At (nodes_in s) (subject_text s) a.index here.start here.stop =
-        ⊎_elim (λ (e : here.start ≡ here.stop). absurd (omega arith)) (λ (r : At (nodes_in s) (subject_text s) a.index here.start here.stop). r) (opened s here (Opt a first) stands) in
+        let at : HasSpan (nodes_in s) (subject_text s) a.index here.start here.stop =
+        ⊎_elim (λ (e : here.start ≡ here.stop). absurd (omega arith)) (λ (r : HasSpan (nodes_in s) (subject_text s) a.index here.start here.stop). r) (opened s here (Opt a first) stands) in
         inner_turn s here (Opt a first) stands a here.start state state refl refl (omega arith) stands.there.up at (λ mid m walk. inr (m, refl, inl (lt, mid, walk, refl)))
     by (inr (le, null)) =
         let same : here.start ≡ here.stop = omega arith in
-        inner_turn s here (Opt a first) stands a here.start state state refl refl (omega arith) stands.there.up (subst (At (nodes_in s) (subject_text s) a.index here.start) same null.1)
-        (λ mid m walk. inr (m, refl, inr (inl (same, null.0, null.1, mid, subst (λ v. Walk (tree_at (nodes_in s) a.index) (subject_text s) here.start v state mid m) (sym same) walk, refl))))
+        inner_turn s here (Opt a first) stands a here.start state state refl refl (omega arith) stands.there.up (subst (HasSpan (nodes_in s) (subject_text s) a.index here.start) same null.1)
+        (λ mid m walk. inr (m, refl, inr (inl (same, null.0, null.1, mid, subst (λ v. WalkEnters (tree_at (nodes_in s) a.index) (subject_text s) here.start v state mid m) (sym same) walk, refl))))
 
 pub opt_done : (s : Subject) (here : Matched) (a : NodeId) (first : Bool) (state : GroupState) (r : Region) (before after : ℕ) → NodeMatches s here (Opt a first) → here.stop ≤ here.start →
-    ((IsTrue first × At (nodes_in s) (subject_text s) a.index here.start here.start) → ⊥) → Takes before after 1 → NodeTurned s here (Opt a first) state state r Done before after
+    ((IsTrue first × HasSpan (nodes_in s) (subject_text s) a.index here.start here.start) → ⊥) → Takes before after 1 → NodeTurned s here (Opt a first) state state r Done before after
 opt_done s here a first state r before after stands le not cost =
     let up = stands.there.up in
     let same : here.start ≡ here.stop = omega arith in

@@ -10,7 +10,7 @@ pub use Rattle.sedre.specs.declared.types.Node.TheVariants.{Alt, Begin, Empty, E
 pub use Rattle.sedre.specs.declared.types.NodeId.{NodeId}
 pub use Rattle.sedtext.proofs.CountLemmas.{counted_twice, least_both, least_counted, least_less, least_none, least_since, least_up}
 pub use Rattle.sedtext.proofs.MatchingLemmas.{both-iff, either-iff, found-iff, groups_after-is, not_found-iff}
-pub use Rattle.sedtext.proofs.MirrorLemmas.{At-mirror, get-reverse}
+pub use Rattle.sedtext.proofs.MirrorLemmas.{HasSpan-mirror, get-reverse}
 pub use Rattle.sedtext.proofs.NodeLemmas.{node_at, parts_below, size-parts, size-pos}
 pub use Rattle.sedtext.proofs.ReachLemmas.{BeginsWith-part, Enters-from, Enters-inside, Enters-part, Enters-root, FromNode, close_at, open_at, same_node, star_copies, takes_some}
 pub use Rattle.sedtext.proofs.SpanLemmas.{CopiesLead-append, CopiesLead-forward, CopiesLead-last, Matches-forward, Matches-within}
@@ -19,12 +19,12 @@ pub use Rattle.sedtext.specs.Beginnings.{AllBegin, NextStart, NoneIn}
 pub use Rattle.sedtext.specs.Caps.{Captures, IsReport, LastCopy, LastCut, only, then}
 pub use Rattle.sedtext.specs.Costs.{CostsWithin}
 pub use Rattle.sedtext.specs.Following.{LiesOn, LooksPast}
-pub use Rattle.sedtext.specs.Groups.{Groups, forget, no_groups}
+pub use Rattle.sedtext.specs.Groups.{SpansOfGroups, forget, no_groups}
 pub use Rattle.sedtext.specs.Matching.{byte_is_in, leftmost_longest, groups_after, unless_null_at}
 pub use Rattle.sedtext.specs.Nodes.{IsRepetitionOf, parts_of, total_size}
 pub use Rattle.sedtext.specs.PartMarks.{enter_parts}
 pub use Rattle.sedtext.specs.Places.{IsPlace, takes_any}
-pub use Rattle.sedtext.specs.Reach.{At, BeginsWith, Ends, Enters, IsLongestFrom, IsStart, Marked, SomeSpan, after_left, again, at_root, one_start, starts_to, with_whole}
+pub use Rattle.sedtext.specs.Reach.{HasSpan, BeginsWith, CanEnd, Enters, IsLongestFrom, IsStart, Marked, SomeSpan, after_left, again, at_root, one_start, starts_to, with_whole}
 pub use Rattle.sedtext.specs.Spans.{CopiesLead, IsLeftmostLongest, Matches, NotFound, SomeFound, no_copy, one_more}
 pub use Rattle.sedtext.specs.Words.{AgreeBelow, row_of}
 pub use Rattle.sedtext.specs.declared.starts.Starts.{Starts}

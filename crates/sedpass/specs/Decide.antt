@@ -9,15 +9,15 @@ use Rattle.sedre.specs.declared.types.Node.TheVariants.{Set, Seq, Alt, Star}
 use Rattle.sedre.specs.declared.types.NodeId.{NodeId}
 use Rattle.sedtext.specs.Caps.{LastCopy}
 use Rattle.sedtext.specs.Costs.{CostsWithin}
-use Rattle.sedtext.specs.Groups.{Groups}
+use Rattle.sedtext.specs.Groups.{SpansOfGroups}
 use Rattle.sedtext.specs.Nodes.{parts_of}
-use Rattle.sedtext.specs.Reach.{At}
+use Rattle.sedtext.specs.Reach.{HasSpan}
 use Rattle.sedtext.specs.Words.{row_of}
 use Rattle.sedpass.specs.Prepared.{holds, length_of}
 use Rattle.sedpass.specs.Kept.{IsKept, KeptRoom, SameSpace}
 use Rattle.sedpass.specs.Regions.{IsLastIn}
 use Rattle.sedpass.specs.Table.{IsForwardOne, IsRoomy, IsTable, SameRoom, SameShape}
-use Rattle.sedpass.specs.Walks.{GroupState, is_due, drop_groups, GroupStandsIn, NoneDue, Walk}
+use Rattle.sedpass.specs.Walks.{GroupState, is_due, drop_groups, GroupIsIn, NoneDue, WalkEnters}
 use Rattle.sedpass.specs.declared.group_set.GroupSet.{GroupSet}
 use Rattle.sedpass.specs.declared.groups.GroupRoom.{GroupRoom}
 use Rattle.sedpass.specs.declared.groups.GroupTables.{GroupTables}
@@ -37,34 +37,34 @@ abbrev pub flags_of : GroupSet → List Bool
 flags_of s = holds s 0 ∷ holds s 1 ∷ holds s 2 ∷ holds s 3 ∷ holds s 4 ∷ holds s 5 ∷ holds s 6 ∷ holds s 7 ∷ holds s 8 ∷ holds s 9 ∷ []
 
 -- which groups are due, and the spans of those that aren't
-abbrev pub told_of : GroupSet → Groups → GroupState
-told_of due spans = record { due = flags_of due; spans = spans }
+abbrev pub known_groups : GroupSet → SpansOfGroups → GroupState
+known_groups due spans = record { due = flags_of due; spans = spans }
 
-abbrev pub told_in : Decided → GroupState
-told_in t = told_of t.due t.spans
+abbrev pub known_groups_in : Decided → GroupState
+known_groups_in t = known_groups t.due t.spans
 
 -- what is due has no span so far
-abbrev pub Blank : GroupState → Type 0
-Blank s = (k : ℕ) → is_due s k ≡ true → slice_index_or s.spans k None ≡ None
+abbrev pub NoneSettled : GroupState → Type 0
+NoneSettled s = (k : ℕ) → is_due s k ≡ true → slice_index_or s.spans k None ≡ None
 
 -- and the whole match isn't due
 pub record HasBlank (t : Decided) : Type 0 where
-  pub blank : Blank (told_in t)
+  pub blank : NoneSettled (known_groups_in t)
   pub whole : holds t.due 0 ≡ false
 
 -- how many entries have a span
-abbrev pub spans_in : Groups → ℕ
+abbrev pub spans_in : SpansOfGroups → ℕ
 spans_in [] = 0
 spans_in (None ∷ g) = spans_in g
 spans_in (Some span ∷ g) = 1 + spans_in g
 
 -- the groups of a match before they are decided: entry 0 is the whole match, and no other has a span
-abbrev pub undecided : ℕ → ℕ → Groups
+abbrev pub undecided : ℕ → ℕ → SpansOfGroups
 undecided start stop = Some (start, stop) ∷ replicate 9 None
 
 -- all groups of the expression that are reported are in the set
 abbrev pub HasAll : GroupSet → Tree → Type 0
-HasAll due e = (k : ℕ) → 1 ≤ k → k < 10 → GroupStandsIn e k → IsTrue (holds due k)
+HasAll due e = (k : ℕ) → 1 ≤ k → k < 10 → GroupIsIn e k → IsTrue (holds due k)
 
 -- the nodes of the expression, and the text
 abbrev pub nodes_in : Subject → List Node
@@ -78,7 +78,7 @@ pub record IsMatch (nodes : List Node) (w : List ℕ) (here : Matched) : Type 0 
   pub inside : here.node < length nodes
   pub up : here.start ≤ here.stop
   pub fits : here.stop ≤ length w
-  pub at : At nodes w here.node here.start here.stop
+  pub at : HasSpan nodes w here.node here.start here.stop
 
 -- the match is there, and what its node is
 pub record NodeMatches (s : Subject) (here : Matched) (node : Node) : Type 0 where
@@ -90,7 +90,7 @@ pub record NodeMatches (s : Subject) (here : Matched) (node : Node) : Type 0 whe
 abbrev pub RunsTasks : List Node → List ℕ → List GroupTask → GroupState → GroupState → ℕ → Type 0
 RunsTasks nodes w [] old new n = (new ≡ old) × (n ≡ 0)
 RunsTasks nodes w (Apart here ∷ tasks) old new n =
-    (mid : GroupState) × (p : ℕ) × (q : ℕ) × Walk (tree_at nodes here.node) w here.start here.stop old mid p × RunsTasks nodes w tasks mid new q × (n ≡ p + q)
+    (mid : GroupState) × (p : ℕ) × (q : ℕ) × WalkEnters (tree_at nodes here.node) w here.start here.stop old mid p × RunsTasks nodes w tasks mid new q × (n ≡ p + q)
 RunsTasks nodes w (Forget x ∷ tasks) old new n = RunsTasks nodes w tasks (drop_groups (tree_at nodes x) old) new n
 
 -- each node is there, and one to be decided matches its span within the text
@@ -247,9 +247,9 @@ LooksAt s here node next before after = Unit {0}
 -- the last copy of the part in a match of a repetition begins there, or is an empty one; or there is none
 abbrev pub IsCopyFrom : Subject → Matched → NodeId → Bool → Option ℕ → Type 0
 IsCopyFrom s here a first (Some c) =
-    ((here.start < here.stop) × LastCopy (At (nodes_in s) (subject_text s) a.index) here.stop here.start c)
-    ⊎ ((here.start ≡ here.stop) × (IsTrue first × At (nodes_in s) (subject_text s) a.index c c) × (c ≡ here.start))
-IsCopyFrom s here a first None = (here.start ≡ here.stop) × ((IsTrue first × At (nodes_in s) (subject_text s) a.index here.start here.start) → ⊥)
+    ((here.start < here.stop) × LastCopy (HasSpan (nodes_in s) (subject_text s) a.index) here.stop here.start c)
+    ⊎ ((here.start ≡ here.stop) × (IsTrue first × HasSpan (nodes_in s) (subject_text s) a.index c c) × (c ≡ here.start))
+IsCopyFrom s here a first None = (here.start ≡ here.stop) × ((IsTrue first × HasSpan (nodes_in s) (subject_text s) a.index here.start here.start) → ⊥)
 
 -- the tasks that wait, and before them one match
 abbrev pub waiting : Option Matched → List GroupTask → List GroupTask
@@ -288,21 +288,21 @@ Turned s here old new r then before after =
     ⊎ ((node : Node) × (begun : ℕ) × (slice_get (nodes_in s) here.node ≡ Some node) × TakesExactly before begun 1 × Takes before begun 1 × NodeTurned s here node old new r then begun after)
 
 -- the tasks can be done there
-pub record MayWork (s : Subject) (tables : GroupTables) (room : GroupRoom) (told : Decided) (tasks : List GroupTask) : Type 0 where
+pub record MayWork (s : Subject) (tables : GroupTables) (room : GroupRoom) (decided : Decided) (tasks : List GroupTask) : Type 0 where
   pub arena : IsArena (nodes_in s)
   pub ready : AreReady (nodes_in s) (subject_text s) tasks
   pub enough : weights (nodes_in s) tasks ≤ vec_capacity room.tasks
   pub desk : HasDesk s tables room.kept
-  pub is_told : HasBlank told
+  pub has_blank : HasBlank decided
 
 -- The tasks are done as far as those left, which are ready, and of which d fewer can still come: what is known then, its cost, where
 -- none matches more than so many bytes, and n nodes that were entered, each of which was looked at.
 pub record Works (s : Subject) (tasks : List GroupTask) (old : Decided) (rest : List GroupTask) (new : Decided) (d before after : ℕ) : Type 0 where
-  pub told : HasBlank new
+  pub decided : HasBlank new
   pub ready : AreReady (nodes_in s) (subject_text s) rest
   pub less : weights (nodes_in s) rest + d ≤ weights (nodes_in s) tasks
   pub spent : (long : ℕ) → AreShort long tasks → AreShort long rest × CostsWithin before after (tasks_cost (nodes_in s) long tasks) (tasks_cost (nodes_in s) long rest)
   pub n : ℕ
-  pub run : Continues (nodes_in s) (subject_text s) tasks (told_in old) rest (told_in new) n
+  pub run : Continues (nodes_in s) (subject_text s) tasks (known_groups_in old) rest (known_groups_in new) n
   pub entered : TakesAtLeast before after n
   pub counts : TakesAtLeast before after (spans_in new.spans - spans_in old.spans)

@@ -37,6 +37,6 @@ EndsBelow p way w start place end = LastBelow (nodes_of way p.arena.expr) w p.ro
 pub record PassIs (p : Prepared) (t : Table) (w : List ℕ) (start : ℕ) (at : Passed) : Type 0 where
   pub after : start ≤ at.place
   pub within : at.place ≤ length w
-  pub state : Arrives p t.way w start at.place (state_of (length p.arena.expr.nodes) t (at.offset / 2 ^ t.layout.shift))
+  pub arrived : Arrives p t.way w start at.place (state_of (length p.arena.expr.nodes) t (at.offset / 2 ^ t.layout.shift))
   pub last : EndsBelow p t.way w start (at.place + 1) at.end
   pub over : IsTrue at.over → IsPassEnd t.way.all_starts (nodes_of t.way p.arena.expr) w p.root (starts_of t.way.all_starts start w) at.end

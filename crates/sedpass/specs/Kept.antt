@@ -17,19 +17,19 @@ use Rattle.sedpass.specs.declared.kept.Kept.{Kept}
 -- What it shows.
 
 -- the places where matches end that a kept pass shows: with all starts all up to the end n of the text, else the region's end alone
-abbrev pub ends_told : Bool → ℕ → ℕ → Starts
-ends_told true n end = starts_to 0 n
-ends_told false n end = one_start end
+abbrev pub ends_shown : Bool → ℕ → ℕ → Starts
+ends_shown true n end = starts_to 0 n
+ends_shown false n end = one_start end
 
 -- these places as the starts of the mirrored pass, counted from the text's end
-abbrev pub starts_told : Bool → ℕ → ℕ → Starts
-starts_told true n end = starts_to 0 n
-starts_told false n end = one_start (n - end)
+abbrev pub starts_shown : Bool → ℕ → ℕ → Starts
+starts_shown true n end = starts_to 0 n
+starts_shown false n end = one_start (n - end)
 
 -- the row is that of the place in the pass, seen from the text's end
 abbrev pub RowKept : Prepared → List ℕ → Way → (root end place : ℕ) → (ℕ → Bool) → (ℕ → Bool) → Type 0
 RowKept p w way root end place entered ended =
-    RowOfPlace (nodes_of way p.arena.expr) (reverse w) root (starts_told way.all_starts (length w) end) way.keeps (length w - place) entered ended
+    RowOfPlace (nodes_of way p.arena.expr) (reverse w) root (starts_shown way.all_starts (length w) end) way.keeps (length w - place) entered ended
 
 -- the state is that of the place in the pass
 abbrev pub KeptAt : Prepared → List ℕ → Way → (root end place : ℕ) → PassState → Type 0
@@ -132,7 +132,7 @@ Follows p w t a i place offset =
 -- the two meet at each place from one up to another
 abbrev pub Meet : Prepared → List ℕ → Table → Kept → ℕ → ℕ → ℕ → ℕ → Type 0
 Meet p w t k a i from to = (q : ℕ) → from ≤ q → q < to →
-    MeetsAt p.arena.expr.nodes w k.region.root (ends_told t.way.all_starts (length w) k.region.end) a (one_start i) q
+    MeetsAt p.arena.expr.nodes w k.region.root (ends_shown t.way.all_starts (length w) k.region.end) a (one_start i) q
 
 -- What it may cost.
 

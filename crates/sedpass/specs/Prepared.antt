@@ -103,9 +103,9 @@ abbrev pub SameNulls : List Node → Type 0
 SameNulls nodes = (x : ℕ) (first last : Bool) → x < length nodes → nullable first last (tree_at nodes x) ≡ nullable false false (tree_at nodes x)
 
 -- what is known of an expression
-pub record IsPrepared (e : WrittenExpression) (root : ℕ) (told : List Facts) (of : List ℕ) (columns : ℕ) (anchors : Bool) : Type 0 where
+pub record IsPrepared (e : WrittenExpression) (root : ℕ) (shown : List Facts) (of : List ℕ) (columns : ℕ) (anchors : Bool) : Type 0 where
   pub last : root + 1 ≡ length e.nodes
-  pub all : length told ≡ length e.nodes
-  pub facts : AreFacts e.nodes told
+  pub all : length shown ≡ length e.nodes
+  pub facts : AreFacts e.nodes shown
   pub classes : AreClasses e.nodes of columns
   pub anywhere : anchors ≡ false → SameNulls e.nodes

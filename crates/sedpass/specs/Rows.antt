@@ -9,7 +9,7 @@ use Rattle.sedre.specs.declared.types.Node.TheVariants.{Empty, Set, Begin, End, 
 use Rattle.sedtext.specs.declared.starts.Starts.{Starts}
 use Rattle.sedtext.specs.Matching.{byte_is_in}
 use Rattle.sedtext.specs.Places.{IsPlace}
-use Rattle.sedtext.specs.Reach.{At, IsStart, Enters, PartFrom}
+use Rattle.sedtext.specs.Reach.{HasSpan, IsStart, Enters, PartFrom}
 use Rattle.sedpass.specs.Regions.{EndsPastIn}
 use Rattle.sedpass.specs.declared.nodes.PlaceKind.{PlaceKind}
 use Rattle.sedpass.specs.declared.rows.Way.{Way}
@@ -62,11 +62,11 @@ TreeFrom nodes r y c = InTree nodes r c × PartFrom nodes r y c
 
 -- null says which nodes are null at the place
 abbrev pub AreNull : List Node → List ℕ → ℕ → (ℕ → Bool) → Type 0
-AreNull nodes w p null = (c : ℕ) → c < length nodes → IsTrue (null c) ↔ At nodes w c p p
+AreNull nodes w p null = (c : ℕ) → c < length nodes → IsTrue (null c) ↔ HasSpan nodes w c p p
 
 -- the marks show, with the byte that came, which leaves in r took it
-abbrev pub TellTook : List Node → List ℕ → ℕ → Starts → ℕ → Option ℕ → List Bool → Type 0
-TellTook nodes w r s p byte marks = (c : ℕ) (members : List Bool) → InTree nodes r c → slice_get nodes c ≡ Some (Set members) →
+abbrev pub ShowTook : List Node → List ℕ → ℕ → Starts → ℕ → Option ℕ → List Bool → Type 0
+ShowTook nodes w r s p byte marks = (c : ℕ) (members : List Bool) → InTree nodes r c → slice_get nodes c ≡ Some (Set members) →
     IsTrue (slice_index_or marks c false && byte_is_in byte members) ↔ Took nodes w r s p c members
 
 -- the mark of a node that ends with a byte
@@ -101,11 +101,11 @@ pub record RowOfPlace (nodes : List Node) (w : List ℕ) (r : ℕ) (s : Starts) 
   pub ends : (c : ℕ) → IsTrue (ended c) ↔ EndKept nodes w r s keeps p c
 
 -- the same of the nodes from y on alone
-abbrev pub TellFrom : ℕ → (ℕ → Bool) → (ℕ → Type 0) → Type 0
-TellFrom y bits P = (c : ℕ) → IsTrue (bits c) ↔ ((y ≤ c) × P c)
+abbrev pub ShowFrom : ℕ → (ℕ → Bool) → (ℕ → Type 0) → Type 0
+ShowFrom y bits P = (c : ℕ) → IsTrue (bits c) ↔ ((y ≤ c) × P c)
 
 abbrev pub RowFrom : List Node → List ℕ → ℕ → Starts → Bool → (p y : ℕ) → (entered ended : ℕ → Bool) → Type 0
-RowFrom nodes w r s keeps p y entered ended = TellFrom y entered (LeafAt nodes w r s p) × TellFrom y ended (EndKept nodes w r s keeps p)
+RowFrom nodes w r s keeps p y entered ended = ShowFrom y entered (LeafAt nodes w r s p) × ShowFrom y ended (EndKept nodes w r s keeps p)
 
 -- from one row this byte leads to the other, at a place that is the text's end or not, and a start or not
 abbrev pub RowLeadsTo : List Node → ℕ → Bool → (ℕ → Bool) → (ℕ → Bool) → Option ℕ → Bool → Bool → (ℕ → Bool) → (ℕ → Bool) → Type 0

@@ -184,7 +184,7 @@ pub record IsTable (p : Prepared) (t : Table) : Type 0 where
   pub room : HasRoom (length p.arena.expr.nodes) t
   pub layout : IsLayout p.arena.expr.nodes t.layout
   pub roots : (q : ℕ) → q < t.count → (state_of (length p.arena.expr.nodes) t q).root < length p.arena.expr.nodes
-  pub told : (q : ℕ) → q < t.count → FlagsShow (state_of (length p.arena.expr.nodes) t q)
+  pub shown : (q : ℕ) → q < t.count → FlagsShow (state_of (length p.arena.expr.nodes) t q)
   pub filled : (q k : ℕ) → q < t.count → k < t.layout.width → 0 < cell_of t q k → NamesState (length p.arena.expr.nodes) t (LeadsBy p t q k) (cell_of t q k)
   pub begun : (root : ℕ) (kind : PlaceKind) → MayBegin p t.way root → (beginning_of t (beginning_at t.way.all_starts root kind)).epoch ≡ t.epoch →
       NamesState (length p.arena.expr.nodes) t (BeginsIn (nodes_of t.way p.arena.expr) t.way root kind) (beginning_of t (beginning_at t.way.all_starts root kind)).code

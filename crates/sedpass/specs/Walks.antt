@@ -4,12 +4,12 @@ use Rattle.sedre.specs.Steps.{TakesAtLeast}
 use Rattle.sedre.specs.Tree.{Tree, seq, alt, group, star, opt}
 use Rattle.sedtext.specs.Spans.{Matches}
 use Rattle.sedtext.specs.Caps.{LastCut, LastCopy}
-use Rattle.sedtext.specs.Groups.{Groups}
+use Rattle.sedtext.specs.Groups.{SpansOfGroups}
 
 -- which groups are due, that is not decided yet, and the spans of those that are decided
 pub record GroupState : Type 0 where
   pub due : List Bool
-  pub spans : Groups
+  pub spans : SpansOfGroups
 
 -- whether group k is due
 abbrev pub is_due : GroupState → ℕ → Bool
@@ -38,12 +38,12 @@ has_group (opt a first) k = has_group a k
 has_group other k = false
 
 -- group k is there
-abbrev pub GroupStandsIn : Tree → ℕ → Type 0
-GroupStandsIn e k = IsTrue (has_group e k)
+abbrev pub GroupIsIn : Tree → ℕ → Type 0
+GroupIsIn e k = IsTrue (has_group e k)
 
 -- no group of the expression is due
 abbrev pub NoneDue : Tree → GroupState → Type 0
-NoneDue e s = (k : ℕ) → GroupStandsIn e k → is_due s k ≡ false
+NoneDue e s = (k : ℕ) → GroupIsIn e k → is_due s k ≡ false
 
 -- nor is anything done then
 abbrev pub PassedBy : Tree → GroupState → GroupState → ℕ → Type 0
@@ -51,36 +51,36 @@ PassedBy e old new n = NoneDue e old × (new ≡ old) × (n ≡ 0)
 
 -- The groups that are due in the expression's match i..j are decided from its end, and n nodes are entered. A node of which no group is
 -- due is passed by; of a repetition the last copy alone is entered, and the groups in it that get no span there have none.
-abbrev pub Walk : Tree → List ℕ → ℕ → ℕ → GroupState → GroupState → ℕ → Type 0
-Walk (seq a b) w i j old new n = PassedBy (seq a b) old new n
-    ⊎ ((p : ℕ) × (q : ℕ) × (n ≡ 1 + (p + q)) × (k : ℕ) × LastCut (Matches a w) (Matches b w) i j k × (mid : GroupState) × Walk b w k j old mid p × Walk a w i k mid new q)
-Walk (alt a b) w i j old new n = PassedBy (alt a b) old new n
-    ⊎ ((p : ℕ) × (n ≡ 1 + p) × ((Matches a w i j × Walk a w i j old new p) ⊎ ((Matches a w i j → ⊥) × Walk b w i j old new p)))
-Walk (group k a) w i j old new n = PassedBy (group k a) old new n
-    ⊎ ((p : ℕ) × (n ≡ 1 + p) × (mid : GroupState) × Walk a w i j (settle k (Some (i, j)) old) mid p × (new ≡ drop_groups a mid))
-Walk (star a first) w i j old new n = PassedBy (star a first) old new n
+abbrev pub WalkEnters : Tree → List ℕ → ℕ → ℕ → GroupState → GroupState → ℕ → Type 0
+WalkEnters (seq a b) w i j old new n = PassedBy (seq a b) old new n
+    ⊎ ((p : ℕ) × (q : ℕ) × (n ≡ 1 + (p + q)) × (k : ℕ) × LastCut (Matches a w) (Matches b w) i j k × (mid : GroupState) × WalkEnters b w k j old mid p × WalkEnters a w i k mid new q)
+WalkEnters (alt a b) w i j old new n = PassedBy (alt a b) old new n
+    ⊎ ((p : ℕ) × (n ≡ 1 + p) × ((Matches a w i j × WalkEnters a w i j old new p) ⊎ ((Matches a w i j → ⊥) × WalkEnters b w i j old new p)))
+WalkEnters (group k a) w i j old new n = PassedBy (group k a) old new n
+    ⊎ ((p : ℕ) × (n ≡ 1 + p) × (mid : GroupState) × WalkEnters a w i j (settle k (Some (i, j)) old) mid p × (new ≡ drop_groups a mid))
+WalkEnters (star a first) w i j old new n = PassedBy (star a first) old new n
     ⊎ ((p : ℕ) × (n ≡ 1 + p) × (
-    ((i < j) × (c : ℕ) × LastCopy (Matches a w) j i c × (mid : GroupState) × Walk a w c j old mid p × (new ≡ drop_groups a mid))
-    ⊎ (((i ≡ j) × IsTrue first × Matches a w i i × (mid : GroupState) × Walk a w i i old mid p × (new ≡ drop_groups a mid))
+    ((i < j) × (c : ℕ) × LastCopy (Matches a w) j i c × (mid : GroupState) × WalkEnters a w c j old mid p × (new ≡ drop_groups a mid))
+    ⊎ (((i ≡ j) × IsTrue first × Matches a w i i × (mid : GroupState) × WalkEnters a w i i old mid p × (new ≡ drop_groups a mid))
     ⊎ ((i ≡ j) × (IsTrue first → Matches a w i i → ⊥) × (new ≡ old) × (p ≡ 0)))))
-Walk (opt a first) w i j old new n = PassedBy (opt a first) old new n
+WalkEnters (opt a first) w i j old new n = PassedBy (opt a first) old new n
     ⊎ ((p : ℕ) × (n ≡ 1 + p) × (
-    ((i < j) × (mid : GroupState) × Walk a w i j old mid p × (new ≡ drop_groups a mid))
-    ⊎ (((i ≡ j) × IsTrue first × Matches a w i i × (mid : GroupState) × Walk a w i i old mid p × (new ≡ drop_groups a mid))
+    ((i < j) × (mid : GroupState) × WalkEnters a w i j old mid p × (new ≡ drop_groups a mid))
+    ⊎ (((i ≡ j) × IsTrue first × Matches a w i i × (mid : GroupState) × WalkEnters a w i i old mid p × (new ≡ drop_groups a mid))
     ⊎ ((i ≡ j) × (IsTrue first → Matches a w i i → ⊥) × (new ≡ old) × (p ≡ 0)))))
-Walk other w i j old new n = (new ≡ old) × (n ≡ 0)
+WalkEnters other w i j old new n = (new ≡ old) × (n ≡ 0)
 
 -- a state to begin with: entry 0 is the whole match and no other has a span, and each group of the expression is due
 pub record IsFirstState (e : Tree) (i j : ℕ) (s : GroupState) : Type 0 where
   pub whole : is_due s 0 ≡ false
-  pub each : (k : ℕ) → 1 ≤ k → k < 10 → GroupStandsIn e k → is_due s k ≡ true
+  pub each : (k : ℕ) → 1 ≤ k → k < 10 → GroupIsIn e k → is_due s k ≡ true
   pub none : s.spans ≡ Some (i, j) ∷ replicate 9 None
 
 -- the count of steps grew by one at least for each node that is entered while the groups due in the match i..j are decided
 pub record LooksAtEntered (e : Tree) (w : List ℕ) (i j : ℕ) (start : GroupState) (before after : ℕ) : Type 0 where
   pub last : GroupState
   pub n : ℕ
-  pub walk : Walk e w i j start last n
+  pub walk : WalkEnters e w i j start last n
   pub counts : TakesAtLeast before after n
 
 -- all groups of the match are decided so

@@ -8,10 +8,10 @@ ghost use Rattle.sedre.specs.Tree.{tree_at, expression_tree};
 ghost use Rattle.sedre.specs.Steps.{Takes, TakesAtLeast};
 ghost use Rattle.sedre.specs.declared.types.Node.TheVariants.{Seq, Alt, Star, Opt};
 ghost use Rattle.sedtext.specs.Caps.{LastCut, IsReport};
-ghost use Rattle.sedtext.specs.Groups.{Groups};
+ghost use Rattle.sedtext.specs.Groups.{SpansOfGroups};
 ghost use Rattle.sedtext.specs.Places.{Ascending};
-ghost use Rattle.sedtext.specs.Reach.{At};
-ghost use Rattle.sedpass.specs.Decide.{spans_in, undecided, HasAll, told_of, told_in, HasBlank, EndsRegion, IsGroupDesk, IsAtEnd, IsCopyFrom, NodeTurned, Turned, MayWork, Works, waiting, part_cost, HasNoKnownLength, next_of, IsSetAt, HasDesk, AreGroupTables, AreRoomy, HasSpace, SameRooms, SameTables, KeepsGroupDesk, KeepsGroupRoom, nodes_in, subject_text, IsMatch, NodeMatches, tasks_after};
+ghost use Rattle.sedtext.specs.Reach.{HasSpan};
+ghost use Rattle.sedpass.specs.Decide.{spans_in, undecided, HasAll, known_groups, known_groups_in, HasBlank, EndsRegion, IsGroupDesk, IsAtEnd, IsCopyFrom, NodeTurned, Turned, MayWork, Works, waiting, part_cost, HasNoKnownLength, next_of, IsSetAt, HasDesk, AreGroupTables, AreRoomy, HasSpace, SameRooms, SameTables, KeepsGroupDesk, KeepsGroupRoom, nodes_in, subject_text, IsMatch, NodeMatches, tasks_after};
 ghost use Rattle.sedpass.specs.Kept.{SameKept, SameSpace};
 ghost use Rattle.sedpass.specs.Prepared.{IsFacts, holds};
 ghost use Rattle.sedpass.specs.Regions.{IsRunOf};
@@ -111,7 +111,11 @@ impl GroupTables {
         ensures room { IfOk result (λ t. (t.reverse_one.room ≡ room) × (t.forward_one.room ≡ room)) }
     {
         let forward_one = Table::new(alloc, prepared, FORWARD_ONE, room)?;
-        let reverse_one = Table::new(alloc, prepared, REVERSE_ONE, room)?;
+        // What was made is let go of by a call: in place it is proved field by field.
+        let Ok(reverse_one) = Table::new(alloc, prepared, REVERSE_ONE, room) else {
+            drop(forward_one);
+            return Err(AllocError);
+        };
         Ok(GroupTables {
             forward_one,
             reverse_one,
@@ -129,7 +133,10 @@ impl GroupTables {
         ensures room { IfOk result (λ t. (t.reverse_one.room ≡ room) × (t.forward_one.room ≡ room)) }
     {
         let forward_one = Table::with_room(alloc, FORWARD_ONE, room, nodes)?;
-        let reverse_one = Table::with_room(alloc, REVERSE_ONE, room, nodes)?;
+        let Ok(reverse_one) = Table::with_room(alloc, REVERSE_ONE, room, nodes) else {
+            drop(forward_one);
+            return Err(AllocError);
+        };
         Ok(GroupTables {
             forward_one,
             reverse_one,
@@ -178,27 +185,27 @@ fn facts_at(prepared: &Prepared, x: usize) -> Facts
 }
 
 /// Gives a group its span, if it is due.
-fn settle_group(told: &mut Decided, k: usize, span: (usize, usize))
-    requires { HasBlank told.old }
-    ensures told { HasBlank told.new }
-    ensures state { told_in told.new ≡ settle k (Some span) (told_in told.old) }
-    ensures few { spans_in told.new.spans ≤ spans_in told.old.spans + 1 }
+fn settle_group(decided: &mut Decided, k: usize, span: (usize, usize))
+    requires { HasBlank decided.old }
+    ensures decided { HasBlank decided.new }
+    ensures state { known_groups_in decided.new ≡ settle k (Some span) (known_groups_in decided.old) }
+    ensures few { spans_in decided.new.spans ≤ spans_in decided.old.spans + 1 }
 {
-    if told.due.has(k) {
-        told.due = told.due.without(GroupSet::one(k));
-        told.spans[k] = Some(span);
+    if decided.due.has(k) {
+        decided.due = decided.due.without(GroupSet::one(k));
+        decided.spans[k] = Some(span);
     }
 }
 
 /// What is still due of a node's groups has no span.
-fn forget(prepared: &Prepared, told: &mut Decided, x: usize)
+fn forget(prepared: &Prepared, decided: &mut Decided, x: usize)
     requires inside { x < length prepared.now.arena.expr.nodes }
-    requires told { HasBlank told.old }
-    ensures told { HasBlank told.new }
-    ensures state { told_in told.new ≡ drop_groups (tree_at prepared.now.arena.expr.nodes x) (told_in told.old) }
-    ensures spans { told.new.spans ≡ told.old.spans }
+    requires decided { HasBlank decided.old }
+    ensures decided { HasBlank decided.new }
+    ensures state { known_groups_in decided.new ≡ drop_groups (tree_at prepared.now.arena.expr.nodes x) (known_groups_in decided.old) }
+    ensures spans { decided.new.spans ≡ decided.old.spans }
 {
-    told.due = told.due.without(facts_at(prepared, x).groups);
+    decided.due = decided.due.without(facts_at(prepared, x).groups);
 }
 
 /// Whether a repetition that matches the null string at a place takes one empty copy of its part.
@@ -210,7 +217,7 @@ fn has_empty_copy(
     steps: &mut Steps,
 ) -> bool
     requires { part < length (nodes_in subject) }
-    ensures copy { IsTrue result ↔ (IsTrue first × At (nodes_in subject.entry) (subject_text subject.entry) part place place) }
+    ensures copy { IsTrue result ↔ (IsTrue first × HasSpan (nodes_in subject.entry) (subject_text subject.entry) part place place) }
     ensures cost { Takes steps.old steps.new 1 }
 {
     first && subject.is_null(part, place, steps)
@@ -253,7 +260,7 @@ fn last_copy(
 /// Where a concatenation is cut, if the length of a part decides it.
 fn fixed_cut(subject: Subject, here: Matched, a: NodeId, b: NodeId) -> Option<usize>
     requires { NodeMatches subject here (Seq a b) }
-    ensures cut { IfSome result (λ k. LastCut (At (nodes_in subject.entry) (subject_text subject.entry) a.index) (At (nodes_in subject.entry) (subject_text subject.entry) b.index) here.start here.stop k) }
+    ensures cut { IfSome result (λ k. LastCut (HasSpan (nodes_in subject.entry) (subject_text subject.entry) a.index) (HasSpan (nodes_in subject.entry) (subject_text subject.entry) b.index) here.start here.stop k) }
     ensures some { result ≡ None → here.start ≡ here.stop → ⊥ }
     ensures open { HasNoKnownLength (nodes_in subject.entry) a.index → HasNoKnownLength (nodes_in subject.entry) b.index → IfSome result (λ k. k ≡ here.start) }
 {
@@ -280,7 +287,7 @@ fn last_cut(
     steps: &mut Steps,
 ) -> usize
     requires { IsAtEnd subject tables.old kept.old here (Seq a b) }
-    ensures cut { LastCut (At (nodes_in subject.entry) (subject_text subject.entry) a.index) (At (nodes_in subject.entry) (subject_text subject.entry) b.index) here.start here.stop result }
+    ensures cut { LastCut (HasSpan (nodes_in subject.entry) (subject_text subject.entry) a.index) (HasSpan (nodes_in subject.entry) (subject_text subject.entry) b.index) here.start here.stop result }
     ensures same { SameKept kept.old kept.new }
     ensures desk { KeepsGroupDesk subject.entry tables.old tables.new kept.old kept.new }
     ensures cost { Takes steps.old steps.new (part_cost (length (nodes_in subject.entry)) (here.stop - here.start)) }
@@ -387,23 +394,23 @@ fn turn_node(
     subject: Subject,
     tables: &mut GroupTables,
     kept: &mut Kept,
-    told: &mut Decided,
+    decided: &mut Decided,
     here: Matched,
     node: &Node,
     steps: &mut Steps,
 ) -> Then
     requires at { IsAtEnd subject tables.old kept.old here node.now }
-    requires told { HasBlank told.old }
-    ensures turned { NodeTurned subject.entry here node.now (told_in told.old) (told_in told.new) kept.new.region result steps.old steps.new }
+    requires decided { HasBlank decided.old }
+    ensures turned { NodeTurned subject.entry here node.now (known_groups_in decided.old) (known_groups_in decided.new) kept.new.region result steps.old steps.new }
     ensures desk { KeepsGroupDesk subject.entry tables.old tables.new kept.old kept.new }
-    ensures told { HasBlank told.new }
-    ensures few { spans_in told.new.spans ≤ spans_in told.old.spans + 1 }
+    ensures decided { HasBlank decided.new }
+    ensures few { spans_in decided.new.spans ≤ spans_in decided.old.spans + 1 }
 {
     match node {
         Node::Seq(a, b) => turn_seq(subject, tables, kept, here, *a, *b, steps),
         Node::Alt(a, b) => turn_alt(subject, tables, kept, here, *a, *b, steps),
         Node::Group(k, a) => {
-            settle_group(told, *k, (here.start, here.stop));
+            settle_group(decided, *k, (here.start, here.stop));
             let part = a.index();
             Then::Two(Matched { node: part, ..here }, GroupTask::Forget(part))
         }
@@ -418,7 +425,7 @@ fn turn(
     subject: Subject,
     tables: &mut GroupTables,
     kept: &mut Kept,
-    told: &mut Decided,
+    decided: &mut Decided,
     here: Matched,
     steps: &mut Steps,
 ) -> Then
@@ -426,18 +433,18 @@ fn turn(
     requires there { IsMatch (nodes_in subject) (subject_text subject) here }
     requires ends { EndsRegion subject kept.old.region here }
     requires desk { IsGroupDesk subject tables.old kept.old }
-    requires told { HasBlank told.old }
-    ensures turned { Turned subject.entry here (told_in told.old) (told_in told.new) kept.new.region result steps.old steps.new }
+    requires decided { HasBlank decided.old }
+    ensures turned { Turned subject.entry here (known_groups_in decided.old) (known_groups_in decided.new) kept.new.region result steps.old steps.new }
     ensures desk { KeepsGroupDesk subject.entry tables.old tables.new kept.old kept.new }
-    ensures told { HasBlank told.new }
-    ensures counts { TakesAtLeast steps.old steps.new (spans_in told.new.spans - spans_in told.old.spans) }
+    ensures decided { HasBlank decided.new }
+    ensures counts { TakesAtLeast steps.old steps.new (spans_in decided.new.spans - spans_in decided.old.spans) }
 {
     let groups = facts_at(subject.prepared, here.node).groups;
-    if !groups.meets(told.due) {
+    if !groups.meets(decided.due) {
         return Then::Done;
     }
     let node = subject.prepared.arena.look(here.node, false, steps);
-    turn_node(subject, tables, kept, told, here, &node, steps)
+    turn_node(subject, tables, kept, decided, here, &node, steps)
 }
 
 /// Lets the task wait that comes after the match, and gives the match.
@@ -462,19 +469,19 @@ fn spine(
     subject: Subject,
     tables: &mut GroupTables,
     room: &mut GroupRoom,
-    told: &mut Decided,
+    decided: &mut Decided,
     here: Matched,
     steps: &mut Steps,
 )
-    requires { MayWork subject tables.old room.old told.old (Apart here ∷ reverse room.old.tasks.items) }
+    requires { MayWork subject tables.old room.old decided.old (Apart here ∷ reverse room.old.tasks.items) }
     ensures room { KeepsGroupRoom subject.entry tables.old tables.new room.old room.new }
-    ensures works { Works subject.entry (Apart here ∷ reverse room.old.tasks.items) told.old (reverse room.new.tasks.items) told.new 1 steps.old steps.new }
+    ensures works { Works subject.entry (Apart here ∷ reverse room.old.tasks.items) decided.old (reverse room.new.tasks.items) decided.new 1 steps.old steps.new }
 {
     room.kept
         .begin(subject, &tables.reverse_one, here.node, here.stop);
     let mut at = Some(here);
     'nodes: while let Some(next) = at {
-        let then = turn(subject, tables, &mut room.kept, told, next, steps);
+        let then = turn(subject, tables, &mut room.kept, decided, next, steps);
         at = put(then, &mut room.tasks);
     }
 }
@@ -500,12 +507,12 @@ pub fn decide(
 ) -> GroupSpans
     requires whole { holds due 0 ≡ false }
     requires order { Ascending start stop (length (subject_text subject)) }
-    requires spans { At (nodes_in subject) (subject_text subject) subject.prepared.now.root start stop }
+    requires spans { HasSpan (nodes_in subject) (subject_text subject) subject.prepared.now.root start stop }
     requires tasks { room.old.tasks.items ≡ [] }
     requires room { 2 * length (nodes_in subject) ≤ vec_capacity room.old.tasks }
     requires desk { HasDesk subject tables.old room.old.kept }
     ensures report { HasAll due (expression_tree subject.entry.prepared.now.arena.expr) → IsReport (expression_tree subject.entry.prepared.now.arena.expr) (subject_text subject.entry) start stop result }
-    ensures due { (groups : Groups) (k : ℕ) → IsReport (expression_tree subject.entry.prepared.now.arena.expr) (subject_text subject.entry) start stop groups → IsTrue (holds due k) →
+    ensures due { (groups : SpansOfGroups) (k : ℕ) → IsReport (expression_tree subject.entry.prepared.now.arena.expr) (subject_text subject.entry) start stop groups → IsTrue (holds due k) →
         slice_index_or result k None ≡ slice_index_or groups k None }
     ensures tasks { room.new.tasks.items ≡ [] }
     ensures room { vec_capacity room.old.tasks ≤ vec_capacity room.new.tasks }
@@ -514,20 +521,20 @@ pub fn decide(
     ensures space { SameSpace room.old.kept room.new.kept }
     ensures cost { let m = length (nodes_in subject.entry) in Takes steps.old steps.new (172 * m * (m - 1) * (stop - start) + 2 * m) }
     ensures counts { TakesAtLeast steps.old steps.new (spans_in result - 1) }
-    ensures entered { LooksAtEntered (expression_tree subject.entry.prepared.now.arena.expr) (subject_text subject.entry) start stop (told_of due (undecided start stop)) steps.old steps.new }
+    ensures entered { LooksAtEntered (expression_tree subject.entry.prepared.now.arena.expr) (subject_text subject.entry) start stop (known_groups due (undecided start stop)) steps.old steps.new }
 {
     subject.prepared.arena.is_expression();
     let mut spans = [None; 10];
     spans[0] = Some((start, stop));
-    let mut told = Decided { due, spans };
+    let mut decided = Decided { due, spans };
     let node = subject.prepared.root;
     let whole = Matched { node, start, stop };
     room.tasks.push_reserved(GroupTask::Apart(whole));
     'all: while let Some(task) = room.tasks.pop() {
         match task {
-            GroupTask::Forget(x) => forget(subject.prepared, &mut told, x),
-            GroupTask::Apart(here) => spine(subject, tables, room, &mut told, here, steps),
+            GroupTask::Forget(x) => forget(subject.prepared, &mut decided, x),
+            GroupTask::Apart(here) => spine(subject, tables, room, &mut decided, here, steps),
         }
     }
-    told.spans
+    decided.spans
 }

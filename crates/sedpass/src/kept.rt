@@ -5,12 +5,12 @@
 //! from the block's end down to the place that is looked at, so that looks from left to right make each place again once at most.
 ghost use Rattle.std.specs.Prelude.{◌≡◌, ℕ, false, not, min, ◌+◌, ◌-◌, ◌*◌, ◌/◌, ◌^◌, ◌<◌, ◌≤◌, ◌↔◌, length, vec_capacity, IfOk, IsTrue};
 ghost use Rattle.sedtext.specs.Costs.{CostsWithin};
-ghost use Rattle.sedtext.specs.Reach.{At, one_start};
+ghost use Rattle.sedtext.specs.Reach.{HasSpan, one_start};
 ghost use Rattle.sedtext.specs.Words.{row_of};
 ghost use Rattle.sedre.specs.Steps.{Takes, TakesAtLeast, TakesExactly};
 ghost use Rattle.sedpass.specs.Regions.{CeasesAt, IsLastIn, MeetsAt, ReachesEnd};
 ghost use Rattle.sedpass.specs.Table.{AddsStates, IsOffset, IsTable, MayBegin, SameShape, state_of};
-ghost use Rattle.sedpass.specs.Kept.{AllMarked, ComesDown, EdgesFrom, Follows, IsEdge, IsKept, IsRegion, KeepsRegion, KeptAt, KeptRoom, Meet, PassesDownTo, SameKept, SameSpace, again, ends_told, owed_region};
+ghost use Rattle.sedpass.specs.Kept.{AllMarked, ComesDown, EdgesFrom, Follows, IsEdge, IsKept, IsRegion, KeepsRegion, KeptAt, KeptRoom, Meet, PassesDownTo, SameKept, SameSpace, again, ends_shown, owed_region};
 
 use crate::cells::offset_of;
 use crate::nodes::{Prepared, kind_of};
@@ -34,7 +34,7 @@ impl<'a> Subject<'a> {
     #[inline(always)]
     pub fn is_null(self, x: usize, place: usize, steps: &mut Steps) -> bool
         requires inside { x < length self.prepared.now.arena.expr.nodes }
-        ensures null { IsTrue result ↔ At self.entry.prepared.now.arena.expr.nodes self.entry.text.now x place place }
+        ensures null { IsTrue result ↔ HasSpan self.entry.prepared.now.arena.expr.nodes self.entry.text.now x place place }
         ensures cost { Takes steps.old steps.new 1 }
         ensures counts { TakesExactly steps.old steps.new 1 }
     {
@@ -334,7 +334,7 @@ impl Kept {
         requires last { IsLastIn subject.prepared.now.arena.expr.nodes self.old.region.root x }
         requires place { place ≤ self.old.region.end }
         ensures keeps { KeepsRegion subject.entry.prepared.now subject.entry.text.now table.old table.new self.old self.new }
-        ensures spans { IsTrue result ↔ At subject.entry.prepared.now.arena.expr.nodes subject.entry.text.now x place self.old.region.end }
+        ensures spans { IsTrue result ↔ HasSpan subject.entry.prepared.now.arena.expr.nodes subject.entry.text.now x place self.old.region.end }
         ensures cost { let m = length subject.entry.prepared.now.arena.expr.nodes in
             CostsWithin steps.old steps.new (owed_region m self.old.region place + 1) (owed_region m self.new.region place) }
         ensures counts { TakesAtLeast steps.old steps.new 1 }
@@ -364,9 +364,9 @@ impl Kept {
         ensures after { from ≤ result }
         ensures within { result ≤ self.old.region.end }
         ensures passed { AllMarked subject.entry.prepared.now.arena.expr.nodes subject.entry.text.now self.old.region.root
-            (ends_told table.old.way.all_starts (length subject.entry.text.now) self.old.region.end) x (not marked) from result }
+            (ends_shown table.old.way.all_starts (length subject.entry.text.now) self.old.region.end) x (not marked) from result }
         ensures found { result < self.old.region.end → IsTrue marked ↔ ReachesEnd subject.entry.prepared.now.arena.expr.nodes subject.entry.text.now self.old.region.root
-            (ends_told table.old.way.all_starts (length subject.entry.text.now) self.old.region.end) x result }
+            (ends_shown table.old.way.all_starts (length subject.entry.text.now) self.old.region.end) x result }
         ensures cost { let m = length subject.entry.prepared.now.arena.expr.nodes in
             CostsWithin steps.old steps.new (owed_region m self.old.region from + 2 * result + 2) (owed_region m self.new.region result + 2 * from) }
         ensures counts { TakesAtLeast steps.old steps.new (result - from) }
@@ -400,9 +400,9 @@ impl Kept {
         ensures after { from ≤ result }
         ensures within { result ≤ self.now.region.to }
         ensures passed { AllMarked subject.entry.prepared.now.arena.expr.nodes subject.entry.text.now self.now.region.root
-            (ends_told table.now.way.all_starts (length subject.entry.text.now) self.now.region.end) x (not marked) from result }
+            (ends_shown table.now.way.all_starts (length subject.entry.text.now) self.now.region.end) x (not marked) from result }
         ensures found { result < self.now.region.to → IsTrue marked ↔ ReachesEnd subject.entry.prepared.now.arena.expr.nodes subject.entry.text.now self.now.region.root
-            (ends_told table.now.way.all_starts (length subject.entry.text.now) self.now.region.end) x result }
+            (ends_shown table.now.way.all_starts (length subject.entry.text.now) self.now.region.end) x result }
         ensures cost { CostsWithin steps.old steps.new (result + 1) from }
         ensures counts { TakesAtLeast steps.old steps.new (result - from) }
     {
@@ -435,7 +435,7 @@ impl Kept {
         ensures shape { SameShape forward_one.old forward_one.new }
         ensures within { result ≤ self.old.region.end }
         ensures ceases { CeasesAt subject.entry.prepared.now.arena.expr.nodes subject.entry.text.now self.old.region.root
-            (ends_told table.old.way.all_starts (length subject.entry.text.now) self.old.region.end) a from result }
+            (ends_shown table.old.way.all_starts (length subject.entry.text.now) self.old.region.end) a from result }
         ensures cost { let m = length subject.entry.prepared.now.arena.expr.nodes in
             CostsWithin steps.old steps.new (owed_region m self.old.region from + 36 * m * (result + 1)) (owed_region m self.new.region result + 36 * m * from) }
         ensures counts { TakesAtLeast steps.old steps.new (2 * (result - from) + 1) }
@@ -484,7 +484,7 @@ impl Kept {
             Follows subject.entry.prepared.now subject.entry.text.now forward_one.new a i result.0 result.1
             × Meet subject.entry.prepared.now subject.entry.text.now table.now self.old a i from result.0
             × (result.0 < self.old.region.to → MeetsAt subject.entry.prepared.now.arena.expr.nodes subject.entry.text.now self.old.region.root
-            (ends_told table.now.way.all_starts (length subject.entry.text.now) self.old.region.end) a (one_start i) result.0 → ⊥) }
+            (ends_shown table.now.way.all_starts (length subject.entry.text.now) self.old.region.end) a (one_start i) result.0 → ⊥) }
         ensures cost { let m = length subject.entry.prepared.now.arena.expr.nodes in CostsWithin steps.old steps.new (36 * m * result.0 + m) (36 * m * from) }
         ensures whole { let m = length subject.entry.prepared.now.arena.expr.nodes in result.0 ≡ self.old.region.to → CostsWithin steps.old steps.new (36 * m * result.0) (36 * m * from) }
         ensures counts { TakesAtLeast steps.old steps.new (2 * (result.0 - from)) }

@@ -133,11 +133,11 @@ fn of_group(k: usize, part: Facts) -> Facts
 }
 
 /// The index of a part, if that is a set: it has no parts, and its matches have one byte.
-fn set_at(part: NodeId, told: Facts) -> Option<usize>
-    ensures { (a : Tree) → IsFacts a part.index told → result ≡ cond (is_one_set a) (Some part.index) None }
+fn set_at(part: NodeId, shown: Facts) -> Option<usize>
+    ensures { (a : Tree) → IsFacts a part.index shown → result ≡ cond (is_one_set a) (Some part.index) None }
 {
     let x = part.index();
-    if told.low == x && told.length == Some(1) {
+    if shown.low == x && shown.length == Some(1) {
         Some(x)
     } else {
         None

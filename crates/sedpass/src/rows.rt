@@ -9,9 +9,9 @@ ghost use Rattle.sedre.specs.Steps.{Takes, TakesAtLeast};
 ghost use Rattle.sedtext.specs.Matching.{byte_is_in};
 ghost use Rattle.sedtext.specs.PartMarks.{enter_parts};
 ghost use Rattle.sedtext.specs.Places.{takes_any};
-ghost use Rattle.sedtext.specs.Reach.{IsStart, Ends, Marked};
+ghost use Rattle.sedtext.specs.Reach.{IsStart, CanEnd, Marked};
 ghost use Rattle.sedpass.specs.Prepared.{null_in, SameNulls};
-ghost use Rattle.sedpass.specs.Rows.{nodes_of, at_begin, at_edge, bits, RowLeadsTo, IsFirstRow, RowOfPlace, InTree, AreNull, TellTook, ended_by, enter_looks};
+ghost use Rattle.sedpass.specs.Rows.{nodes_of, at_begin, at_edge, bits, RowLeadsTo, IsFirstRow, RowOfPlace, InTree, AreNull, ShowTook, ended_by, enter_looks};
 
 use crate::nodes::{PlaceKind, Prepared};
 use sedre::{Node, Steps};
@@ -166,8 +166,8 @@ fn ascend(
 )
     requires root { root < length prepared.now.arena.expr.nodes }
     ensures ended { (w : List ℕ) (s : Starts) (place : ℕ) → AreNull (nodes_of way prepared.now.arena.expr) w place (null_in prepared.now.arena.expr.nodes kind) →
-        TellTook (nodes_of way prepared.now.arena.expr) w root s place byte work.old.leaves →
-        Marked work.new.ended (InTree (nodes_of way prepared.now.arena.expr) root) (λ c. Ends (nodes_of way prepared.now.arena.expr) w root s c place) }
+        ShowTook (nodes_of way prepared.now.arena.expr) w root s place byte work.old.leaves →
+        Marked work.new.ended (InTree (nodes_of way prepared.now.arena.expr) root) (λ c. CanEnd (nodes_of way prepared.now.arena.expr) w root s c place) }
     ensures cost { Takes steps.old steps.new (5 * length prepared.now.arena.expr.nodes) }
     ensures counts { TakesAtLeast steps.old steps.new (2 * size (tree_at prepared.now.arena.expr.nodes root)) }
 {
@@ -191,7 +191,7 @@ fn descend(
 )
     requires root { root < length prepared.now.arena.expr.nodes }
     ensures row { (w : List ℕ) (s : Starts) (place : ℕ) → AreNull (nodes_of way prepared.now.arena.expr) w place (null_in prepared.now.arena.expr.nodes kind) →
-        Marked work.old.ended (InTree (nodes_of way prepared.now.arena.expr) root) (λ c. Ends (nodes_of way prepared.now.arena.expr) w root s c place) →
+        Marked work.old.ended (InTree (nodes_of way prepared.now.arena.expr) root) (λ c. CanEnd (nodes_of way prepared.now.arena.expr) w root s c place) →
         (IsTrue first ↔ IsStart s place) →
         RowOfPlace (nodes_of way prepared.now.arena.expr) w root s way.keeps place
         (bits (length prepared.now.arena.expr.nodes) work.new.leaves) (bits (length prepared.now.arena.expr.nodes) work.new.ends) }

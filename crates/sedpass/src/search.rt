@@ -6,7 +6,7 @@ ghost use Rattle.std.specs.Prelude.{◌≡◌, ℕ, ◌+◌, ◌-◌, ◌*◌, �
 ghost use Rattle.sedtext.specs.Answer.{SpanAnswer};
 ghost use Rattle.sedtext.specs.Beginnings.{AllBegin};
 ghost use Rattle.sedtext.specs.Costs.{CostsWithin};
-ghost use Rattle.sedtext.specs.Reach.{At};
+ghost use Rattle.sedtext.specs.Reach.{HasSpan};
 ghost use Rattle.sedre.specs.Tree.{expression_tree};
 ghost use Rattle.sedre.specs.Steps.{Takes};
 ghost use Rattle.sedpass.specs.Table.{IsForwardOne, SameShape};
@@ -84,7 +84,7 @@ fn begins_there(subject: Subject, start: usize, steps: &mut Steps) -> bool
     requires start { start ≤ length subject.text.now }
     ensures inside { start < length subject.entry.text.now → IsTrue result }
     ensures null { start ≡ length subject.entry.text.now → IsTrue result ↔
-        At subject.entry.prepared.now.arena.expr.nodes subject.entry.text.now subject.entry.prepared.now.root start start }
+        HasSpan subject.entry.prepared.now.arena.expr.nodes subject.entry.text.now subject.entry.prepared.now.root start start }
     ensures cost { Takes steps.old steps.new 1 }
 {
     start < subject.text.len() || subject.is_null(subject.prepared.root, start, steps)

@@ -3,7 +3,7 @@
 //! A state is the row of a place and the root of its pass, so one table serves all regions of an expression. A cell is
 //! filled when it is first asked for, by one act. A full table is emptied, and the pass goes on: so an unlucky text costs
 //! an act and a state for each byte, never more.
-ghost use Rattle.std.specs.Prelude.{◌≡◌, ℕ, false, ◌+◌, ◌*◌, ◌/◌, ◌^◌, ◌<◌, ◌≤◌, length, IfOk, IfSome, vec_len};
+ghost use Rattle.std.specs.Prelude.{◌≡◌, ℕ, false, ◌+◌, ◌*◌, ◌/◌, ◌^◌, ◌<◌, ◌≤◌, length, replicate, IfOk, IfSome, vec_len, vec_capacity};
 ghost use Rattle.sedtext.specs.Words.{row_of};
 ghost use Rattle.sedre.specs.Steps.{Takes, TakesAtLeast};
 ghost use Rattle.sedpass.specs.Rows.{nodes_of, bits};
@@ -21,6 +21,12 @@ use std::alloc::{AllocError, Global};
 /// From this epoch on no beginning is noted or trusted: a table that comes to the greatest number goes to and fro between
 /// the last two.
 const LAST_EPOCHS: u32 = u32::MAX - 1;
+
+/// The flags of a state that isn't there yet.
+const NO_FLAGS: StateFlags = StateFlags {
+    ends: false,
+    dead: false,
+};
 
 /// What is known of where a pass begins: in which epoch of the table, and the code of the state.
 #[derive(Clone, Copy)]
@@ -99,6 +105,46 @@ fn count_beginnings(all_starts: bool, nodes: usize) -> usize
     if all_starts { 4 } else { 4 * nodes }
 }
 
+/// Requests memory, and keeps in mind whether a request was refused: what it gives then is empty. So a table is made of what it
+/// gives, and let go of once.
+#[derive(Drop)]
+struct Requests {
+    alloc: Global,
+    refused: bool,
+}
+
+impl Requests {
+    /// So many copies of an item.
+    fn copies<T: Copy>(&mut self, item: T, count: usize) -> Vec<T>
+        ensures refused { self.new.refused ≡ false → self.old.refused ≡ false }
+        ensures long { self.new.refused ≡ false → vec_len result ≡ count }
+        ensures items { self.new.refused ≡ false → ((y : T) → T.is_clone item y → y ≡ item) → result.items ≡ replicate count item }
+    {
+        match vec![in self.alloc; item; count] {
+            Ok(items) => items,
+            Err(AllocError) => {
+                self.refused = true;
+                Vec::new(self.alloc)
+            }
+        }
+    }
+
+    /// Room for so many items.
+    fn room<T>(&mut self, count: usize) -> Vec<T>
+        ensures refused { self.new.refused ≡ false → self.old.refused ≡ false }
+        ensures room { self.new.refused ≡ false → count ≤ vec_capacity result }
+        ensures none { self.new.refused ≡ false → vec_len result ≡ 0 }
+    {
+        match Vec::with_capacity(self.alloc, count) {
+            Ok(items) => items,
+            Err(AllocError) => {
+                self.refused = true;
+                Vec::new(self.alloc)
+            }
+        }
+    }
+}
+
 impl Table {
     /// An empty table with room for so many states, for rows of so many nodes, and for cells that are laid out so.
     fn made(
@@ -116,7 +162,14 @@ impl Table {
         ensures { IfOk result (IsMade way room nodes layout) }
     {
         let reserved = room << layout.shift;
-        Ok(Table {
+        let leaves = Rows::new(alloc, room, nodes)?;
+        let ends = Rows::new(alloc, room, nodes)?;
+        let kinds = count_beginnings(way.all_starts, nodes);
+        let mut requests = Requests {
+            alloc,
+            refused: false,
+        };
+        let table = Table {
             way,
             room,
             marks: nodes,
@@ -124,22 +177,20 @@ impl Table {
             layout,
             count: 0,
             epoch: 1,
-            roots: vec![in alloc; 0; room]?,
-            flags: vec![in alloc; StateFlags {
-                ends: false,
-                dead: false
-            }; room]?,
-            cells: Vec::with_capacity(alloc, reserved)?,
+            leaves,
+            ends,
+            roots: requests.copies(0, room),
+            flags: requests.copies(NO_FLAGS, room),
+            cells: requests.room(reserved),
             // An odd number and one: by a power of two only a digest's last bits would count.
-            index: vec![in alloc; Slot { epoch: 0, state: 0 }; 2 * room + 2]?,
-            beginnings: vec![in alloc; Beginning { epoch: 0, code: 0 }; count_beginnings(
-                way.all_starts,
-                nodes
-            )]?,
-            // Last, since they are the dearest to let go of where a later request is refused.
-            leaves: Rows::new(alloc, room, nodes)?,
-            ends: Rows::new(alloc, room, nodes)?,
-        })
+            index: requests.copies(Slot { epoch: 0, state: 0 }, 2 * room + 2),
+            beginnings: requests.copies(Beginning { epoch: 0, code: 0 }, kinds),
+        };
+        if requests.refused {
+            drop(table);
+            return Err(AllocError);
+        }
+        Ok(table)
     }
 
     /// An empty table with room for so many states. Fails only where a request for memory was refused.

@@ -1,6 +1,6 @@
 use Rattle.std.proofs.Common.{◌∙◌, sym, arith, true≢false, length}
 use Rattle.sedre.specs.Tree.{expression_tree}
-use Rattle.sedpass.proofs.ForwardLemmas.{forward_any_still, passes_later, passes_told}
+use Rattle.sedpass.proofs.ForwardLemmas.{forward_any_still, passes_later, passes_shown}
 use Rattle.sedpass.proofs.SearchLemmas.{match_cost, some_from}
 use Rattle.sedpass.proofs.find.is_match.Goals as goal
 
@@ -25,7 +25,7 @@ returns-in-Some c =
       shape = run.shape;
       matches = (λ h. from.0 (all.0 (sym is ∙ h)), λ some. is ∙ all.1 (from.1 some));
       passes = λ h. passes_later e w c.args.from c.in-Some.start c.args.steps.now c.next_start.new.steps c.run.new.steps next.next.0 next.cost.0 next.counts
-          (passes_told e w c.in-Some.start c.next_start.new.steps c.run.new.steps c.run.result.end c.is_some.result is run.passes h);
+          (passes_shown e w c.in-Some.start c.next_start.new.steps c.run.new.steps c.run.result.end c.is_some.result is run.passes h);
       cost = (
         omega (arith, next.cost.0, run.cost.0),
         match_cost (length c.args.subject.prepared.now.arena.expr.nodes) (length w) c.args.from c.in-Some.start c.run.result.place c.args.steps.now c.next_start.new.steps c.run.new.steps

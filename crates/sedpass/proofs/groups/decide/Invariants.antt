@@ -7,7 +7,7 @@ abbrev pub invariant-all : goal.invariant-all
 invariant-all l = record {
   keeps : KeepsGroupRoom l.subject l.initial.tables l.tables l.initial.room l.room;
   works : Works l.subject (Apart (record { node = l.subject.prepared.now.root; start = l.fn.start; stop = l.fn.stop }) ∷ []) (record { due = l.fn.due; spans = undecided l.fn.start l.fn.stop })
-      (reverse l.room.tasks.items) l.told 0 l.initial.steps l.steps;
+      (reverse l.room.tasks.items) l.decided 0 l.initial.steps l.steps;
 }
 
 abbrev pub decreases-all : goal.decreases-all

@@ -1,5 +1,5 @@
 use Rattle.std.proofs.Common.{rules, ◌-◌, ◌<◌, length, inl, inr, refl, arith}
-use Rattle.sedpass.proofs.Words.{both_ways, Star, At, least_less, least_none, least_both, least_up}
+use Rattle.sedpass.proofs.Words.{both_ways, Star, HasSpan, least_less, least_none, least_both, least_up}
 use Rattle.sedpass.specs.Decide.{nodes_in, subject_text}
 use Rattle.sedpass.proofs.DecideLemmas.{copy_fixed, copy_ceases, copy_pays, desk_forward_one, desk_same, desk_then, ends_still, owed_here, part_low}
 use Rattle.sedpass.proofs.MeetingLemmas.{copy_walk}
@@ -96,7 +96,7 @@ copies-preserved c =
       low = omega (arith, inv.low, next.after);
       within = next.within;
       rest = next.rest;
-      walk = λ k h. inv.walk k (inl (c.copies-test.true, copy_walk (At (nodes_in s) (subject_text s) c.args.a.index) c.copies.end here.stop cut.result k next h));
+      walk = λ k h. inv.walk k (inl (c.copies-test.true, copy_walk (HasSpan (nodes_in s) (subject_text s) c.args.a.index) c.copies.end here.stop cut.result k next h));
       cost = (
         omega (arith, inv.cost.0, cut.ensures.cost.0),
         omega (arith, inv.cost.1, copy_pays (length (nodes_in s)) c.copies.steps cut.new.steps _ _ c.copies.end cut.result here.stop next.after next.within cut.ensures.cost.1),

@@ -1,5 +1,5 @@
 use Rattle.std.proofs.Common.{◌≡◌, ◌⊎◌, ◌+◌, ◌-◌, ◌*◌, ◌<◌, ◌≤◌, ℕ, length}
-use Rattle.sedpass.proofs.Words.{LastCopy, TakesAtLeast, CostsWithin, At, CopiesLead}
+use Rattle.sedpass.proofs.Words.{LastCopy, TakesAtLeast, CostsWithin, HasSpan, CopiesLead}
 use Rattle.sedpass.specs.Kept.{owed_region}
 use Rattle.sedpass.specs.Decide.{EndsRegion, KeepsGroupDesk, nodes_in, subject_text}
 use Rattle.sedpass.proofs.groups.last_copy.Given as goal
@@ -10,9 +10,9 @@ invariant-copies l = record {
   ends : EndsRegion l.subject l.kept.region l.here;
   low : l.here.start ≤ l.end;
   within : l.end ≤ l.here.stop;
-  rest : CopiesLead (At (nodes_in l.subject) (subject_text l.subject) l.fn.a.index) l.here.stop l.end;
-  walk : (c : ℕ) → ((l.end < l.here.stop) × LastCopy (At (nodes_in l.subject) (subject_text l.subject) l.fn.a.index) l.here.stop l.end c) ⊎ ((l.end ≡ l.here.stop) × (c ≡ l.copy)) →
-      LastCopy (At (nodes_in l.subject) (subject_text l.subject) l.fn.a.index) l.here.stop l.here.start c;
+  rest : CopiesLead (HasSpan (nodes_in l.subject) (subject_text l.subject) l.fn.a.index) l.here.stop l.end;
+  walk : (c : ℕ) → ((l.end < l.here.stop) × LastCopy (HasSpan (nodes_in l.subject) (subject_text l.subject) l.fn.a.index) l.here.stop l.end c) ⊎ ((l.end ≡ l.here.stop) × (c ≡ l.copy)) →
+      LastCopy (HasSpan (nodes_in l.subject) (subject_text l.subject) l.fn.a.index) l.here.stop l.here.start c;
   cost : CostsWithin l.initial.steps l.steps (owed_region (length (nodes_in l.subject)) l.initial.kept.region l.here.start + 72 * length (nodes_in l.subject) * (l.here.stop - l.here.start))
       (owed_region (length (nodes_in l.subject)) l.kept.region l.end + 72 * length (nodes_in l.subject) * (l.here.stop - l.end));
   counts : TakesAtLeast l.initial.steps l.steps (l.end - l.here.start);

@@ -1,5 +1,5 @@
 use Rattle.std.proofs.Common.{Some, sym, subst, ◌∙◌}
-use Rattle.sedpass.specs.Decide.{told_of, Blank}
+use Rattle.sedpass.specs.Decide.{known_groups, NoneSettled}
 use Rattle.sedpass.proofs.TurnLemmas.{settle_blank}
 use Rattle.sedpass.proofs.DecideLemmas.{settled, still_whole, found_set, flags_at}
 use Rattle.sedpass.proofs.OneGroupLemmas.{settle-not}
@@ -7,12 +7,12 @@ use Rattle.sedpass.proofs.groups.settle_group.Goals as goal
 
 pub returns-then-has : goal.returns-then-has
 returns-then-has c =
-    let t = c.args.told.now in
-    let state = settled t.due c.one.result c.without-told.result c.args.k (Some c.args.span) t.spans c.requires.whole (sym c.has.ensures ∙ c.if-has.true) c.one.ensures c.without-told.ensures in
+    let t = c.args.decided.now in
+    let state = settled t.due c.one.result c.without-decided.result c.args.k (Some c.args.span) t.spans c.requires.whole (sym c.has.ensures ∙ c.if-has.true) c.one.ensures c.without-decided.ensures in
     record {
-      told = record {
-        blank = subst Blank (sym state) (settle_blank c.args.k (Some c.args.span) (told_of t.due t.spans) c.requires.blank);
-        whole = still_whole t.due c.one.result c.without-told.result c.requires.whole c.without-told.ensures;
+      decided = record {
+        blank = subst NoneSettled (sym state) (settle_blank c.args.k (Some c.args.span) (known_groups t.due t.spans) c.requires.blank);
+        whole = still_whole t.due c.one.result c.without-decided.result c.requires.whole c.without-decided.ensures;
       };
       state = state;
       few = found_set t.spans c.args.k (Some c.args.span);
@@ -20,4 +20,4 @@ returns-then-has c =
 
 pub returns-else-has-clause-state : goal.returns-else-has-clause-state
 returns-else-has-clause-state c =
-    sym (settle-not c.args.k (Some c.args.span) (told_of c.args.told.now.due c.args.told.now.spans) (flags_at c.args.told.now.due c.args.k ∙ sym c.has.ensures ∙ c.if-has.false))
+    sym (settle-not c.args.k (Some c.args.span) (known_groups c.args.decided.now.due c.args.decided.now.spans) (flags_at c.args.decided.now.due c.args.k ∙ sym c.has.ensures ∙ c.if-has.false))

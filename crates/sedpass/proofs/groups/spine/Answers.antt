@@ -26,19 +26,19 @@ nodes-init c =
       keeps = record { desk = record { region = c.begin.ensures.kept; one_end = desk.one_end; forward_one = desk.forward_one }; shape = tables_same c.args.tables.now; space = space_same c.begin.new.self };
       goes = (all_of c.args.here.node (sym c.begin.ensures.root), sym c.begin.ensures.end);
       room = omega arith;
-      works = works_none c.args.subject (Apart c.args.here ∷ reverse c.args.room.now.tasks.items) c.args.told.now c.args.steps.now c.requires.is_told c.requires.ready;
+      works = works_none c.args.subject (Apart c.args.here ∷ reverse c.args.room.now.tasks.items) c.args.decided.now c.args.steps.now c.requires.has_blank c.requires.ready;
     }
 
 pub turn-then-requires : goal.turn-then-requires
 turn-then-requires c =
     let inv = c.nodes.invariant in
     let ready = subst (λ at. AreReady (nodes_in c.args.subject) (subject_text c.args.subject) (waiting at c.nodes.room.tasks.items)) c.in-Some.is inv.works.ready in
-    record { arena = c.requires.arena; there = ready.0; ends = subst (GoesOn c.args.subject c.nodes.room.kept.region) c.in-Some.is inv.goes; desk = inv.keeps.desk; told = inv.works.told }
+    record { arena = c.requires.arena; there = ready.0; ends = subst (GoesOn c.args.subject c.nodes.room.kept.region) c.in-Some.is inv.goes; desk = inv.keeps.desk; decided = inv.works.decided }
 
 pub put-at-requires : goal.put-at-requires
 put-at-requires c =
     let stack = c.nodes.room.tasks.items in
-    let works = subst (λ at. Works c.args.subject (Apart c.args.here ∷ reverse c.args.room.now.tasks.items) c.args.told.now (waiting at stack) c.nodes.told (done at) c.args.steps.now c.nodes.steps)
+    let works = subst (λ at. Works c.args.subject (Apart c.args.here ∷ reverse c.args.room.now.tasks.items) c.args.decided.now (waiting at stack) c.nodes.decided (done at) c.args.steps.now c.nodes.steps)
     c.in-Some.is c.nodes.invariant.works in
     let same : length (reverse stack) ≡ length stack = simp length-reverse in
     omega (arith, works.less, same, no_more (nodes_in c.args.subject) (waiting (Some c.in-Some.next) stack), c.requires.enough, c.nodes.invariant.room, c.nodes.room.tasks.ok)
@@ -49,7 +49,7 @@ nodes-smaller c =
     let stack = c.nodes.room.tasks.items in
     let turn = c.turn-then in
     let ready = subst (λ at. AreReady (nodes_in s) (subject_text s) (waiting at stack)) c.in-Some.is c.nodes.invariant.works.ready in
-    let turned = works_turn s c.in-Some.next turn.result (reverse stack) c.nodes.told turn.new.told turn.new.kept.region c.nodes.steps turn.new.steps ready turn.ensures.turned turn.ensures.told turn.ensures.counts in
+    let turned = works_turn s c.in-Some.next turn.result (reverse stack) c.nodes.decided turn.new.decided turn.new.kept.region c.nodes.steps turn.new.steps ready turn.ensures.turned turn.ensures.decided turn.ensures.counts in
     omega (arith, turned.less, ap (weights (nodes_in s)) c.put-at.ensures.items, ap (λ at. weights (nodes_in s) (waiting at stack)) c.in-Some.is)
 
 pub nodes-preserved : goal.nodes-preserved
@@ -59,15 +59,15 @@ nodes-preserved c =
     let turn = c.turn-then in
     let put = c.put-at in
     let first = Apart c.args.here ∷ reverse c.args.room.now.tasks.items in
-    let works = subst (λ at. Works s first c.args.told.now (waiting at c.nodes.room.tasks.items) c.nodes.told (done at) c.args.steps.now c.nodes.steps) c.in-Some.is inv.works in
-    let turned = works_turn s c.in-Some.next turn.result (reverse c.nodes.room.tasks.items) c.nodes.told turn.new.told turn.new.kept.region c.nodes.steps turn.new.steps works.ready turn.ensures.turned turn.ensures.told
+    let works = subst (λ at. Works s first c.args.decided.now (waiting at c.nodes.room.tasks.items) c.nodes.decided (done at) c.args.steps.now c.nodes.steps) c.in-Some.is inv.works in
+    let turned = works_turn s c.in-Some.next turn.result (reverse c.nodes.room.tasks.items) c.nodes.decided turn.new.decided turn.new.kept.region c.nodes.steps turn.new.steps works.ready turn.ensures.turned turn.ensures.decided
     turn.ensures.counts in
     record {
       keeps = desk_then s c.args.tables.now c.nodes.tables turn.new.tables c.begin.new.self c.nodes.room.kept turn.new.kept inv.keeps turn.ensures.desk;
       goes = subst (GoesOn s turn.new.kept.region) (sym put.ensures.first) (turned_goes s c.in-Some.next turn.result _ _ turn.new.kept.region c.nodes.steps turn.new.steps turn.ensures.turned);
       room = omega (arith, inv.room, put.ensures.room);
-      works = subst (λ tasks. Works s first c.args.told.now tasks turn.new.told (done put.result) c.args.steps.now turn.new.steps) (sym put.ensures.items)
-          (works_then s first _ _ c.args.told.now c.nodes.told turn.new.told 0 1 (done put.result) c.args.steps.now c.nodes.steps turn.new.steps (done_once put.result) works turned);
+      works = subst (λ tasks. Works s first c.args.decided.now tasks turn.new.decided (done put.result) c.args.steps.now turn.new.steps) (sym put.ensures.items)
+          (works_then s first _ _ c.args.decided.now c.nodes.decided turn.new.decided 0 1 (done put.result) c.args.steps.now c.nodes.steps turn.new.steps (done_once put.result) works turned);
     }
 
 pub returns : goal.returns
@@ -81,5 +81,5 @@ returns c =
         space = space_then c.args.room.now.kept c.begin.new.self c.nodes.room.kept c.begin.ensures.space inv.keeps.space;
         tasks = inv.room;
       };
-      works = subst (λ at. Works c.args.subject (Apart c.args.here ∷ reverse c.args.room.now.tasks.items) c.args.told.now (waiting at c.nodes.room.tasks.items) c.nodes.told (done at) c.args.steps.now c.nodes.steps) c.in_default.is inv.works;
+      works = subst (λ at. Works c.args.subject (Apart c.args.here ∷ reverse c.args.room.now.tasks.items) c.args.decided.now (waiting at c.nodes.room.tasks.items) c.nodes.decided (done at) c.args.steps.now c.nodes.steps) c.in_default.is inv.works;
     }

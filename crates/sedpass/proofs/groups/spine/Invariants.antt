@@ -9,7 +9,7 @@ invariant-nodes l = record {
   keeps : KeepsGroupDesk l.subject l.initial.tables l.tables l.initial.room.kept l.room.kept;
   goes : GoesOn l.subject l.room.kept.region l.at;
   room : vec_capacity l.initial.room.tasks ≤ vec_capacity l.room.tasks;
-  works : Works l.subject (Apart l.fn.here ∷ reverse l.initial.room.tasks.items) l.initial.told (waiting l.at l.room.tasks.items) l.told (done l.at) l.initial.steps l.steps;
+  works : Works l.subject (Apart l.fn.here ∷ reverse l.initial.room.tasks.items) l.initial.decided (waiting l.at l.room.tasks.items) l.decided (done l.at) l.initial.steps l.steps;
 }
 
 abbrev pub decreases-nodes : goal.decreases-nodes

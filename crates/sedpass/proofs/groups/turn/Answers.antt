@@ -7,10 +7,10 @@ use Rattle.sedpass.proofs.groups.turn.Goals as goal
 
 pub returns-then-not-meets : goal.returns-then-not-meets
 returns-then-not-meets c =
-    let told = c.args.told.now in
-    let none = none_due (nodes_in c.args.subject) c.args.here.node c.facts_at.result told.due told.spans c.facts_at.ensures.facts c.requires.told.whole
+    let decided = c.args.decided.now in
+    let none = none_due (nodes_in c.args.subject) c.args.here.node c.facts_at.result decided.due decided.spans c.facts_at.ensures.facts c.requires.decided.whole
     (λ k has due. both_ways _ c.if-not-meets.true (c.meets.ensures.1 (k, has, due))) in
-    record { turned = inl (none, refl, refl, refl); desk = desk_same c.args.subject c.args.tables.now c.args.kept.now c.requires.desk; told = c.requires.told; counts = least_none c.args.steps.now _ (omega arith) }
+    record { turned = inl (none, refl, refl, refl); desk = desk_same c.args.subject c.args.tables.now c.args.kept.now c.requires.desk; decided = c.requires.decided; counts = least_none c.args.steps.now _ (omega arith) }
 
 pub returns : goal.returns
 returns c =
@@ -19,6 +19,6 @@ returns c =
     record {
       turned = inr (look.result, look.new.steps, look.ensures.node, look.ensures.counts, look.ensures.cost, turn.turned);
       desk = turn.desk;
-      told = turn.told;
-      counts = least_look c.args.steps.now look.new.steps c.turn_node.new.steps (spans_in c.args.told.now.spans) (spans_in c.turn_node.new.told.spans) look.ensures.counts turn.turned.cost.0 turn.few;
+      decided = turn.decided;
+      counts = least_look c.args.steps.now look.new.steps c.turn_node.new.steps (spans_in c.args.decided.now.spans) (spans_in c.turn_node.new.decided.spans) look.ensures.counts turn.turned.cost.0 turn.few;
     }

@@ -14,10 +14,10 @@ loop-x-init c = record {
   cost = omega arith;
   counts = least_none c.args.steps.now _ (omega arith);
   kept = refl;
-  ended = λ w s place nulls took n told.
-      let from = (c.low-low.ensures.range c.args.way.mirrored n).1 told.0 in
+  ended = λ w s place nulls took n shown.
+      let from = (c.low-low.ensures.range c.args.way.mirrored n).1 shown.0 in
       let low = from.0 in
-      let below = told.1 in
+      let below = shown.1 in
       absurd (omega arith);
 }
 

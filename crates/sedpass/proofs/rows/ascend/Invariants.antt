@@ -1,7 +1,7 @@
 use Rattle.std.proofs.Common.{◌≡◌, ℕ, ◌+◌, ◌-◌, ◌*◌, ◌≤◌, List}
-use Rattle.sedpass.proofs.Words.{TakesAtLeast, Marked, Ends, Starts}
+use Rattle.sedpass.proofs.Words.{TakesAtLeast, Marked, CanEnd, Starts}
 use Rattle.sedpass.specs.Prepared.{null_in}
-use Rattle.sedpass.specs.Rows.{nodes_of, AreNull, TellTook, TreeBelow}
+use Rattle.sedpass.specs.Rows.{nodes_of, AreNull, ShowTook, TreeBelow}
 use Rattle.sedpass.proofs.rows.ascend.Given as goal
 
 abbrev pub invariant-loop-x : goal.invariant-loop-x
@@ -12,6 +12,6 @@ invariant-loop-x l = record {
   counts : TakesAtLeast l.initial.steps l.steps (2 * (l.x - l.low));
   kept : l.work.leaves ≡ l.initial.work.leaves;
   ended : (w : List ℕ) (s : Starts) (place : ℕ) → AreNull (nodes_of l.way l.prepared.arena.expr) w place (null_in l.prepared.arena.expr.nodes l.kind) →
-      TellTook (nodes_of l.way l.prepared.arena.expr) w l.root s place l.byte l.initial.work.leaves →
-      Marked l.work.ended (TreeBelow (nodes_of l.way l.prepared.arena.expr) l.root l.x) (λ c. Ends (nodes_of l.way l.prepared.arena.expr) w l.root s c place);
+      ShowTook (nodes_of l.way l.prepared.arena.expr) w l.root s place l.byte l.initial.work.leaves →
+      Marked l.work.ended (TreeBelow (nodes_of l.way l.prepared.arena.expr) l.root l.x) (λ c. CanEnd (nodes_of l.way l.prepared.arena.expr) w l.root s c place);
 }

@@ -1,10 +1,10 @@
 use Rattle.std.proofs.Common.{◌≡◌, ◌+◌, ◌-◌, Bool, Some, refl, ◌∙◌, arith, ℕ, length, slice_get, slice_index_or, slice_set, false}
 use Rattle.sedre.specs.Steps.{TakesAtLeast, TakesExactly}
-use Rattle.sedpass.proofs.Words.{seen-arena, seen-length, enter_parts, Marked, Enters, Ends, least_none}
+use Rattle.sedpass.proofs.Words.{seen-arena, seen-length, enter_parts, Marked, Enters, CanEnd, least_none}
 use Rattle.sedpass.specs.Prepared.{null_in}
 use Rattle.sedpass.specs.Rows.{nodes_of, bits, InTree, TreeFrom, RowFrom}
 use Rattle.sedpass.proofs.FactLemmas.{inside_seen}
-use Rattle.sedpass.proofs.RowLemmas.{down, down_root, enters_few, tree_told, row_none, row_step, row_done, bits_clear, bits_set, bits_other}
+use Rattle.sedpass.proofs.RowLemmas.{down, down_root, enters_few, tree_shown, row_none, row_step, row_done, bits_clear, bits_set, bits_other}
 use Rattle.sedpass.proofs.rows.descend.Goals as goal
 
 pub loop-x-init : goal.loop-x-init
@@ -19,7 +19,7 @@ loop-x-init c =
       cost = omega arith;
       counts = least_none c.set.new.steps _ (omega arith);
       kept = refl;
-      told = λ w s place nulls ended begins. (
+      shown = λ w s place nulls ended begins. (
         down_root nodes w c.args.root place (c.args.root + 1) s c.args.first c.args.work.now.entered c.set.new.self arena (omega arith) (omega arith) c.set.ensures.marks begins,
         row_none nodes w c.args.root place s c.args.way.keeps (c.args.root + 1) (bits m c.clear.new.self) (bits m c.clear-2.new.self) arena (omega arith)
             (bits_clear m c.clear.new.self (λ n less. c.clear.ensures.clear n (omega arith))) (bits_clear m c.clear-2.new.self (λ n less. c.clear-2.ensures.clear n (omega arith))),
@@ -52,15 +52,15 @@ loop-x-preserved c =
       cost = omega arith;
       counts = omega arith;
       kept = c.enter.ensures.others.0 ∙ c.loop-x.invariant.kept;
-      told = λ w s place nulls ends begins.
+      shown = λ w s place nulls ends begins.
           let old : Marked c.loop-x.work.entered (TreeFrom nodes r (x + 1)) (λ n. Enters nodes w r s n place) × RowFrom nodes w r s c.args.way.keeps place (x + 1) (bits m c.loop-x.work.leaves) (bits m c.loop-x.work.ends) =
-          rw (← above) (c.loop-x.invariant.told w s place nulls ends begins) in
-          let told : Marked c.loop-x.work.ended (InTree nodes r) (λ n. Ends nodes w r s n place) = rw c.loop-x.invariant.kept ends in
+          rw (← above) (c.loop-x.invariant.shown w s place nulls ends begins) in
+          let shown : Marked c.loop-x.work.ended (InTree nodes r) (λ n. CanEnd nodes w r s n place) = rw c.loop-x.invariant.kept ends in
           let none = nulls x (inside_seen c.args.way.mirrored e x (omega arith)) in (
-            down nodes w r x place s arena (inside_seen c.args.way.mirrored e r c.requires.root) there null ended nulls told c.loop-x.work.entered (omega (arith, seen-length c.args.way.mirrored e)) old.0 node c.enter.new.work.entered is value,
+            down nodes w r x place s arena (inside_seen c.args.way.mirrored e r c.requires.root) there null ended nulls shown c.loop-x.work.entered (omega (arith, seen-length c.args.way.mirrored e)) old.0 node c.enter.new.work.entered is value,
             row_step nodes w r place s c.args.way.keeps x node c.get-here.result c.get-end.result c.null_at-null.result
                 (bits m c.loop-x.work.leaves) (bits m c.loop-x.work.ends) (bits m c.set-in-loop-x.new.self) (bits m c.set-in-loop-x-2.new.self) is
-                (rw here (old.0 x (tree_told nodes arena r x there))) (rw c.get-end.ensures.mark (told x there)) (rw c.null_at-null.ensures.null none)
+                (rw here (old.0 x (tree_shown nodes arena r x there))) (rw c.get-end.ensures.mark (shown x there)) (rw c.null_at-null.ensures.null none)
                 (bits_set m c.enter.new.work.leaves c.set-in-loop-x.new.self x c.leaf_bit-leaf.result (omega arith) (omega arith) c.set-in-loop-x.ensures.marks ∙ c.leaf_bit-leaf.ensures)
                 (bits_set m c.enter.new.work.ends c.set-in-loop-x-2.new.self x c.end_bit-kept.result (omega arith) (omega arith) c.set-in-loop-x-2.ensures.marks ∙ c.end_bit-kept.ensures)
                 (λ n ne. (
@@ -76,7 +76,7 @@ returns-clause-row c w s place nulls ended begins =
     let m = length e.nodes in
     row_done (nodes_of c.args.way e) w c.args.root place s c.args.way.keeps c.loop-x.x (bits m c.loop-x.work.leaves) (bits m c.loop-x.work.ends)
     (λ n there. let from = ((c.low-low.ensures.range c.args.way.mirrored n).1 there).0 in omega arith)
-    (c.loop-x.invariant.told w s place nulls ended begins).1
+    (c.loop-x.invariant.shown w s place nulls ended begins).1
 
 pub returns-clause-counts : goal.returns-clause-counts
 unfolding TakesAtLeast TakesExactly

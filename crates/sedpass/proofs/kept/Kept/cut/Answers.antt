@@ -1,8 +1,8 @@
 use Rattle.std.proofs.Common.{◌≡◌, ◌-◌, ◌*◌, ◌<◌, ◌≤◌, ◌↔◌, ◌∙◌, ⊎_elim, refl, sym, ap, subst, true≢false, IsTrue, arith, length}
 use Rattle.sedpass.proofs.Words.{cases_lt, TakesAtLeast, one_start, least_none, least_both, least_since}
-use Rattle.sedpass.specs.Kept.{KeepsRegion, Meet, ends_told, owed_region}
+use Rattle.sedpass.specs.Kept.{KeepsRegion, Meet, ends_shown, owed_region}
 use Rattle.sedpass.specs.Regions.{MeetsAt}
-use Rattle.sedpass.proofs.KeptLemmas.{keeps_same, keeps_then, same_shape, told_as, follows_first, meet_end}
+use Rattle.sedpass.proofs.KeptLemmas.{keeps_same, keeps_then, same_shape, shown_as, follows_first, meet_end}
 use Rattle.sedpass.proofs.OwedLemmas.{owed_falls, cut_on, cut_at}
 use Rattle.sedpass.proofs.TableLemmas.{names_some, names_offset, names_state}
 use Rattle.sedpass.proofs.kept.Kept.cut.Goals.{After-meet-reached}
@@ -21,7 +21,7 @@ meets c q after under =
     let before = c.loop-place.invariant in
     let w = c.args.subject.text.now in
     ⊎_elim (λ (lt : q < c.loop-place.place). before.meets q after lt)
-    (λ (ge : c.loop-place.place ≤ q). told_as (λ r t. MeetsAt c.args.subject.prepared.now.arena.expr.nodes w r t c.args.a (one_start c.args.from) q) _ w c.args.table.now c.ready-to.new.table c.args.self.now c.ready-to.new.self (keeps c)
+    (λ (ge : c.loop-place.place ≤ q). shown_as (λ r t. MeetsAt c.args.subject.prepared.now.arena.expr.nodes w r t c.args.a (one_start c.args.from) q) _ w c.args.table.now c.ready-to.new.table c.args.self.now c.ready-to.new.self (keeps c)
     ((c.meet-reached.ensures.meets c.args.a c.args.from (low c) before.above before.follows).1 q ge under))
     (cases_lt q c.loop-place.place)
 
@@ -122,7 +122,7 @@ returns-then-place-to c =
       ceases = (
         (let h = before.above in let g = meet.after in omega (arith, h, g)),
         meets here,
-        told_as (λ r t. MeetsAt c.args.subject.prepared.now.arena.expr.nodes w r t c.args.a (one_start c.args.from) reached → ⊥) _ w c.args.table.now c.ready-to.new.table c.args.self.now c.ready-to.new.self still
+        shown_as (λ r t. MeetsAt c.args.subject.prepared.now.arena.expr.nodes w r t c.args.a (one_start c.args.from) reached → ⊥) _ w c.args.table.now c.ready-to.new.table c.args.self.now c.ready-to.new.self still
             ((meet.meets c.args.a c.args.from (low here) before.above before.follows).2 under),
       );
       cost = (
@@ -150,7 +150,7 @@ returns c =
       ceases = (
         last.above,
         last.meets,
-        subst (λ y. MeetsAt p.arena.expr.nodes w c.args.self.now.region.root (ends_told c.args.table.now.way.all_starts (length w) c.args.self.now.region.end) c.args.a (one_start c.args.from) y → ⊥) at end,
+        subst (λ y. MeetsAt p.arena.expr.nodes w c.args.self.now.region.root (ends_shown c.args.table.now.way.all_starts (length w) c.args.self.now.region.end) c.args.a (one_start c.args.from) y → ⊥) at end,
       );
       cost = ((let h = last.cost.0 in let g = first.cost.0 in omega (arith, h, g)), (let h = last.cost.1 in let g = first.cost.1 in omega (arith, h, g)));
       counts = least_both _ c.first-code.new.steps _ 1 _ _ first.counts last.counts (omega arith);

@@ -69,9 +69,9 @@ returns-then-not-meets c =
       within = omega (arith, there.1);
       meets = λ a i low start follows.
           let on = old.meets a i low start follows in
-          let tells = meet_read p w t c.loop-place.forward_one k a i place c.loop-place.offset c.nodes-nodes.result c.state_at.result c.index.result.now c.meets.result c.requires.kept there.0 there.1 on.0
+          let shows = meet_read p w t c.loop-place.forward_one k a i place c.loop-place.offset c.nodes-nodes.result c.state_at.result c.index.result.now c.meets.result c.requires.kept there.0 there.1 on.0
           c.nodes-nodes.ensures.value c.state_at.ensures there.2 c.meets.ensures.meets in
-          (on.0, on.1, λ under met. true≢false (sym (tells.1 met) ∙ c.if-not-meets.true));
+          (on.0, on.1, λ under met. true≢false (sym (shows.1 met) ∙ c.if-not-meets.true));
       cost = cost;
       whole = λ all. absurd (omega (arith, all, there.1));
       counts = least_up _ c.loop-place.steps _ _ old.counts looked.0;
@@ -116,12 +116,12 @@ loop-place-preserved c =
       offset = names_offset p c.next-code.new.self next.codes.table _ _ _ next.codes.names c.offset_of-offset.ensures;
       meets = λ a i low start follows.
           let on = old.meets a i low start follows in
-          let tells = meet_read p w t c.loop-place.forward_one k a i place c.loop-place.offset c.nodes-nodes.result c.state_at.result c.index.result.now c.meets.result c.requires.kept there.0 there.1 on.0
+          let shows = meet_read p w t c.loop-place.forward_one k a i place c.loop-place.offset c.nodes-nodes.result c.state_at.result c.index.result.now c.meets.result c.requires.kept there.0 there.1 on.0
           c.nodes-nodes.ensures.value c.state_at.ensures there.2 c.meets.ensures.meets in (
             follows_next p w c.loop-place.forward_one c.next-code.new.self a i place c.byte-byte.result c.loop-place.offset c.offset_of-offset.result _ front one next.codes.adds.shape (let h = old.above in omega (arith, h, start)) c.byte-byte.ensures.byte
                 (λ h. eqb-true (place + 1) c.len-length.result h ∙ last, λ e. eq-eqb (place + 1) c.len-length.result (e ∙ sym last))
                 (names_state p c.next-code.new.self next.codes.table _ _ _ next.codes.names c.offset_of-offset.ensures) on.0,
-            meet_on p w t k a i c.args.from place on.1 (tells.0 c.if-not-meets.false),
+            meet_on p w t k a i c.args.from place on.1 (shows.0 c.if-not-meets.false),
           );
       cost = ((let h = old.cost.0 in let g = c.meets.ensures.cost.0 in let f = c.byte-byte.ensures.cost.0 in let e = next.cost.0 in omega (arith, h, g, f, e)), place_cost m c.args.from place c.loop-place.steps c.args.steps.now c.meets.new.steps c.byte-byte.new.steps c.next-code.new.steps some old.cost.1 (let h = c.meets.ensures.cost.1 in omega (arith, h, count)) c.byte-byte.ensures.cost.1 next.cost.1);
       counts = least_both _ c.loop-place.steps _ _ 2 _ old.counts

@@ -1,7 +1,7 @@
 use Rattle.std.proofs.Common.{◌≡◌, ◌-◌, refl, subst, ◌↔◌, IsTrue, arith, length, not}
 use Rattle.sedpass.proofs.Words.{TakesAtLeast, least_none, least_both, least_since}
-use Rattle.sedpass.specs.Kept.{AllMarked, KeepsRegion, ends_told, owed_region}
-use Rattle.sedpass.proofs.KeptLemmas.{keeps_same, keeps_then, marked_then, told_as}
+use Rattle.sedpass.specs.Kept.{AllMarked, KeepsRegion, ends_shown, owed_region}
+use Rattle.sedpass.proofs.KeptLemmas.{keeps_same, keeps_then, marked_then, shown_as}
 use Rattle.sedpass.specs.Regions.{ReachesEnd}
 use Rattle.sedpass.proofs.OwedLemmas.{owed_falls, seek_at, seek_on}
 use Rattle.sedpass.proofs.kept.Kept.seek.Goals.{After-seek_in-found}
@@ -13,13 +13,13 @@ keeps c = keeps_then _ _ c.args.table.now c.loop-place.table c.ready-to.new.tabl
 
 -- and no place is marked as asked up to the one found
 passed : (c : After-seek_in-found) → AllMarked c.args.subject.prepared.now.arena.expr.nodes c.args.subject.text.now c.args.self.now.region.root
-    (ends_told c.args.table.now.way.all_starts (length c.args.subject.text.now) c.args.self.now.region.end) c.args.x (not c.args.marked) c.args.from c.seek_in-found.result
+    (ends_shown c.args.table.now.way.all_starts (length c.args.subject.text.now) c.args.self.now.region.end) c.args.x (not c.args.marked) c.args.from c.seek_in-found.result
 passed c =
     let nodes = c.args.subject.prepared.now.arena.expr.nodes in
     let w = c.args.subject.text.now in
-    marked_then nodes w c.args.self.now.region.root c.args.x (ends_told c.args.table.now.way.all_starts (length w) c.args.self.now.region.end) (not c.args.marked) c.args.from c.loop-place.place c.seek_in-found.result
+    marked_then nodes w c.args.self.now.region.root c.args.x (ends_shown c.args.table.now.way.all_starts (length w) c.args.self.now.region.end) (not c.args.marked) c.args.from c.loop-place.place c.seek_in-found.result
     c.loop-place.invariant.passed
-    (told_as (λ r t. AllMarked nodes w r t c.args.x (not c.args.marked) c.loop-place.place c.seek_in-found.result) _ w c.args.table.now c.ready-to.new.table c.args.self.now c.ready-to.new.self (keeps c) c.seek_in-found.ensures.passed)
+    (shown_as (λ r t. AllMarked nodes w r t c.args.x (not c.args.marked) c.loop-place.place c.seek_in-found.result) _ w c.args.table.now c.ready-to.new.table c.args.self.now c.ready-to.new.self (keeps c) c.seek_in-found.ensures.passed)
 
 counts : (c : After-seek_in-found) → TakesAtLeast c.args.steps.now c.seek_in-found.new.steps (c.seek_in-found.result - c.args.from)
 counts c =
@@ -53,7 +53,7 @@ loop-place-preserved c =
       above = (let h = before.above in omega (arith, h, up));
       below = (let h = ready.keeps.kept.region.within in omega (arith, h, is));
       keeps = keeps here;
-      passed = subst (λ y. AllMarked nodes w c.args.self.now.region.root (ends_told c.args.table.now.way.all_starts (length w) c.args.self.now.region.end) c.args.x (not c.args.marked) c.args.from y) at (passed here);
+      passed = subst (λ y. AllMarked nodes w c.args.self.now.region.root (ends_shown c.args.table.now.way.all_starts (length w) c.args.self.now.region.end) c.args.x (not c.args.marked) c.args.from y) at (passed here);
       cost = (
         (let h = before.cost.0 in let g = ready.cost.0 in let f = seek.cost.0 in omega (arith, h, g, f)),
         seek_on (owed_region m c.args.self.now.region c.args.from) (owed_region m c.loop-place.self.region c.loop-place.place) (owed_region m c.ready-to.new.self.region c.loop-place.place)
@@ -78,7 +78,7 @@ returns-then-found-to c =
       after = omega (arith, before.above, seek.after);
       within = omega (arith, seek.within, ready.keeps.kept.region.within, kept.same.end);
       passed = passed here;
-      found = λ below. told_as (λ r t. IsTrue c.args.marked ↔ ReachesEnd c.args.subject.prepared.now.arena.expr.nodes w r t c.args.x found) _ w c.args.table.now c.ready-to.new.table c.args.self.now c.ready-to.new.self
+      found = λ below. shown_as (λ r t. IsTrue c.args.marked ↔ ReachesEnd c.args.subject.prepared.now.arena.expr.nodes w r t c.args.x found) _ w c.args.table.now c.ready-to.new.table c.args.self.now c.ready-to.new.self
           kept (seek.found (let h = c.if-found-to.true in omega (arith, h, ready.to.0)));
       cost = (
         (let h = before.cost.0 in let g = ready.cost.0 in let f = seek.cost.0 in omega (arith, h, g, f)),

@@ -1,5 +1,5 @@
 use Rattle.std.proofs.Common.{◌↔◌, IsTrue, arith, length, not}
-use Rattle.sedpass.specs.Kept.{ends_told}
+use Rattle.sedpass.specs.Kept.{ends_shown}
 use Rattle.sedpass.specs.Regions.{ReachesEnd}
 use Rattle.sedpass.proofs.KeptLemmas.{as_asked, kept_mark, kept_row, marked_on, not_asked}
 use Rattle.sedtext.proofs.CountLemmas.{least_none, least_both, least_counted, least_up}
@@ -25,7 +25,7 @@ returns-then-get-marked-clause-found c before =
     let w = c.args.subject.text.now in
     let t = c.args.table.now in
     let k = c.args.self.now in
-    as_asked (ReachesEnd p.arena.expr.nodes w k.region.root (ends_told t.way.all_starts (length w) k.region.end) c.args.x c.loop-place.place) c.get.result c.args.marked c.if-get-marked.true
+    as_asked (ReachesEnd p.arena.expr.nodes w k.region.root (ends_shown t.way.all_starts (length w) k.region.end) c.args.x c.loop-place.place) c.get.result c.args.marked c.if-get-marked.true
     (kept_mark p w t k c.args.x c.loop-place.place c.index.result.now c.get.result c.requires.kept c.requires.x (omega (arith, c.loop-place.invariant.above, c.requires.from)) before c.index.ensures c.get.ensures.mark)
 
 pub returns-then-get-marked-clause-counts : goal.returns-then-get-marked-clause-counts
@@ -40,13 +40,13 @@ loop-place-preserved c =
     let old = c.loop-place.invariant in
     let above = old.above in
     let before = c.loop-place-test.true in
-    let here : IsTrue (not c.args.marked) ↔ ReachesEnd p.arena.expr.nodes w k.region.root (ends_told t.way.all_starts (length w) k.region.end) c.args.x c.loop-place.place =
-    not_asked (ReachesEnd p.arena.expr.nodes w k.region.root (ends_told t.way.all_starts (length w) k.region.end) c.args.x c.loop-place.place) c.get.result c.args.marked c.if-get-marked.false
+    let here : IsTrue (not c.args.marked) ↔ ReachesEnd p.arena.expr.nodes w k.region.root (ends_shown t.way.all_starts (length w) k.region.end) c.args.x c.loop-place.place =
+    not_asked (ReachesEnd p.arena.expr.nodes w k.region.root (ends_shown t.way.all_starts (length w) k.region.end) c.args.x c.loop-place.place) c.get.result c.args.marked c.if-get-marked.false
     (kept_mark p w t k c.args.x c.loop-place.place c.index.result.now c.get.result c.requires.kept c.requires.x (omega (arith, above, c.requires.from)) before c.index.ensures c.get.ensures.mark) in
     record {
       above = omega (arith, above);
       below = omega (arith, before);
-      passed = marked_on p.arena.expr.nodes w k.region.root c.args.x (ends_told t.way.all_starts (length w) k.region.end) (not c.args.marked) c.args.from c.loop-place.place old.passed here;
+      passed = marked_on p.arena.expr.nodes w k.region.root c.args.x (ends_shown t.way.all_starts (length w) k.region.end) (not c.args.marked) c.args.from c.loop-place.place old.passed here;
       cost = ((let h = old.cost.0 in let g = c.get.ensures.cost.0 in omega (arith, h, g)), (let h = old.cost.1 in let g = c.get.ensures.cost.1 in omega (arith, h, g)));
       counts = least_both _ _ _ _ 1 _ old.counts (least_counted _ _ 1 1 c.get.ensures.counts (omega arith)) (omega (arith, above));
     }

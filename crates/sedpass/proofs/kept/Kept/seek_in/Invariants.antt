@@ -1,6 +1,6 @@
 use Rattle.std.proofs.Common.{◌-◌, ◌≤◌, length, not}
 use Rattle.sedpass.proofs.Words.{TakesAtLeast, CostsWithin}
-use Rattle.sedpass.specs.Kept.{AllMarked, ends_told}
+use Rattle.sedpass.specs.Kept.{AllMarked, ends_shown}
 use Rattle.sedpass.proofs.kept.Kept.seek_in.Given as goal
 
 abbrev pub invariant-loop-place : goal.invariant-loop-place
@@ -8,7 +8,7 @@ invariant-loop-place l = record {
   above : l.from ≤ l.place;
   below : l.place ≤ l.self.region.to;
   passed : AllMarked l.subject.prepared.now.arena.expr.nodes l.subject.text.now l.self.region.root
-      (ends_told l.table.way.all_starts (length l.subject.text.now) l.self.region.end) l.x (not l.marked) l.from l.place;
+      (ends_shown l.table.way.all_starts (length l.subject.text.now) l.self.region.end) l.x (not l.marked) l.from l.place;
   cost : CostsWithin l.initial.steps l.steps l.place l.from;
   counts : TakesAtLeast l.initial.steps l.steps (l.place - l.from);
 }

@@ -1,5 +1,5 @@
 use Rattle.std.proofs.Common.{◌≡◌, ◌<◌, ◌↔◌, refl, sym, ap, ◌∙◌, subst, IsTrue, arith, false}
-use Rattle.sedpass.proofs.Words.{At, one_start, least_counted, least_since}
+use Rattle.sedpass.proofs.Words.{HasSpan, one_start, least_counted, least_since}
 use Rattle.sedpass.specs.Regions.{IsLastIn}
 use Rattle.sedpass.proofs.LeaveLemmas.{last_inside}
 use Rattle.sedpass.proofs.KeptLemmas.{keeps_same, kept_row, mark_spans}
@@ -15,7 +15,7 @@ returns-then-place-self c =
     let null = c.is_null.ensures in
     record {
       keeps = keeps_same c.args.subject.prepared.now c.args.subject.text.now c.args.table.now c.args.self.now c.args.self.now refl refl refl c.requires.kept;
-      spans = subst (λ e. IsTrue c.is_null.result ↔ At c.args.subject.prepared.now.arena.expr.nodes c.args.subject.text.now c.args.x c.args.place e) c.if-place-self.true null.null;
+      spans = subst (λ e. IsTrue c.is_null.result ↔ HasSpan c.args.subject.prepared.now.arena.expr.nodes c.args.subject.text.now c.args.x c.args.place e) c.if-place-self.true null.null;
       cost = (null.cost.0, (let look = null.cost.1 in omega (arith, look)));
       counts = least_counted _ _ 1 1 null.counts (omega arith);
     }
@@ -39,7 +39,7 @@ returns c =
     let last : IsLastIn p.arena.expr.nodes k.region.root c.args.x = subst (λ r. IsLastIn p.arena.expr.nodes r c.args.x) (sym ready.keeps.same.root) c.requires.last in
     record {
       keeps = ready.keeps;
-      spans = subst (λ e. IsTrue c.get.result ↔ At p.arena.expr.nodes w c.args.x c.args.place e) ready.keeps.same.end
+      spans = subst (λ e. IsTrue c.get.result ↔ HasSpan p.arena.expr.nodes w c.args.x c.args.place e) ready.keeps.same.end
           (mark_spans p w t k c.args.x c.args.place c.index.result.now c.get.result ready.keeps.kept one last ready.from before c.index.ensures c.get.ensures.mark);
       cost = ((let one = ready.cost.0 in let two = c.get.ensures.cost.0 in omega (arith, one, two)), (let one = ready.cost.1 in let two = c.get.ensures.cost.1 in omega (arith, one, two)));
       counts = least_since _ c.ready.new.steps _ _ ready.cost.0 (least_counted _ _ 1 1 c.get.ensures.counts (omega arith));

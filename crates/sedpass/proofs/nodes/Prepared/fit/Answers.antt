@@ -1,5 +1,5 @@
 use Rattle.std.proofs.Common.{arith}
-use Rattle.sedpass.proofs.FactLemmas.{told_anywhere}
+use Rattle.sedpass.proofs.FactLemmas.{shown_anywhere}
 use Rattle.sedpass.proofs.nodes.Prepared.fit.Goals as goal
 
 pub invariant_of-self : goal.invariant_of-self
@@ -14,6 +14,6 @@ invariant_of-self c =
         all = all;
         facts = c.fill.ensures.facts;
         classes = c.classes_of-self.ensures e.nodes c.sets.ensures;
-        anywhere = λ none. told_anywhere e.nodes c.fill.new.facts.items all c.fill.ensures.facts (c.has_anchor-self.ensures none);
+        anywhere = λ none. shown_anywhere e.nodes c.fill.new.facts.items all c.fill.ensures.facts (c.has_anchor-self.ensures none);
       });
     }

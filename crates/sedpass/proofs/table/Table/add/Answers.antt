@@ -113,12 +113,12 @@ returns c =
     let dead : IsTrue c.is_clear.result ↔ ((k : ℕ) → k < m → slice_index_or L k false ≡ false) =
     subst (λ n. IsTrue c.is_clear.result ↔ ((k : ℕ) → k < n → slice_index_or L k false ≡ false)) nodes c.is_clear.ensures.clear in
     let law = bits_dead m L in
-    let told : FlagsShow (state c.args.root (bits m L) (bits m E) flags) = (c.get.ensures.mark ∙ sym (bits_here m E c.args.root c.requires.root), (λ h. law.0 (dead.0 h), λ h. dead.1 (law.1 h))) in
+    let shown : FlagsShow (state c.args.root (bits m L) (bits m E) flags) = (c.get.ensures.mark ∙ sym (bits_here m E c.args.root c.requires.root), (λ h. law.0 (dead.0 h), λ h. dead.1 (law.1 h))) in
     record {
       codes = record {
         table = one_more c.args.prepared.now T N adds refl t room refl refl before clear
             (subst (λ (a : PassState). a.root < m) (sym added) c.requires.root)
-            (subst (λ (a : PassState). FlagsShow a) (sym added) told);
+            (subst (λ (a : PassState). FlagsShow a) (sym added) shown);
         adds = adds;
         names = record {
           to = T.count;

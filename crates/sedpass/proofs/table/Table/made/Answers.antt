@@ -7,6 +7,7 @@ use Rattle.sedpass.proofs.table.Table.made.Goals as goal
 pub returns : goal.returns
 returns c =
     let layout = c.args.layout in
+    let given = c.if-requests.false in
     let T : Table = record {
       way = c.args.way;
       room = c.args.room;
@@ -15,30 +16,34 @@ returns c =
       layout = layout;
       count = 0;
       epoch = 1;
-      leaves = c.in_ok-new.field-0;
-      ends = c.in_ok-new-2.field-0;
-      roots = c.in_ok-vec.field-0;
-      flags = c.in_ok-vec-2.field-0;
-      cells = c.in_ok-with_capacity.field-0;
-      index = c.in_ok-vec-3.field-0;
-      beginnings = c.in_ok-vec-4.field-0;
+      leaves = c.in_ok-leaves.leaves;
+      ends = c.in_ok-ends.ends;
+      roots = c.copies.result;
+      flags = c.copies-2.result;
+      cells = c.room.result;
+      index = c.copies-3.result;
+      beginnings = c.copies-4.result;
     } in
+    let before-4 = c.copies-4.ensures.refused given in
+    let before-3 = c.copies-3.ensures.refused before-4 in
+    let before-room = c.room.ensures.refused before-3 in
+    let before-2 = c.copies-2.ensures.refused before-room in
     let shifted = shl_whole c.args.room 16 layout.shift 64 (omega (arith, c.requires.few)) (omega (arith, c.requires.layout)) in
-    let index : 2 ≤ length T.index.items = omega (arith, c.in_ok-vec-3.ensures.len, T.index.ok) in
-    let begins : length T.beginnings.items ≡ c.count_beginnings.result = omega (arith, c.in_ok-vec-4.ensures.len, T.beginnings.ok) in
-    let noted = none_noted T.beginnings.items c.count_beginnings.result (c.in_ok-vec-4.ensures.items_if_clones_equal (λ y h. h)) in
-    let has = has_parts T c.count_beginnings.result refl
+    let index : 2 ≤ length T.index.items = omega (arith, c.copies-3.ensures.long before-4, T.index.ok) in
+    let begins : length T.beginnings.items ≡ c.count_beginnings-kinds.result = omega (arith, c.copies-4.ensures.long given, T.beginnings.ok) in
+    let noted = none_noted T.beginnings.items c.count_beginnings-kinds.result (c.copies-4.ensures.items given (λ y h. h)) in
+    let has = has_parts T c.count_beginnings-kinds.result refl
     (record {
       some = c.requires.some;
       few = c.requires.few;
-      leaves = c.in_ok-new.ensures.count;
-      ends = c.in_ok-new-2.ensures.count;
-      leaf_marks = c.in_ok-new.ensures.marks;
-      end_marks = c.in_ok-new-2.ensures.marks;
-      roots = omega (arith, c.in_ok-vec.ensures.len, T.roots.ok);
-      flags = omega (arith, c.in_ok-vec-2.ensures.len, T.flags.ok);
+      leaves = c.in_ok-leaves.ensures.count;
+      ends = c.in_ok-ends.ensures.count;
+      leaf_marks = c.in_ok-leaves.ensures.marks;
+      end_marks = c.in_ok-ends.ensures.marks;
+      roots = omega (arith, c.copies.ensures.long before-2, T.roots.ok);
+      flags = omega (arith, c.copies-2.ensures.long before-room, T.flags.ok);
     })
-    shifted c.in_ok-with_capacity.ensures.capacity index begins c.count_beginnings.ensures.begins noted in
+    shifted (c.room.ensures.room before-3) index begins c.count_beginnings-kinds.ensures.begins noted in
     record {
       way = refl;
       room = refl;
