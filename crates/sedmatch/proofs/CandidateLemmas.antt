@@ -8,7 +8,7 @@ use Rattle.sedre.specs.Tree.{Tree}
 use Rattle.sedtext.specs.Spans.{Matches}
 use Rattle.sedtext.specs.Bytes.{AreBytes, FirstFrom}
 use Rattle.sedtext.specs.Beginnings.{AllBegin}
-use Rattle.sedtext.specs.Sieve.{NoneBefore, PassesSieve, StandsAt}
+use Rattle.sedtext.specs.Sieve.{NoneBefore, PassesSieve, FixedAt}
 use Rattle.sedtext.specs.declared.beginnings.Begins.TheVariants.{Before}
 use Rattle.sedtext.specs.Required.{FirstLiteral, IsRequired}
 use Rattle.sedtext.specs.declared.required.RequiredLiteral.{RequiredLiteral}
@@ -55,7 +55,7 @@ module _ (before line behind : List ℕ) where
   comes_there (Among few) i (c, is, comes) = (c, byte_there i c is, comes)
   comes_there (Member set) i (c, is, comes) = (c, byte_there i c is, comes)
 
-  stands_there : (f : Fixed) (i : ℕ) → StandsAt f line i → StandsAt f whole (length before + i)
+  stands_there : (f : Fixed) (i : ℕ) → FixedAt f line i → FixedAt f whole (length before + i)
   stands_there f i (c, is, has) = (c, subst (λ k. slice_get whole k ≡ Some c) (omega arith) (byte_there (i + f.offset) c is), has)
 
   passes_there : (s : Sieve) (i : ℕ) → PassesSieve s line i → PassesSieve s whole (length before + i)
@@ -75,21 +75,21 @@ required_before e n w r required first = λ before line behind is ends found.
 
 -- what holds in each part of a text where a match of the part begins
 module _ (e : Tree) (w : List ℕ) (r : Option ℕ) (bytes : AreBytes w) where
-  told_before : (P : List ℕ → ℕ → Type 0) → ((before line behind : List ℕ) (i : ℕ) → P line i → P (before ++ (line ++ behind)) (length before + i)) →
+  shown_before : (P : List ℕ → ℕ → Type 0) → ((before line behind : List ℕ) (i : ℕ) → P line i → P (before ++ (line ++ behind)) (length before + i)) →
       ((v : List ℕ) → AreBytes v → (i j : ℕ) → i ≤ length v → Matches e v i j → P v i) → FirstFrom (P w) 0 r → NoMatchBefore e w r
-  told_before P there all first = λ before line behind is ends found.
+  shown_before P there all first = λ before line behind is ends found.
       let here = all line (bytes_here before line behind (subst AreBytes is bytes)) found.0 found.1 found.3 found.4 in
       let at : P w (length before + found.0) = subst (λ (w : List ℕ). P w (length before + found.0)) (sym is) (there before line behind found.0 here) in
       first_after (P w) r (length before + found.0) (length before + length line) first at (omega (arith, found.3)) ends
 
   pub stretch_before : (s : Stretch) → SpannedAs e (StretchForm s) → FirstFrom (ComesFirst s.first w) 0 r → NoMatchBefore e w r
-  stretch_before s form first = told_before (ComesFirst s.first) (λ before line behind. comes_there before line behind s.first) (λ v within i j low at. ((form v within i j low).0 at).0) first
+  stretch_before s form first = shown_before (ComesFirst s.first) (λ before line behind. comes_there before line behind s.first) (λ v within i j low at. ((form v within i j low).0 at).0) first
 
   pub anchored_before : (s : Stretch) (ends : Anchoring) → SpannedAs e (Anchored s ends) → FirstFrom (ComesFirst s.first w) 0 r → NoMatchBefore e w r
-  anchored_before s ends form first = told_before (ComesFirst s.first) (λ before line behind. comes_there before line behind s.first) (λ v within i j low at. ((form v within i j low).0 at).0) first
+  anchored_before s ends form first = shown_before (ComesFirst s.first) (λ before line behind. comes_there before line behind s.first) (λ v within i j low at. ((form v within i j low).0 at).0) first
 
   pub literal_before : (literal : List ℕ) → SpannedAs e (Literal literal) → FirstLiteral w literal 0 r → NoMatchBefore e w r
-  literal_before literal form first = told_before (λ v. OccursAt v literal) (λ before line behind. occurs_there before line behind literal) (λ v within i j low at. ((form v within i j low).0 at).0) first
+  literal_before literal form first = shown_before (λ v. OccursAt v literal) (λ before line behind. occurs_there before line behind literal) (λ v within i j low at. ((form v within i j low).0 at).0) first
 
 -- bytes of the three sets of a sieve
 pub sieve_before : (e : Tree) (s : Sieve) (w : List ℕ) (r : Option ℕ) → AllBegin e (Before s) → NoneBefore (PassesSieve s w) 0 r → NoMatchBefore e w r

@@ -9,8 +9,8 @@ use Rattle.sedtext.specs.Bytes.{AreBytes}
 use Rattle.sedtext.specs.Costs.{CostsWithin}
 use Rattle.sedtext.specs.Following.{CanEndEarly, LooksPast}
 use Rattle.sedtext.specs.Required.{IsLiteral, GoesOnAs, FirstLiteral}
-use Rattle.sedtext.specs.Reach.{At}
-use Rattle.sedtext.specs.Runs.{Repeated}
+use Rattle.sedtext.specs.Reach.{HasSpan}
+use Rattle.sedtext.specs.Runs.{SetRepeats}
 use Rattle.sedtext.specs.Spans.{SomeFound}
 use Rattle.sedtext.specs.FixedRuns.{FirstFixedRun}
 use Rattle.sedtext.specs.declared.required.Literal.{Literal as Bytes}
@@ -31,7 +31,7 @@ none_of (Some t) missing = absurd (true≢false missing)
 
 pub all_literal : (nodes : List Node) (x last : ℕ) (l : Bytes) (literal : List ℕ) → last ≡ x → literal ≡ l.bytes.items → IsLiteral nodes x l → l.rest ≡ None → AllLiteral nodes last literal
 all_literal nodes x last l literal whole same is none w i j within =
-    subst (λ v. At nodes w last i j ↔ LiteralSpans v w i j) (sym same) (subst (λ v. At nodes w v i j ↔ LiteralSpans l.bytes.items w i j) (sym whole) (
+    subst (λ v. HasSpan nodes w last i j ↔ LiteralSpans v w i j) (sym same) (subst (λ v. HasSpan nodes w v i j ↔ LiteralSpans l.bytes.items w i j) (sym whole) (
       (λ at. let h = (is w i j within).0 at in (h.0, sym (subst (GoesOnAs nodes w (i + length l.bytes.items) j) none h.1))),
       (λ h. (is w i j within).1 (h.0, subst (GoesOnAs nodes w (i + length l.bytes.items) j) (sym none) (sym h.1))),
     ))
@@ -39,7 +39,7 @@ all_literal nodes x last l literal whole same is none w i j within =
 -- where one of the longest begins and ends
 pub span_times : (members : List Bool) (count : ℕ) (w : List ℕ) (p i j : ℕ) → FirstFixedRun members count w p (Some i) → j ≡ i + count → FirstSpan (FixedRun members count) w p (Some (i, j))
 span_times members count w p i j here is =
-    (here.0, (subst (Repeated members w i) (sym is) here.2, is), omega (arith, is, here.1), (λ k h. omega (arith, h.1, is)), λ h k low lt s. here.3 h low lt (subst (Repeated members w h) s.1 s.0))
+    (here.0, (subst (SetRepeats members w i) (sym is) here.2, is), omega (arith, is, here.1), (λ k h. omega (arith, h.1, is)), λ h k low lt s. here.3 h low lt (subst (SetRepeats members w h) s.1 s.0))
 
 pub span_literal : (literal w : List ℕ) (p i j : ℕ) → FirstLiteral w literal p (Some i) → j ≡ i + length literal → FirstSpan (Literal literal) w p (Some (i, j))
 span_literal literal w p i j here is =

@@ -13,7 +13,7 @@ use Rattle.sedtext.specs.Matching.{leftmost_longest, unless_null_at}
 use Rattle.sedpass.proofs.OccurrenceLemmas.{answer_found, passed_by, search_falls}
 use Rattle.sedmatch.specs.Direct.{IsDirect}
 use Rattle.sedmatch.specs.Stretches.{end_or}
-use Rattle.sedmatch.specs.Occurrences.{Serves, ServesOn, owed, owed_after, owed_direct, owed_direct_after}
+use Rattle.sedmatch.specs.Occurrences.{ServesFrom, ServesOn, owed, owed_after, owed_direct, owed_direct_after}
 use Rattle.sedmatch.specs.Passes.{ArePasses, IsEngine, searched_expression}
 use Rattle.sedmatch.specs.declared.direct.DirectForm.{DirectForm}
 use Rattle.sedmatch.specs.declared.occurrences.Occurrences.{Occurrences}
@@ -147,7 +147,7 @@ direct_once m n None r s t some pays = (pays.0, (let h = pays.1 in let k = one_c
 direct_once m n (Some q) r s t some pays = (pays.0, (let h = pays.1 in let k = one_call m n some in omega (arith, h, k)))
 
 -- what is kept serves on, where it was not looked at
-pub serves_same : (e : WrittenExpression) (w : List ℕ) (last : Option ℕ) (o : Occurrences) (r : Option (ℕ × ℕ)) → Serves e w last o → ServesOn e w r o o
+pub serves_same : (e : WrittenExpression) (w : List ℕ) (last : Option ℕ) (o : Occurrences) (r : Option (ℕ × ℕ)) → ServesFrom e w last o → ServesOn e w r o o
 serves_same e w last o None serves = ((refl, λ text es sought room. room), tt)
 serves_same e w last o (Some f) serves = ((refl, λ text es sought room. room), record { room = serves.room; fresh = λ h. cc; used = serves.used })
 

@@ -10,7 +10,7 @@ use Rattle.std.proofs.lemmas.Option.{get_or_from_slice_get, slice_get-get_or, sl
 use Rattle.sedre.specs.Tree.{WrittenExpression, expression_tree, Tree}
 use Rattle.sedtext.specs.Costs.{CostsWithin}
 use Rattle.sedre.specs.Steps.{TakesAtLeast}
-use Rattle.sedtext.specs.Following.{LiesOn, Occurs, bytes_passed, next_span}
+use Rattle.sedtext.specs.Following.{LiesOn, OccursAfter, bytes_passed, next_span}
 use Rattle.sedtext.specs.Matching.{leftmost_longest}
 use Rattle.sedtext.specs.Words.{row_of}
 use Rattle.sedpass.specs.Kept.{KeptRoom, SameSpace}
@@ -26,7 +26,7 @@ use Rattle.sedpass.proofs.TableLemmas.{roomy_fewer, roomy_still}
 use Rattle.sedmatch.proofs.PassLemmas.{blocks_enough, few_looks, kept_room}
 use Rattle.sedmatch.specs.declared.occurrences.Occurrences.{Occurrences}
 use Rattle.sedmatch.specs.Passes.{IsRoomyWay, reverse_any_way}
-use Rattle.sedmatch.specs.Occurrences.{HasTable, HaveOwn, IsReverseAny, IsReady, RoomAt, RoomFor, Serves, ServesIn, ServesOn, TellsNext, owed, owed_after, owed_search}
+use Rattle.sedmatch.specs.Occurrences.{HasTable, HaveOwn, IsReverseAny, IsReady, RoomAt, RoomFor, ServesFrom, ServesIn, ServesOn, AnswersNext, owed, owed_after, owed_search}
 use Rattle.sedtext.proofs.CountLemmas.{least_less, least_since}
 
 -- Lists.
@@ -262,7 +262,7 @@ serves_on e w old mid new r first next = (
   serves r,
 )
   where
-    serves : (r : Option (ℕ × ℕ)) → IfSome r (λ f. Serves e w (Some f.1) new)
+    serves : (r : Option (ℕ × ℕ)) → IfSome r (λ f. ServesFrom e w (Some f.1) new)
     serves None = tt
     serves (Some f) = record { room = next.room; fresh = λ h. cc; used = λ h. next.table }
 
@@ -326,7 +326,7 @@ lies_first n (Some f) lies = (lies.1, lies.2, tt)
 
 -- What is looked at at least, where an occurrence is sought after the last one.
 
-looks_at_occurrence : (e : Tree) (w : List ℕ) (last : Option ℕ) (s t : ℕ) (r : Option (ℕ × ℕ)) → IfSome r (Occurs e w last) → IfSome r (λ f. TakesAtLeast s t (f.1 - unwrap_or last 0)) →
+looks_at_occurrence : (e : Tree) (w : List ℕ) (last : Option ℕ) (s t : ℕ) (r : Option (ℕ × ℕ)) → IfSome r (OccursAfter e w last) → IfSome r (λ f. TakesAtLeast s t (f.1 - unwrap_or last 0)) →
     IfSome r (λ f. TakesAtLeast s t (f.1 - f.0))
 looks_at_occurrence e w last s t None occurs looks = tt
 looks_at_occurrence e w None s t (Some f) occurs looks = least_less s t (f.1 - 0) (f.1 - f.0) looks (omega arith)
@@ -342,12 +342,12 @@ looks_since passed s t u None grows looks = tt
 looks_since passed s t u (Some f) grows looks = least_since s t u (passed f) grows looks
 
 -- what a search by passes answers
-pub tells : (e : WrittenExpression) (w : List ℕ) (last : Option ℕ) (old mid new : Occurrences) (r : Option (ℕ × ℕ)) (s t : ℕ) → 1 ≤ length e.nodes → Serves e w last old → IsReady e w old mid → IsReady e w mid new →
+pub shows : (e : WrittenExpression) (w : List ℕ) (last : Option ℕ) (old mid new : Occurrences) (r : Option (ℕ × ℕ)) (s t : ℕ) → 1 ≤ length e.nodes → ServesFrom e w last old → IsReady e w old mid → IsReady e w mid new →
     (old.is_fresh ≡ false → mid ≡ old) → (IsTrue old.is_fresh → owed_behind (length e.nodes) (length w) mid.seeking 0 + 43 * length e.nodes ≤ 308 * length e.nodes * (length w + 1)) → new.is_fresh ≡ false →
-    r ≡ next_span (leftmost_longest (expression_tree e) w) (length w) last → IfSome r (Occurs (expression_tree e) w last) →
+    r ≡ next_span (leftmost_longest (expression_tree e) w) (length w) last → IfSome r (OccursAfter (expression_tree e) w last) →
     CostsWithin s t (owed_search (length e.nodes) (length w) last mid.seeking) (owed_after_search (owed_behind (length e.nodes) (length w) new.seeking) r) →
-    SearchTakes (length e.nodes) (length w) (unwrap_or last 0) s t r → TellsNext e w last old new s t r
-tells e w last old mid new r s t some serves ready searched same owed used next occurs cost looks = record {
+    SearchTakes (length e.nodes) (length w) (unwrap_or last 0) s t r → AnswersNext e w last old new s t r
+shows e w last old mid new r s t some serves ready searched same owed used next occurs cost looks = record {
   next = next;
   occurs = occurs;
   serves = serves_on e w old mid new r ready searched;

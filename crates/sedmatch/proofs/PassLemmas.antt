@@ -29,7 +29,7 @@ use Rattle.sedpass.specs.declared.table.Table.{Table}
 use Rattle.sedpass.proofs.DecideLemmas.{has_desk, space_again}
 use Rattle.sedpass.proofs.TableLemmas.{roomy_fewer, roomy_still}
 use Rattle.sedpass.proofs.OneGroupLemmas.{enters_nothing}
-use Rattle.sedmatch.specs.Passes.{AreOwn, IsDesk, IsRoomyWay, KeepsDesk, TellsGroups, TellsMatch, forward_any_way, reverse_any_way}
+use Rattle.sedmatch.specs.Passes.{AreOwn, IsDesk, IsRoomyWay, KeepsDesk, AnswersGroups, AnswersMatch, forward_any_way, reverse_any_way}
 use Rattle.sedmatch.specs.declared.passes.OwnTables.{OwnTables}
 use Rattle.sedmatch.specs.declared.scratch.Desk.{Desk}
 use Rattle.sedpass.proofs.ForwardLemmas.{passes_later}
@@ -40,27 +40,27 @@ pub few_looks : (m n : ℕ) → 1 ≤ m → 3 * n ≤ 3 * m * (n + 1)
 few_looks m n some = let h = mul-le-mul_left (n + 1) some in omega (arith, h)
 
 -- where none begins before a place, one begins from there on if one does from an earlier place on
-pub told_past : (e : WrittenExpression) (w : List ℕ) (from start s t u : ℕ) (told : Bool) → 1 ≤ length e.nodes → Narrowed (expression_tree e) w from (Some start) → CostsWithin s t (length w) from →
-    TakesAtLeast s t (start - from) → (IsTrue told ↔ SomeFound (expression_tree e) w start) → (IsTrue told → LooksPast (expression_tree e) w start t u) → Takes t u (43 * length e.nodes * (length w + 1)) →
-    TellsMatch e w from s u told
-told_past e w from start s t u told some is looks counts tells over cost =
+pub shown_past : (e : WrittenExpression) (w : List ℕ) (from start s t u : ℕ) (answered : Bool) → 1 ≤ length e.nodes → Narrowed (expression_tree e) w from (Some start) → CostsWithin s t (length w) from →
+    TakesAtLeast s t (start - from) → (IsTrue answered ↔ SomeFound (expression_tree e) w start) → (IsTrue answered → LooksPast (expression_tree e) w start t u) → Takes t u (43 * length e.nodes * (length w + 1)) →
+    AnswersMatch e w from s u answered
+shown_past e w from start s t u answered some is looks counts shows over cost =
     let few = few_looks (length e.nodes) (length w) some in
     record {
-      matches = (
-        (λ b. let f = tells.0 b in (f.0, f.1, (let after = f.2 in let past = is.0 in omega (arith, after, past)), f.3, f.4)),
-        λ f. tells.1 (f.0, f.1, ⊎_elim (λ (before : f.0 < start). absurd (is.2 f.0 f.1 f.2 before f.4)) (λ (after : start ≤ f.0). after) (cases_lt f.0 start), f.3, f.4),
+      exact = (
+        (λ b. let f = shows.0 b in (f.0, f.1, (let after = f.2 in let past = is.0 in omega (arith, after, past)), f.3, f.4)),
+        λ f. shows.1 (f.0, f.1, ⊎_elim (λ (before : f.0 < start). absurd (is.2 f.0 f.1 f.2 before f.4)) (λ (after : start ≤ f.0). after) (cases_lt f.0 start), f.3, f.4),
       );
       passes = λ h. passes_later (expression_tree e) w from start s t u is.0 looks.0 counts (over h);
       cost = ((let a = looks.0 in let b = cost.0 in omega (arith, a, b)), (let a = looks.1 in let b = cost.1 in omega (arith, a, b, few)));
     }
 
 -- an anchored match is sought at the start alone
-pub anchored_told : (e : Tree) (w : List ℕ) (from : ℕ) (r : Option ℕ) (told : Bool) → from ≡ 0 → AllBegin e AtStart → IsLongestFrom e w 0 r → told ≡ is_some r → IsTrue told ↔ SomeFound e w from
-anchored_told e w from None told zero begins longest is = (
+pub anchored_shown : (e : Tree) (w : List ℕ) (from : ℕ) (r : Option ℕ) (answered : Bool) → from ≡ 0 → AllBegin e AtStart → IsLongestFrom e w 0 r → answered ≡ is_some r → IsTrue answered ↔ SomeFound e w from
+anchored_shown e w from None answered zero begins longest is = (
   (λ h. absurd (true≢false (sym h ∙ is))),
   (λ f. absurd (longest f.1 (subst (λ i. Matches e w i f.1) (begins w f.0 f.1 f.4) f.4))),
 )
-anchored_told e w from (Some j) told zero begins longest is = ((λ h. (0, j, omega (arith, zero), omega arith, longest.0)), (λ f. is))
+anchored_shown e w from (Some j) answered zero begins longest is = ((λ h. (0, j, omega (arith, zero), omega arith, longest.0)), (λ f. is))
 
 -- one entry alone takes no step
 one_alone : (s n : ℕ) → n ≡ 1 → TakesAtLeast s s (n - 1)
@@ -68,8 +68,8 @@ unfolding TakesAtLeast
 one_alone s n one = omega (arith, one)
 
 -- what an expression without groups reports; no node is entered for it
-pub whole_told : (e : WrittenExpression) (w : List ℕ) (span : ℕ × ℕ) (s : ℕ) → IsExpr e.nodes e.groups → e.groups ≡ 0 → Matches (expression_tree e) w span.0 span.1 → TellsGroups e w span s s (slice_set no_groups 0 (Some span))
-whole_told e w span s expr none spans =
+pub whole_shown : (e : WrittenExpression) (w : List ℕ) (span : ℕ × ℕ) (s : ℕ) → IsExpr e.nodes e.groups → e.groups ≡ 0 → Matches (expression_tree e) w span.0 span.1 → AnswersGroups e w span s s (slice_set no_groups 0 (Some span))
+whole_shown e w span s expr none spans =
     let some = expr.arena.nonempty in
     let bare = no_groups_at e.nodes e.groups expr none (length e.nodes - 1) (omega (arith, some)) in
     record {

@@ -2,7 +2,7 @@
 use Rattle.std.proofs.Common.{◌≡◌, ℕ, ◌↔◌, List, Option, Some, None, sym, subst, ◌∙◌}
 use Rattle.sedre.specs.declared.types.Node.{Node}
 use Rattle.sedtext.specs.Forms.{HasForm}
-use Rattle.sedtext.specs.Reach.{At}
+use Rattle.sedtext.specs.Reach.{HasSpan}
 use Rattle.sedtext.specs.declared.forms.Form.TheVariants.{Start, End, Both}
 use Rattle.sedmatch.specs.Shapes.{IsStem, StemLeads}
 use Rattle.sedmatch.specs.Stretches.{IsAnchored}
@@ -25,7 +25,7 @@ module _ (nodes : List Node) (x y z : ℕ) (both : HasForm nodes x (Both y z)) (
     (λ at.
         let f = (both.2 w i j).0 at in
         let b = (starts w i f.0).0 f.1 in
-        let s = (is w i j).0 (subst (λ k. At nodes w z k j) (b.1 ∙ sym b.0) f.2) in
+        let s = (is w i j).0 (subst (λ k. HasSpan nodes w z k j) (b.1 ∙ sym b.0) f.2) in
         (s.0, (stands w i j).1 (b.0, s.1))),
     (λ s.
         let b = (stands w i j).0 s.1 in

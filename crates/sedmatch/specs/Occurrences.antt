@@ -4,7 +4,7 @@ use Rattle.std.specs.Prelude.{◌≡◌, ℕ, ◌+◌, ◌-◌, ◌*◌, ◌≤�
 use Rattle.sedre.specs.Steps.{Takes, TakesAtLeast}
 use Rattle.sedre.specs.Tree.{WrittenExpression, expression_tree}
 use Rattle.sedtext.specs.Costs.{CostsWithin}
-use Rattle.sedtext.specs.Following.{CanEndEarly, Occurs, bytes_passed, next_span}
+use Rattle.sedtext.specs.Following.{CanEndEarly, OccursAfter, bytes_passed, next_span}
 use Rattle.sedtext.specs.Matching.{leftmost_longest}
 use Rattle.sedpass.specs.Kept.{KeptRoom}
 use Rattle.sedpass.specs.Search.{SearchServes, owed_behind}
@@ -63,14 +63,14 @@ pub record IsReady (e : WrittenExpression) (w : List ℕ) (old new : Occurrences
   pub table : HasTable e w new
 
 -- what is kept serves to search the text after an occurrence that ended at the place, if there is one
-pub record Serves (e : WrittenExpression) (w : List ℕ) (last : Option ℕ) (o : Occurrences) : Type 0 where
+pub record ServesFrom (e : WrittenExpression) (w : List ℕ) (last : Option ℕ) (o : Occurrences) : Type 0 where
   pub room : RoomAt (length w) o.number e o
   pub fresh : last ≡ None → IsTrue o.is_fresh
   pub used : o.is_fresh ≡ false → HasTable e w o
 
 -- there is as much room as before, and what is kept serves to search after the occurrence found, if there is one
 abbrev pub ServesOn : WrittenExpression → List ℕ → Option (ℕ × ℕ) → Occurrences → Occurrences → Type 0
-ServesOn e w r old new = KeepsRoom e old new × IfSome r (λ f. Serves e w (Some f.1) new)
+ServesOn e w r old new = KeepsRoom e old new × IfSome r (λ f. ServesFrom e w (Some f.1) new)
 
 -- The steps that searches by passes may still take, with m nodes in a text of n bytes, after an occurrence that ended at the place.
 abbrev pub owed_search : ℕ → ℕ → Option ℕ → Seeking → ℕ
@@ -100,9 +100,9 @@ owed_after m n None o = 0
 owed_after m n (Some f) o = owed m n (Some f.1) o
 
 -- what one call answers: the next occurrence after the last one; what is kept serves on, and pays for the steps
-pub record TellsNext (e : WrittenExpression) (w : List ℕ) (last : Option ℕ) (old new : Occurrences) (before after : ℕ) (r : Option (ℕ × ℕ)) : Type 0 where
+pub record AnswersNext (e : WrittenExpression) (w : List ℕ) (last : Option ℕ) (old new : Occurrences) (before after : ℕ) (r : Option (ℕ × ℕ)) : Type 0 where
   pub next : r ≡ next_span (leftmost_longest (expression_tree e) w) (length w) last
-  pub occurs : IfSome r (Occurs (expression_tree e) w last)
+  pub occurs : IfSome r (OccursAfter (expression_tree e) w last)
   pub serves : ServesOn e w r old new
   pub cost : CostsWithin before after (owed (length e.nodes) (length w) last old) (owed_after (length e.nodes) (length w) r new)
   pub once : Takes before after (64 * length e.nodes * length e.nodes * (length w + 1) * (length w + 1))

@@ -6,7 +6,7 @@ use Rattle.sedre.specs.Steps.{Takes, TakesAtLeast}
 use Rattle.sedtext.specs.Beginnings.{AllBegin}
 use Rattle.sedtext.specs.Caps.{IsReport}
 use Rattle.sedtext.specs.Following.{LooksPast}
-use Rattle.sedtext.specs.Groups.{Groups}
+use Rattle.sedtext.specs.Groups.{SpansOfGroups}
 use Rattle.sedtext.specs.Required.{IsRequired}
 use Rattle.sedtext.specs.Spans.{SomeFound}
 use Rattle.sedpass.specs.Decide.{AreGroupTables, AreRoomy, HasSpace, spans_in}
@@ -83,13 +83,13 @@ Prepares m p = (m ≤ p.arena.room) × (m ≤ vec_capacity p.facts)
 -- What one call shows of an expression in a text, in how many steps.
 
 -- whether a match begins at the place or later
-pub record TellsMatch (e : WrittenExpression) (w : List ℕ) (from before after : ℕ) (told : Bool) : Type 0 where
-  pub matches : IsTrue told ↔ SomeFound (expression_tree e) w from
-  pub passes : IsTrue told → LooksPast (expression_tree e) w from before after
+pub record AnswersMatch (e : WrittenExpression) (w : List ℕ) (from before after : ℕ) (answered : Bool) : Type 0 where
+  pub exact : IsTrue answered ↔ SomeFound (expression_tree e) w from
+  pub passes : IsTrue answered → LooksPast (expression_tree e) w from before after
   pub cost : Takes before after (64 * length e.nodes * (length w + 1))
 
 -- the groups of a match that begins and ends at these places
-pub record TellsGroups (e : WrittenExpression) (w : List ℕ) (span : ℕ × ℕ) (before after : ℕ) (groups : Groups) : Type 0 where
+pub record AnswersGroups (e : WrittenExpression) (w : List ℕ) (span : ℕ × ℕ) (before after : ℕ) (groups : SpansOfGroups) : Type 0 where
   pub report : IsReport (expression_tree e) w span.0 span.1 groups
   pub none_cost : e.groups ≡ 0 → after ≡ before
   pub cost : Takes before after (172 * length e.nodes * (length e.nodes - 1) * (span.1 - span.0) + 2 * length e.nodes)

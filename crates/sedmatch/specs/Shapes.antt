@@ -3,8 +3,8 @@
 use Rattle.std.specs.Prelude.{◌≡◌, ℕ, ◌+◌, ◌≤◌, ◌↔◌, Bool, List, length, Option, Some, None}
 use Rattle.sedre.specs.declared.types.Node.{Node}
 use Rattle.sedtext.specs.Bytes.{MemberAt, AreBytes}
-use Rattle.sedtext.specs.Reach.{At}
-use Rattle.sedtext.specs.Runs.{Repeated}
+use Rattle.sedtext.specs.Reach.{HasSpan}
+use Rattle.sedtext.specs.Runs.{SetRepeats}
 use Rattle.sedmatch.specs.Stretches.{ComesFirst, Follow, IsAnchored, width}
 use Rattle.sedmatch.specs.declared.shapes.Stem.{Stem}
 use Rattle.sedmatch.specs.declared.stretches.First.{First}
@@ -21,11 +21,11 @@ StemLeads stem w i j = (k : ℕ) × ByteLeads stem.first w i k × Follow stem.re
 
 -- the spans of the node x are runs of the set that end with the text
 abbrev pub IsLastRun : List Node → ℕ → List Bool → Type 0
-IsLastRun nodes x members = (w : List ℕ) (i j : ℕ) → At nodes w x i j ↔ (Repeated members w i j × (j ≡ length w))
+IsLastRun nodes x members = (w : List ℕ) (i j : ℕ) → HasSpan nodes w x i j ↔ (SetRepeats members w i j × (j ≡ length w))
 
 -- the spans of the node x are those of the stem that is anchored so
 abbrev pub IsStem : List Node → ℕ → Stem → Option Anchoring → Type 0
-IsStem nodes x stem anchoring = (w : List ℕ) (i j : ℕ) → At nodes w x i j ↔ (StemLeads stem w i j × IsAnchored anchoring w i j)
+IsStem nodes x stem anchoring = (w : List ℕ) (i j : ℕ) → HasSpan nodes w x i j ↔ (StemLeads stem w i j × IsAnchored anchoring w i j)
 
 -- in a text of bytes, what comes first is a byte of the set, if there is one
 abbrev pub IsFirst : Option (List Bool) → First → Type 0

@@ -3,7 +3,7 @@
 use Rattle.std.specs.Prelude.{◌≡◌, ℕ, ◌+◌, ◌-◌, ◌<◌, ◌≤◌, ◌⊎◌, Bool, List, length, Option, Some, None}
 use Rattle.sedtext.specs.Bytes.{MemberAt}
 use Rattle.sedtext.specs.Few.{FewAt}
-use Rattle.sedtext.specs.Runs.{Repeated}
+use Rattle.sedtext.specs.Runs.{SetRepeats}
 use Rattle.sedmatch.specs.declared.stretches.First.{First}
 use Rattle.sedmatch.specs.declared.stretches.First.TheVariants.{Nothing, Among, Member}
 use Rattle.sedmatch.specs.declared.stretches.Anchoring.{Anchoring}
@@ -24,7 +24,7 @@ width other = 1
 -- the bytes from i up to j are such as follow
 abbrev pub Follow : Option (List Bool) → List ℕ → ℕ → ℕ → Type 0
 Follow None w i j = j ≡ i
-Follow (Some members) w i j = Repeated members w i j
+Follow (Some members) w i j = SetRepeats members w i j
 
 -- a span from i to j is where it is anchored, if it is
 abbrev pub IsAnchored : Option Anchoring → List ℕ → ℕ → ℕ → Type 0

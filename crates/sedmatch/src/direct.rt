@@ -15,7 +15,7 @@ ghost use Rattle.sedtext.specs.Costs.{CostsWithin};
 ghost use Rattle.sedtext.specs.Following.{CanEndEarly};
 ghost use Rattle.sedmatch.specs.Candidates.{NoMatchBefore};
 ghost use Rattle.sedmatch.specs.Direct.{AllLiteral, FirstSpan, IsDirect, SpannedAs, bytes_looked_at};
-ghost use Rattle.sedmatch.specs.Passes.{TellsMatch};
+ghost use Rattle.sedmatch.specs.Passes.{AnswersMatch};
 ghost use Rattle.sedmatch.specs.Stretches.{end_or};
 ghost use Rattle.sedmatch.specs.declared.direct.DirectForm.TheVariants.{FixedRun, Literal as LiteralForm};
 
@@ -170,7 +170,7 @@ pub fn direct_span(form: &DirectForm, text: &Text, from: usize, steps: &mut Step
 /// Whether any match begins at `from` or later.
 pub fn direct_matches(form: &DirectForm, text: &Text, from: usize, steps: &mut Steps) -> bool
     requires from { from ≤ length text.now }
-    ensures { (e : WrittenExpression) → IsDirect e form.now → TellsMatch e text.now from steps.old steps.new result }
+    ensures { (e : WrittenExpression) → IsDirect e form.now → AnswersMatch e text.now from steps.old steps.new result }
 {
     direct_span(form, text, from, steps).is_some()
 }

@@ -3,12 +3,12 @@ ghost use Rattle.std.specs.Prelude.{◌≡◌, ℕ, List, false, ◌+◌, ◌-�
 ghost use Rattle.std.specs.Option.{unwrap_or};
 ghost use Rattle.sedre.specs.Tree.{WrittenExpression, expression_tree};
 ghost use Rattle.sedtext.specs.Costs.{CostsWithin};
-ghost use Rattle.sedtext.specs.Following.{EndsWithin, Occurs, next_span};
+ghost use Rattle.sedtext.specs.Following.{EndsWithin, OccursAfter, next_span};
 ghost use Rattle.sedtext.specs.Matching.{leftmost_longest};
 ghost use Rattle.sedpass.specs.Search.{MaySearch, Searched, owed_after_search, SearchTakes, owed_behind};
 ghost use Rattle.sedpass.specs.Table.{IsForwardOne, SameShape};
 ghost use Rattle.sedpass.specs.declared.table.Table.{Table};
-ghost use Rattle.sedmatch.specs.Occurrences.{HasTable, HaveOwn, IsReverseAny, IsReady, RoomAt, RoomFor, Serves, TellsNext, owed_search};
+ghost use Rattle.sedmatch.specs.Occurrences.{HasTable, HaveOwn, IsReverseAny, IsReady, RoomAt, RoomFor, ServesFrom, AnswersNext, owed_search};
 ghost use Rattle.sedmatch.specs.Passes.{IsSought};
 
 use crate::Span;
@@ -72,7 +72,7 @@ fn own_tables(alloc: Global, matchers: &[TableMatcher]) -> Result<Vec<Option<Tab
     let count = matchers.len().min(MOST_OWN);
     let mut own = Vec::with_capacity(alloc, count)?;
     for x in 0..count {
-        own.push(own_table(alloc, &matchers[x])?)?;
+        own.push_reserved(own_table(alloc, &matchers[x])?);
     }
     Ok(own)
 }
@@ -122,7 +122,8 @@ impl Occurrences {
             return Err(AllocError);
         };
         let Ok(own) = own_tables(alloc, matchers) else {
-            drop((kept, shared));
+            drop(kept);
+            drop(shared);
             return Err(AllocError);
         };
         Ok(Occurrences {
@@ -148,7 +149,7 @@ impl Occurrences {
     pub fn begin(&mut self, number: usize)
         ensures room { (text : ℕ) (es : List WrittenExpression) → RoomFor text es self.old → RoomFor text es self.new }
         ensures serves { (w : List ℕ) (es : List WrittenExpression) (e : WrittenExpression) → slice_get es number ≡ Some e → RoomFor (length w) es self.old →
-            Serves e w None self.new }
+            ServesFrom e w None self.new }
         ensures number { self.new.number ≡ number }
     {
         self.number = number;
@@ -199,7 +200,7 @@ fn next_with(
     requires ready { MaySearch sought.now.prepared text.now sought.now.begins forward_one.old reverse_any.old seeking.old }
     ensures searched { Searched sought.now.prepared text.now forward_one.old forward_one.new reverse_any.old reverse_any.new seeking.old seeking.new }
     ensures next { result ≡ next_span (leftmost_longest (expression_tree sought.now.prepared.arena.expr) text.now) (length text.now) last }
-    ensures occurs { IfSome result (Occurs (expression_tree sought.now.prepared.arena.expr) text.now last) }
+    ensures occurs { IfSome result (OccursAfter (expression_tree sought.now.prepared.arena.expr) text.now last) }
     ensures cost { let m = length sought.now.prepared.arena.expr.nodes in let n = length text.now in
         CostsWithin steps.old steps.new (owed_search m n last seeking.old) (owed_after_search (owed_behind m n seeking.new) result) }
     ensures looks { SearchTakes (length sought.now.prepared.arena.expr.nodes) (length text.now) (unwrap_or last 0) steps.old steps.new result }
@@ -243,10 +244,10 @@ pub fn next_by(
     requires sought { IsSought sought.now.prepared.arena.expr sought.now }
     requires forward_one { IsForwardOne sought.now.prepared forward_one.old }
     requires last { EndsWithin (length text.now) last }
-    requires serves { Serves sought.now.prepared.arena.expr text.now last occurrences.old }
+    requires serves { ServesFrom sought.now.prepared.arena.expr text.now last occurrences.old }
     ensures forward_one { IsForwardOne sought.now.prepared forward_one.new }
     ensures forward_one_shape { SameShape forward_one.old forward_one.new }
-    ensures told { TellsNext sought.now.prepared.arena.expr text.now last occurrences.old occurrences.new steps.old steps.new result }
+    ensures answered { AnswersNext sought.now.prepared.arena.expr text.now last occurrences.old occurrences.new steps.old steps.new result }
 {
     occurrences.make_ready(&sought.prepared, text);
     let seeking = &mut occurrences.seeking;

@@ -11,7 +11,7 @@ ghost use Rattle.sedtext.specs.Spans.{SomeFound, Matches};
 ghost use Rattle.sedpass.specs.Decide.{HasDesk, SameTables};
 ghost use Rattle.sedpass.specs.Kept.{SameSpace};
 ghost use Rattle.sedmatch.specs.Candidates.{NoMatchBefore};
-ghost use Rattle.sedmatch.specs.Passes.{AreOwn, ArePasses, IsDesk, KeepsDesk, KeepsPasses, TellsGroups, TellsMatch};
+ghost use Rattle.sedmatch.specs.Passes.{AreOwn, ArePasses, IsDesk, KeepsDesk, KeepsPasses, AnswersGroups, AnswersMatch};
 
 use crate::Span;
 use crate::scratch::Desk;
@@ -203,7 +203,7 @@ pub fn matches_by(
     requires few { length passes.old.sought.prepared.arena.expr.nodes ≤ desk.old.max_nodes }
     ensures passes { KeepsPasses passes.old passes.new }
     ensures desk { KeepsDesk desk.old desk.new }
-    ensures told { TellsMatch passes.old.sought.prepared.arena.expr text.now from steps.old steps.new result }
+    ensures answered { AnswersMatch passes.old.sought.prepared.arena.expr text.now from steps.old steps.new result }
 {
     let sought = &passes.sought;
     let Some(start) = skip_to_literal(&sought.required, text, from, steps) else {
@@ -223,7 +223,7 @@ pub fn matches_by(
 /// The groups of a match of an expression without groups.
 pub fn whole_alone(span: Span) -> GroupSpans
     ensures { (e : WrittenExpression) (w : List ℕ) (s : ℕ) → IsExpr e.nodes e.groups → e.groups ≡ 0 → Matches (expression_tree e) w span.0 span.1 →
-        TellsGroups e w span s s result }
+        AnswersGroups e w span s s result }
 {
     let mut groups = [None; 10];
     groups[0] = Some(span);
@@ -259,7 +259,7 @@ fn groups_with(
     ensures space { SameSpace room.old.kept room.new.kept }
     ensures none { room.new.tasks.items ≡ [] }
     ensures tasks { vec_capacity room.old.tasks ≤ vec_capacity room.new.tasks }
-    ensures told { TellsGroups subject.entry.prepared.now.arena.expr subject.entry.text.now span steps.old steps.new result }
+    ensures answered { AnswersGroups subject.entry.prepared.now.arena.expr subject.entry.text.now span steps.old steps.new result }
 {
     if subject.prepared.arena.groups() == 0 {
         return whole_alone(span);
@@ -277,7 +277,7 @@ pub fn shared_groups(subject: Subject, span: Span, desk: &mut Desk, steps: &mut 
     requires short { length subject.text.now ≤ desk.old.max_text }
     requires few { length subject.prepared.now.arena.expr.nodes ≤ desk.old.max_nodes }
     ensures desk { KeepsDesk desk.old desk.new }
-    ensures told { TellsGroups subject.entry.prepared.now.arena.expr subject.entry.text.now span steps.old steps.new result }
+    ensures answered { AnswersGroups subject.entry.prepared.now.arena.expr subject.entry.text.now span steps.old steps.new result }
 {
     desk.shared.fit(subject.prepared);
     groups_with(subject, &mut desk.shared, span, &mut desk.room, steps)
@@ -300,7 +300,7 @@ pub fn groups_by(
     requires few { length passes.old.sought.prepared.arena.expr.nodes ≤ desk.old.max_nodes }
     ensures passes { KeepsPasses passes.old passes.new }
     ensures desk { KeepsDesk desk.old desk.new }
-    ensures told { TellsGroups passes.old.sought.prepared.arena.expr text.now span steps.old steps.new result }
+    ensures answered { AnswersGroups passes.old.sought.prepared.arena.expr text.now span steps.old steps.new result }
 {
     let prepared = &passes.sought.prepared;
     let subject = Subject { prepared, text };

@@ -64,15 +64,21 @@ impl Scratch {
             return Err(AllocError);
         };
         let Ok(shared) = GroupTables::with_room(alloc, block + 1, max_nodes) else {
-            drop((room, forward_any));
+            drop(room);
+            drop(forward_any);
             return Err(AllocError);
         };
         let Ok(prepared) = Prepared::with_room(alloc, max_nodes) else {
-            drop((room, forward_any, shared));
+            drop(room);
+            drop(forward_any);
+            drop(shared);
             return Err(AllocError);
         };
         let Ok(reverse_any) = Table::with_room(alloc, REVERSE_ANY, block + 1, max_nodes) else {
-            drop((room, forward_any, shared, prepared));
+            drop(room);
+            drop(forward_any);
+            drop(shared);
+            drop(prepared);
             return Err(AllocError);
         };
         let desk = Desk {

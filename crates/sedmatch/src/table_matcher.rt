@@ -3,7 +3,7 @@ ghost use Rattle.std.specs.Prelude.{◌≡◌, ℕ, ◌+◌, ◌-◌, ◌*◌, �
 ghost use Rattle.sedre.specs.Tree.{WrittenExpression, expression_tree};
 ghost use Rattle.sedre.specs.Steps.{Takes, TakesAtLeast};
 ghost use Rattle.sedtext.specs.Costs.{CostsWithin};
-ghost use Rattle.sedtext.specs.Following.{CanEndEarly, EndsWithin, LiesOn, Occurs, LooksPast, bytes_passed, next_span};
+ghost use Rattle.sedtext.specs.Following.{CanEndEarly, EndsWithin, LiesOn, OccursAfter, LooksPast, bytes_passed, next_span};
 ghost use Rattle.sedtext.specs.Matching.{leftmost_longest, reported_groups};
 ghost use Rattle.sedtext.specs.Answer.{SpanIn};
 ghost use Rattle.sedtext.specs.Groups.{span_of};
@@ -13,7 +13,7 @@ ghost use Rattle.sedmatch.specs.Candidates.{NoMatchBefore};
 ghost use Rattle.sedpass.specs.Decide.{spans_in};
 ghost use Rattle.sedpass.specs.Walks.{EntersGroups};
 ghost use Rattle.sedmatch.specs.Direct.{IsDirect};
-ghost use Rattle.sedmatch.specs.Occurrences.{Serves, ServesOn, TellsNext, owed, owed_after, owed_direct, owed_direct_after};
+ghost use Rattle.sedmatch.specs.Occurrences.{ServesFrom, ServesOn, AnswersNext, owed, owed_after, owed_direct, owed_direct_after};
 ghost use Rattle.sedmatch.specs.Passes.{ArePasses, IsDesk, KeepsDesk, KeepsPasses};
 ghost use Rattle.sedmatch.specs.Stretches.{end_or};
 
@@ -117,10 +117,10 @@ fn next_by_passes(
     requires desk { IsDesk desk.old }
     requires few { length passes.old.sought.prepared.arena.expr.nodes ≤ desk.old.max_nodes }
     requires last { EndsWithin (length text.now) last }
-    requires serves { Serves passes.old.sought.prepared.arena.expr text.now last occurrences.old }
+    requires serves { ServesFrom passes.old.sought.prepared.arena.expr text.now last occurrences.old }
     ensures passes { KeepsPasses passes.old passes.new }
     ensures desk { KeepsDesk desk.old desk.new }
-    ensures told { TellsNext passes.old.sought.prepared.arena.expr text.now last occurrences.old occurrences.new steps.old steps.new result }
+    ensures answered { AnswersNext passes.old.sought.prepared.arena.expr text.now last occurrences.old occurrences.new steps.old steps.new result }
 {
     let sought = &passes.sought;
     if let Some(own) = &mut passes.own {
@@ -256,11 +256,11 @@ impl TableMatcher {
     ) -> Option<(usize, usize)>
         requires last { EndsWithin (length text.now) last }
         requires fits { FitInto (length text.now) (length self.old.nodes) scratch.old }
-        requires serves { Serves self.old text.now last occurrences.old }
+        requires serves { ServesFrom self.old text.now last occurrences.old }
         ensures same { self.new ≡ self.old }
         ensures scratch { scratch.new ≡ scratch.old }
         ensures next { result ≡ next_span (leftmost_longest (expression_tree self.old) text.now) (length text.now) last }
-        ensures occurs { IfSome result (Occurs (expression_tree self.old) text.now last) }
+        ensures occurs { IfSome result (OccursAfter (expression_tree self.old) text.now last) }
         ensures serves { ServesOn self.old text.now result occurrences.old occurrences.new }
         ensures cost { let m = length self.old.nodes in let n = length text.now in
             CostsWithin steps.old steps.new (owed m n last occurrences.old) (owed_after m n result occurrences.new) }

@@ -14,7 +14,7 @@ returns c e is =
     let cost = answer_cost (length w) c.args.from s t r done.cost done.lies in
     let few = mul-le-mul_right (length w + 1) is.2 in
     record {
-      matches = rw c.is_some.ensures (answer_some (expression_tree e) w c.args.from r (done.answer e is));
+      exact = rw c.is_some.ensures (answer_some (expression_tree e) w c.args.from r (done.answer e is));
       passes = λ h. answer_passes (expression_tree e) w c.args.from s t r (done.answer e is) done.counts (done.passes e is) (sym c.is_some.ensures ∙ h);
       cost = (cost.0, omega (arith, cost.1, few));
     }

@@ -1,6 +1,6 @@
 use Rattle.std.proofs.Common.{Some, refl, arith}
 use Rattle.std.specs.Vec.{with_item}
-use Rattle.sedmatch.proofs.OccurrenceLemmas.{own_is, own_missing, own_searched, own_serves, own_there, shared_searched, tells}
+use Rattle.sedmatch.proofs.OccurrenceLemmas.{own_is, own_missing, own_searched, own_serves, own_there, shared_searched, shows}
 use Rattle.sedmatch.proofs.occurrences.next_by.Goals as goal
 
 pub index_mut-requires : goal.index_mut-requires
@@ -21,8 +21,8 @@ unreachable-requires c =
     own_missing c.args.sought.now.prepared.arena.expr c.args.text.now c.make_ready.new.self c.make_ready.ensures.ready.table c.if-not-occurrences.false
     (own_is c.args.sought.now.prepared.arena.expr c.args.text.now c.make_ready.new.self c.make_ready.ensures.ready.table c.if-not-occurrences.false _ _ c.index_mut.ensures.value c.in-None.is)
 
-pub returns-then-not-occurrences-clause-told : goal.returns-then-not-occurrences-clause-told
-returns-then-not-occurrences-clause-told c =
+pub returns-then-not-occurrences-clause-answered : goal.returns-then-not-occurrences-clause-answered
+returns-then-not-occurrences-clause-answered c =
     let p = c.args.sought.now.prepared in
     let w = c.args.text.now in
     let mid = c.make_ready.new.self in
@@ -31,11 +31,11 @@ returns-then-not-occurrences-clause-told c =
     let done = c.next_with.ensures in
     let next = shared_searched p w c.args.forward_one.now new.forward_one mid.shared new.reverse_any mid new.seeking first.ready.room done.searched c.if-not-occurrences.true refl in
     let last = p.is_prepared.last in
-    tells p.arena.expr w c.args.last c.args.occurrences.now mid (record mid { seeking = new.seeking; shared = new.reverse_any }) c.next_with.result c.args.steps.now new.steps (omega (arith, last)) c.requires.serves first.ready next
+    shows p.arena.expr w c.args.last c.args.occurrences.now mid (record mid { seeking = new.seeking; shared = new.reverse_any }) c.next_with.result c.args.steps.now new.steps (omega (arith, last)) c.requires.serves first.ready next
     first.same first.owed first.used done.next done.occurs done.cost done.looks
 
-pub returns-clause-told : goal.returns-clause-told
-returns-clause-told c =
+pub returns-clause-answered : goal.returns-clause-answered
+returns-clause-answered c =
     let p = c.args.sought.now.prepared in
     let w = c.args.text.now in
     let mid = c.make_ready.new.self in
@@ -45,5 +45,5 @@ returns-clause-told c =
     let is = own_is p.arena.expr w mid first.ready.table c.if-not-occurrences.false _ _ c.index_mut.ensures.value c.in-Some.is in
     let next = own_searched p w c.args.forward_one.now new.forward_one c.in-Some.reverse_any new.reverse_any mid new.seeking first.ready.room done.searched c.if-not-occurrences.false is in
     let last = p.is_prepared.last in
-    tells p.arena.expr w c.args.last c.args.occurrences.now mid (record mid { seeking = new.seeking; own = with_item mid.own mid.number (Some new.reverse_any) }) c.next_with-in-Some.result c.args.steps.now new.steps (omega (arith, last))
+    shows p.arena.expr w c.args.last c.args.occurrences.now mid (record mid { seeking = new.seeking; own = with_item mid.own mid.number (Some new.reverse_any) }) c.next_with-in-Some.result c.args.steps.now new.steps (omega (arith, last))
     c.requires.serves first.ready next first.same first.owed first.used done.next done.occurs done.cost done.looks

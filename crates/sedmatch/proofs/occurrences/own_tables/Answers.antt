@@ -9,4 +9,5 @@ loop-x-preserved c =
     let es = c.args.matchers.now in
     let x = c.loop-x.x in
     let sought : slice_get es x ≡ Some c.index-matchers-x.result = slice_get_read es (length es) x c.index-matchers-x.result refl (omega arith) c.index-matchers-x.is in
-    one_more es x c.loop-x.own.items c.push.new.self.items c.index-matchers-x.result c.in_ok-own_table.field-0 c.loop-x.invariant sought c.in_ok-own_table.ensures c.in_ok-push.ensures.items
+    let pushed = c.push_reserved.ensures in
+    (one_more es x c.loop-x.own.items c.push_reserved.new.self.items c.index-matchers-x.result c.in_ok-own_table.field-0 c.loop-x.invariant.0 sought c.in_ok-own_table.ensures pushed.items, omega (arith, pushed.capacity, c.loop-x.invariant.1))

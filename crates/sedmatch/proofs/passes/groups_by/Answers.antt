@@ -22,11 +22,11 @@ returns-then-has_blocks-clause-desk c =
     desk_again d c.groups_with.new.room d.forward_any d.reverse_any d.shared is done.space done.none done.tasks (untouched d.max_nodes d.forward_any is.forward_any.0) (untouched d.max_nodes d.reverse_any is.reverse_any.0)
     (untouched d.max_nodes d.shared.reverse_one is.shared.reverse_one) (untouched d.max_nodes d.shared.forward_one is.shared.forward_one)
 
-pub returns-then-has_blocks-clause-told : goal.returns-then-has_blocks-clause-told
-returns-then-has_blocks-clause-told c = c.groups_with.ensures.told
+pub returns-then-has_blocks-clause-answered : goal.returns-then-has_blocks-clause-answered
+returns-then-has_blocks-clause-answered c = c.groups_with.ensures.answered
 
 pub returns-clause-desk : goal.returns-clause-desk
 returns-clause-desk c = c.shared_groups.ensures.desk
 
-pub returns-clause-told : goal.returns-clause-told
-returns-clause-told c = c.shared_groups.ensures.told
+pub returns-clause-answered : goal.returns-clause-answered
+returns-clause-answered c = c.shared_groups.ensures.answered

@@ -1,16 +1,16 @@
 use Rattle.std.proofs.Common.{◌∙◌, sym}
 use Rattle.sedpass.proofs.DecideLemmas.{starts_due}
-use Rattle.sedpass.specs.Decide.{told_of, undecided}
+use Rattle.sedpass.specs.Decide.{known_groups, undecided}
 use Rattle.sedre.specs.Tree.{expression_tree}
 use Rattle.sedmatch.proofs.passes.groups_with.Goals as goal
 
-pub returns-then-groups-eq0-clause-told : goal.returns-then-groups-eq0-clause-told
-returns-then-groups-eq0-clause-told c =
+pub returns-then-groups-eq0-clause-answered : goal.returns-then-groups-eq0-clause-answered
+returns-then-groups-eq0-clause-answered c =
     let e = c.args.subject.prepared.now.arena.expr in
     c.whole_alone.ensures e c.args.subject.text.now c.args.steps.now c.groups.ensures.expr (sym c.groups.ensures.value ∙ c.if-groups-eq0.true) c.requires.spans
 
-pub returns-clause-told : goal.returns-clause-told
-returns-clause-told c =
+pub returns-clause-answered : goal.returns-clause-answered
+returns-clause-answered c =
     let due = c.all_groups-due.result in
     let i = c.args.span.0 in
     let j = c.args.span.1 in
@@ -21,7 +21,7 @@ returns-clause-told c =
       cost = done.cost;
       counts = done.counts;
       entered = (
-        told_of due (undecided i j),
+        known_groups due (undecided i j),
         starts_due (expression_tree c.args.subject.prepared.now.arena.expr) i j due c.all_groups-due.ensures.whole c.all_groups-due.ensures.all,
         done.entered,
       );

@@ -2,8 +2,8 @@ use Rattle.std.proofs.Common.{refl, subst, sym}
 use Rattle.sedre.specs.Tree.{expression_tree}
 use Rattle.sedtext.specs.Beginnings.{AllBegin}
 use Rattle.sedtext.specs.Following.{LooksPast}
-use Rattle.sedmatch.proofs.PassLemmas.{anchored_told}
-use Rattle.sedpass.proofs.ForwardLemmas.{forward_one_still, passes_told}
+use Rattle.sedmatch.proofs.PassLemmas.{anchored_shown}
+use Rattle.sedpass.proofs.ForwardLemmas.{forward_one_still, passes_shown}
 use Rattle.sedmatch.proofs.passes.matches_with.Goals as goal
 
 pub returns-in_default-clause-forward_any : goal.returns-in_default-clause-forward_any
@@ -13,13 +13,13 @@ pub returns-then-from-eq0-clause-matches : goal.returns-then-from-eq0-clause-mat
 returns-then-from-eq0-clause-matches c =
     let e = expression_tree c.args.sought.now.prepared.arena.expr in
     let longest = c.run.ensures.longest c.requires.forward_one.single in
-    anchored_told e c.args.text.now c.args.from c.run.result.end c.is_some.result c.if-from-eq0.true (subst (AllBegin e) c.in-AtStart.is c.requires.begins) longest c.is_some.ensures
+    anchored_shown e c.args.text.now c.args.from c.run.result.end c.is_some.result c.if-from-eq0.true (subst (AllBegin e) c.in-AtStart.is c.requires.begins) longest c.is_some.ensures
 
 pub returns-then-from-eq0-clause-passes : goal.returns-then-from-eq0-clause-passes
 returns-then-from-eq0-clause-passes c = λ h.
     let e = expression_tree c.args.sought.now.prepared.arena.expr in
     subst (λ p. LooksPast e c.args.text.now p c.args.steps.now c.run.new.steps) (sym c.if-from-eq0.true)
-    (passes_told e c.args.text.now 0 c.args.steps.now c.run.new.steps c.run.result.end c.is_some.result c.is_some.ensures c.run.ensures.passes h)
+    (passes_shown e c.args.text.now 0 c.args.steps.now c.run.new.steps c.run.result.end c.is_some.result c.is_some.ensures c.run.ensures.passes h)
 
 pub returns-then-from-eq0-clause-forward_any : goal.returns-then-from-eq0-clause-forward_any
 returns-then-from-eq0-clause-forward_any c = c.requires.forward_any

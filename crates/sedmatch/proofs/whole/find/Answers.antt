@@ -32,7 +32,7 @@ returns-clause-answer c =
     let e = expression_tree c.args.expr.now in
     let span = c.in_ok-span.span in
     let answer = rw c.fit.ensures.expr at c.in_ok-span.ensures.answer in
-    let report = rw c.fit.ensures.expr at c.shared_groups-groups.ensures.told.report in
+    let report = rw c.fit.ensures.expr at c.shared_groups-groups.ensures.answered.report in
     (answer.0, tt, report, report_lies (length c.args.text.now) e c.args.text.now span.0 span.1 c.shared_groups-groups.result answer.2.0 answer.2.1 report)
 
 pub returns-clause-computed : goal.returns-clause-computed
@@ -41,7 +41,7 @@ returns-clause-computed c =
     let w = c.args.text.now in
     let span = c.in_ok-span.span in
     let answer = rw c.fit.ensures.expr at c.in_ok-span.ensures.answer in
-    let report = rw c.fit.ensures.expr at c.shared_groups-groups.ensures.told.report in
+    let report = rw c.fit.ensures.expr at c.shared_groups-groups.ensures.answered.report in
     (sym ((found-iff e w c.args.from span.0 span.1 c.requires.from).1 answer.0), (report-iff e w span.0 span.1 c.shared_groups-groups.result answer.0.spans).1 report)
 
 pub returns-clause-cost : goal.returns-clause-cost
@@ -49,26 +49,26 @@ returns-clause-cost c =
     let m = length c.args.expr.now.nodes in
     let span = c.in_ok-span.span in
     let lies = c.in_ok-span.ensures.answer.2.1 in
-    (all_cost m (m - 1) (length c.args.text.now) (span.1 - span.0) c.args.steps.now c.fit.new.steps c.first_span.new.steps c.shared_groups-groups.new.steps (one_less m) (omega (arith, lies)) c.fit.ensures.cost (rw c.fit.ensures.expr at c.first_span.ensures.cost) (rw c.fit.ensures.expr at c.shared_groups-groups.ensures.told.cost)).0
+    (all_cost m (m - 1) (length c.args.text.now) (span.1 - span.0) c.args.steps.now c.fit.new.steps c.first_span.new.steps c.shared_groups-groups.new.steps (one_less m) (omega (arith, lies)) c.fit.ensures.cost (rw c.fit.ensures.expr at c.first_span.ensures.cost) (rw c.fit.ensures.expr at c.shared_groups-groups.ensures.answered.cost)).0
 
 pub returns-clause-linear_cost : goal.returns-clause-linear_cost
 returns-clause-linear_cost c =
     let m = length c.args.expr.now.nodes in
     let span = c.in_ok-span.span in
     let lies = c.in_ok-span.ensures.answer.2.1 in
-    (all_cost m (m - 1) (length c.args.text.now) (span.1 - span.0) c.args.steps.now c.fit.new.steps c.first_span.new.steps c.shared_groups-groups.new.steps (one_less m) (omega (arith, lies)) c.fit.ensures.cost (rw c.fit.ensures.expr at c.first_span.ensures.cost) (rw c.fit.ensures.expr at c.shared_groups-groups.ensures.told.cost)).1
+    (all_cost m (m - 1) (length c.args.text.now) (span.1 - span.0) c.args.steps.now c.fit.new.steps c.first_span.new.steps c.shared_groups-groups.new.steps (one_less m) (omega (arith, lies)) c.fit.ensures.cost (rw c.fit.ensures.expr at c.first_span.ensures.cost) (rw c.fit.ensures.expr at c.shared_groups-groups.ensures.answered.cost)).1
 
 pub returns-clause-cost_without_groups : goal.returns-clause-cost_without_groups
 returns-clause-cost_without_groups c none =
-    bare_cost (length c.args.expr.now.nodes) (length c.args.text.now) c.args.steps.now c.fit.new.steps c.first_span.new.steps c.shared_groups-groups.new.steps c.fit.ensures.cost (rw c.fit.ensures.expr at c.first_span.ensures.cost) ((rw c.fit.ensures.expr at c.shared_groups-groups.ensures.told.none_cost) none)
+    bare_cost (length c.args.expr.now.nodes) (length c.args.text.now) c.args.steps.now c.fit.new.steps c.first_span.new.steps c.shared_groups-groups.new.steps c.fit.ensures.cost (rw c.fit.ensures.expr at c.first_span.ensures.cost) ((rw c.fit.ensures.expr at c.shared_groups-groups.ensures.answered.none_cost) none)
 
 pub returns-clause-counts : goal.returns-clause-counts
 returns-clause-counts c =
     let long = c.in_ok-span.span.1 - c.in_ok-span.span.0 in
-    least_up c.args.steps.now c.first_span.new.steps c.shared_groups-groups.new.steps long (least_since c.args.steps.now c.fit.new.steps c.first_span.new.steps long c.fit.ensures.cost.0 c.in_ok-span.ensures.counts) c.shared_groups-groups.ensures.told.cost.0
+    least_up c.args.steps.now c.first_span.new.steps c.shared_groups-groups.new.steps long (least_since c.args.steps.now c.fit.new.steps c.first_span.new.steps long c.fit.ensures.cost.0 c.in_ok-span.ensures.counts) c.shared_groups-groups.ensures.answered.cost.0
 
 pub returns-clause-entered : goal.returns-clause-entered
 returns-clause-entered c =
     let span = c.in_ok-span.span in
     enters_later (expression_tree c.args.expr.now) c.args.text.now span.0 span.1 c.args.steps.now c.first_span.new.steps c.shared_groups-groups.new.steps (omega (arith, c.fit.ensures.cost.0, c.first_span.ensures.cost.0))
-    (rw c.fit.ensures.expr at c.shared_groups-groups.ensures.told.entered)
+    (rw c.fit.ensures.expr at c.shared_groups-groups.ensures.answered.entered)

@@ -1,14 +1,14 @@
 use Rattle.std.proofs.Common.{length, ap}
 use Rattle.sedre.specs.Tree.{expression_tree}
 use Rattle.sedtext.proofs.FollowingLemmas.{if_occurs}
-use Rattle.sedmatch.specs.Occurrences.{TellsNext}
+use Rattle.sedmatch.specs.Occurrences.{AnswersNext}
 use Rattle.sedmatch.specs.Passes.{searched_expression}
 use Rattle.sedmatch.proofs.MatcherLemmas.{direct_is, direct_once, direct_owed, passes_are, serves_same}
 use Rattle.sedmatch.proofs.table_matcher.TableMatcher.next_occurrence.Goals as goal
 use Rattle.sedmatch.proofs.table_matcher.TableMatcher.next_occurrence.Goals.{in-Direct, in-Passes}
 
-told : (c : goal.Joined-self) → TellsNext c.args.self.now c.args.text.now c.args.last c.args.occurrences.now c.match-self.occurrences c.args.steps.now c.match-self.steps c.match-self.result
-told c =
+answered : (c : goal.Joined-self) → AnswersNext c.args.self.now c.args.text.now c.args.last c.args.occurrences.now c.match-self.occurrences c.args.steps.now c.match-self.steps c.match-self.result
+answered c =
     elim c.match-self.branch [
       | in-Direct w ↦
           let e = c.args.self.now in
@@ -28,26 +28,26 @@ told c =
           }
       | in-Passes w ↦
           let is = passes_are c.self.inside.engine c.args.self.now w.deref_mut.result.now _ c.self.view_is (ap searched_expression w.in-Passes.is) w.deref_mut.ensures.value in
-          rw (w.result-is, w.occurrences-is, w.steps-is) (rw is at w.next_by_passes.ensures.told)
+          rw (w.result-is, w.occurrences-is, w.steps-is) (rw is at w.next_by_passes.ensures.answered)
     ]
 
 pub returns-clause-next : goal.returns-clause-next
-returns-clause-next c = (told c).next
+returns-clause-next c = (answered c).next
 
 pub returns-clause-occurs : goal.returns-clause-occurs
-returns-clause-occurs c = (told c).occurs
+returns-clause-occurs c = (answered c).occurs
 
 pub returns-clause-serves : goal.returns-clause-serves
-returns-clause-serves c = (told c).serves
+returns-clause-serves c = (answered c).serves
 
 pub returns-clause-cost : goal.returns-clause-cost
-returns-clause-cost c = (told c).cost
+returns-clause-cost c = (answered c).cost
 
 pub returns-clause-once : goal.returns-clause-once
-returns-clause-once c = (told c).once
+returns-clause-once c = (answered c).once
 
 pub returns-clause-counts : goal.returns-clause-counts
-returns-clause-counts c = (told c).counts
+returns-clause-counts c = (answered c).counts
 
 pub returns-clause-passes : goal.returns-clause-passes
-returns-clause-passes c = (told c).passes
+returns-clause-passes c = (answered c).passes
