@@ -1,8 +1,8 @@
 -- How what functions answer is put together.
-use Rattle.std.proofs.Common.{◌≡◌, ◌≢◌, ◌≤◌, ℕ, ◌+◌, Bool, true, false, ◌==◌, List, [], ◌∷◌, ◌++◌, length, Option, Some, None, Result, Ok, Err, IfOk, refl, sym, ap, subst, ◌∙◌, inl, inr, ◌⊎◌, append_assoc, arith, slice_get, if◌then◌else◌}
+use Rattle.std.proofs.Common.{◌≡◌, ◌≢◌, ◌≤◌, ℕ, ◌+◌, Bool, true, false, ◌==◌, List, [], ◌∷◌, ◌++◌, length, Option, Some, None, Result, Ok, Err, IfOk, IfErr, refl, sym, ap, subst, ◌∙◌, inl, inr, ◌⊎◌, append_assoc, arith, slice_get, if◌then◌else◌}
 use Rattle.std.proofs.lemmas.Bool.Decides.{eqb_tells, Decides-eqb}
 use Rattle.std.specs.Result.{IsErrAnd}
-use Rattle.std.proofs.lemmas.List.{append-nil}
+use Rattle.std.proofs.lemmas.List.{append-nil, length-append}
 use Rattle.sedre.specs.declared.types.Kind.{Kind}
 use Rattle.sedre.specs.Tree.{WrittenExpression}
 use Rattle.sedre.specs.declared.types.ExprFault.{ExprFault}
@@ -20,7 +20,7 @@ use Rattle.sedscript.specs.declared.types.Address.TheVariants.{Last, Match}
 use Rattle.sedscript.specs.declared.items.ItemOrEnd.{ItemOrEnd}
 use Rattle.sedscript.specs.declared.items.ItemOrEnd.TheVariants.{Is, Ends}
 use Rattle.sedscript.specs.Bytes.{bytes_between, past, is_byte, is_digit, with_digits}
-use Rattle.sedscript.specs.Items.{Pattern, Reading, plainly, expression, ◌>>=◌, Addressed, address_found, addresses_of, with_addresses, with_second, folds_at, past_flag, match_at, own_match, addresses_at, after_first, second_at, address_at, address_of, line_address, item_at, item_from, substitute_with, substitute_at, argument_with, function_at, match_to, function_after, item_with, item_of, empty_match}
+use Rattle.sedscript.specs.Items.{PatternExtent, Reading, plainly, expression, ◌>>=◌, Addressed, address_found, addresses_of, with_addresses, with_second, folds_at, past_flag, match_at, own_match, addresses_at, after_first, second_at, address_at, address_of, line_address, item_at, item_from, substitute_with, substitute_at, argument_with, function_at, match_to, function_after, item_with, item_of, empty_match}
 use Rattle.sedscript.specs.declared.items.Strings.{Strings}
 use Rattle.sedscript.specs.Arguments.{own_delimiter, substitute_strings, flags_after, folds}
 use Rattle.sedscript.specs.Letters.{argument_of, reads_expression, substituted, verb_of, allowed}
@@ -103,7 +103,7 @@ match_open text kind m count d place e =
 not_memory : (r : ExprReason) → is_no_memory r ≡ false → r ≡ NoMemory → ⊥
 not_memory r e is = let g : true ≡ false = sym (ap is_no_memory is) ∙ e in cc
 
-fails_in_script : {A : Type 0} (text : List ℕ) (kind : Kind) (m : ℕ) (p : Pattern) (k : ℕ → Reading A) (f : ExprFault) (b : Bool) → is_no_memory f.reason ≡ b →
+fails_in_script : {A : Type 0} (text : List ℕ) (kind : Kind) (m : ℕ) (p : PatternExtent) (k : ℕ → Reading A) (f : ExprFault) (b : Bool) → is_no_memory f.reason ≡ b →
     ExprFaulty kind (Some p.delimiter) (bytes_between text p.from p.to) m f.place f.reason ⊎ (f ≡ no_expr_memory) →
     Fails text kind m (expression p k) (if b then NO_MEMORY else in_script p.from f) ⊎ ((if b then NO_MEMORY else in_script p.from f) ≡ NO_MEMORY)
 fails_in_script text kind m p k f true is h = inr refl
@@ -111,16 +111,26 @@ fails_in_script text kind m p k f false is (inl h) = inl (no_expression {f = f} 
 fails_in_script text kind m p k f false is (inr e) = absurd (not_memory f.reason is (ap (λ (g : ExprFault). g.reason) e))
 
 -- a fault of the reader of expressions, in the script
-pub fails_as_read : {A : Type 0} (text : List ℕ) (kind : Kind) (m : ℕ) (p : Pattern) (k : ℕ → Reading A) (f : ExprFault) →
+pub fails_as_read : {A : Type 0} (text : List ℕ) (kind : Kind) (m : ℕ) (p : PatternExtent) (k : ℕ → Reading A) (f : ExprFault) →
     ExprFaulty kind (Some p.delimiter) (bytes_between text p.from p.to) m f.place f.reason ⊎ (f ≡ no_expr_memory) →
     Fails text kind m (expression p k) (fault_of p.from f) ⊎ (fault_of p.from f ≡ NO_MEMORY)
 fails_as_read text kind m p k f h = fails_in_script text kind m p k f (is_no_memory f.reason) refl h
 
 -- an expression that was read
-pub expression_comes : (text : List ℕ) (kind : Kind) (m : ℕ) (p : Pattern) (old new : List WrittenExpression) (e : WrittenExpression) (groups : ℕ) → groups ≡ e.groups → IsRead text kind m p e → new ≡ old ++ e ∷ [] →
+pub expression_comes : (text : List ℕ) (kind : Kind) (m : ℕ) (p : PatternExtent) (old new : List WrittenExpression) (e : WrittenExpression) (groups : ℕ) → groups ≡ e.groups → IsRead text kind m p e → new ≡ old ++ e ∷ [] →
     Comes text kind m old new as_groups (Ok groups) (expression p (λ (groups : ℕ). plainly (Ok groups)))
 expression_comes text kind m p old new e groups same read grown =
     subst (λ (n : ℕ). Comes text kind m old new as_groups (Ok n) (expression p (λ (groups : ℕ). plainly (Ok groups)))) (sym same) (e ∷ [], after_expression e read value, grown)
+
+-- the same, where a copy was added, unless a request for memory was refused
+pub copy_comes : (text : List ℕ) (kind : Kind) (m : ℕ) (p : PatternExtent) (old new : List WrittenExpression) (e : WrittenExpression) (r : Result ℕ ScriptFault) → IsRead text kind m p e →
+    IfOk r (λ groups. (groups ≡ e.groups) × (new ≡ old ++ e ∷ [])) → IfErr r (λ f. f ≡ NO_MEMORY) → Comes text kind m old new as_groups r (expression p (λ (groups : ℕ). plainly (Ok groups)))
+copy_comes text kind m p old new e (Ok groups) read added memory = expression_comes text kind m p old new e groups added.0 read added.1
+copy_comes text kind m p old new e (Err f) read added memory = inr memory
+
+pub copy_adds_one : {E : Type 0} → (old new : List WrittenExpression) (e : WrittenExpression) (r : Result ℕ E) → IfOk r (λ groups. (groups ≡ e.groups) × (new ≡ old ++ e ∷ [])) → IfOk r (λ groups. length new ≡ length old + 1)
+copy_adds_one old new e (Ok groups) added = ap (λ (es : List WrittenExpression). length es) added.1 ∙ length-append old (e ∷ [])
+copy_adds_one old new e (Err f) added = tt
 
 -- an address with an expression is the expression alone, and what follows it
 pub match_is : (text : List ℕ) (count d place to : ℕ) (folded : Bool) → delimiter_at text (place + 1) d ≡ Some to → to ≢ place + 1 → folded ≡ folds_at text (to + 1) →

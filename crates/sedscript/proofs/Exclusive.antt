@@ -10,7 +10,7 @@ use Rattle.sedscript.specs.declared.items.ItemOrEnd.{ItemOrEnd}
 use Rattle.sedscript.specs.declared.items.ItemOrEnd.TheVariants.{Is, Ends}
 use Rattle.sedscript.specs.declared.bytes.Sort.TheVariants.{Separator}
 use Rattle.sedscript.specs.Bytes.{past, bytes_between}
-use Rattle.sedscript.specs.Items.{Pattern, Reading, item_at, item_from}
+use Rattle.sedscript.specs.Items.{PatternExtent, Reading, item_at, item_from}
 use Rattle.sedscript.specs.Script.{IsRead, Gives, value, after_expression, CutScript, done, item, IsEnd, Means, CutWithoutFault, target_fault}
 use Rattle.sedscript.specs.FirstFault.{Fails, no_expression, later, Faulty, early, afterwards}
 use Rattle.sedscript.specs.Program.{Program}
@@ -21,7 +21,7 @@ ReadsAsOne = (kind : Kind) (folded : Bool) (delimiter : Option ℕ) (text : List
     ReadsAs kind folded delimiter text one groups → ReadsAs kind folded delimiter text other more → (one ≡ other) × (groups ≡ more)
 
 -- what follows one reading of a pattern follows the other
-pub as_other : (text : List ℕ) (kind : Kind) (m : ℕ) (p : Pattern) (d e : WrittenExpression) → ReadsAsOne → IsRead text kind m p d → IsRead text kind m p e → d.groups ≡ e.groups
+pub as_other : (text : List ℕ) (kind : Kind) (m : ℕ) (p : PatternExtent) (d e : WrittenExpression) → ReadsAsOne → IsRead text kind m p d → IsRead text kind m p e → d.groups ≡ e.groups
 as_other text kind m p d e one h g = (one kind p.folded (Some p.delimiter) (bytes_between text p.from p.to) (expression_tree d) (expression_tree e) d.groups e.groups h.reads g.reads).1
 
 -- what is read is one value, with one number of expressions

@@ -7,7 +7,7 @@ use Rattle.sedscript.specs.declared.bytes.Sort.TheVariants.{Blank, Digit, Line}
 use Rattle.sedscript.specs.declared.types.ScriptFault.{ScriptFault}
 use Rattle.sedscript.specs.declared.items.Flags.{Flags}
 use Rattle.sedscript.specs.Bytes.{is_digit, belongs, past, bytes_between, ◌>>=◌}
-use Rattle.sedscript.specs.Arguments.{name_from, flags_from, with_number, ends_flags, with_file}
+use Rattle.sedscript.specs.Arguments.{name_from, flags_from, with_number, with_flag, ends_flags, with_file}
 use Rattle.sedscript.specs.Answers.{with_rest}
 
 -- digits that were read are passed over
@@ -91,3 +91,26 @@ file_read text empty f result at b d h is digit ends w e =
     by_name : (t : Bool) → with_file f at (if t then None else Some (start, past Line text start)) ≡ with_rest text empty (with_file f at (if t then None else Some (start, past Line text start)))
     by_name true = refl
     by_name false = sym (name_ends text empty (record f { file = Some (start, past Line text start) }) start)
+
+-- the flag of any other byte at a place, as that byte alone says
+letter_read : (text : List ℕ) (empty : Bool) (f : Flags) (r : Result Flags ScriptFault) (at b d : ℕ) → at < length text → get_or text at d ≡ b → is_digit b ≡ false → ends_flags b ≡ false → b ≢ 119 → r ≡ with_flag empty f at b →
+    flags_from text empty f 0 at (drop at text) ≡ (r >>= λ g. flags_from text empty g 0 (at + 1) (drop (at + 1) text))
+letter_read text empty f r at b d h is digit ends other e =
+    let one : suc at ≡ at + 1 = omega arith in
+    subst (λ (l : List ℕ). flags_from text empty f 0 at l ≡ (r >>= λ g. flags_from text empty g 0 (at + 1) (drop (at + 1) text))) (sym (drop-cons text at d h)) (front ∙ ap (λ (n : ℕ). r >>= λ g. flags_from text empty g 0 n (drop n text)) one)
+  where
+    w : (b == 119) ≡ false
+    w = elim (eqb_tells b 119) [ inl h ↦ absurd (other h.1) | inr h ↦ h.0 ]
+
+    front : flags_from text empty f 0 at (get_or text at d ∷ drop (suc at) text) ≡ (r >>= λ g. flags_from text empty g 0 (suc at) (drop (suc at) text))
+    front = rw (e, is, digit, ends, w) refl
+
+pub letter_ok : (text : List ℕ) (empty : Bool) (f g : Flags) (r : Result Flags ScriptFault) (at b d : ℕ) → at < length text → get_or text at d ≡ b → is_digit b ≡ false → ends_flags b ≡ false → b ≢ 119 → r ≡ with_flag empty f at b → r ≡ Ok g →
+    flags_from text empty f 0 at (drop at text) ≡ with_rest text empty (Ok (g, at + 1))
+letter_ok text empty f g r at b d h is digit ends other e ok =
+    letter_read text empty f r at b d h is digit ends other e ∙ ap (λ (r : Result Flags ScriptFault). r >>= λ g. flags_from text empty g 0 (at + 1) (drop (at + 1) text)) ok
+
+pub letter_err : (text : List ℕ) (empty : Bool) (f : Flags) (x : ScriptFault) (r : Result Flags ScriptFault) (at b d : ℕ) → at < length text → get_or text at d ≡ b → is_digit b ≡ false → ends_flags b ≡ false → b ≢ 119 → r ≡ with_flag empty f at b → r ≡ Err x →
+    flags_from text empty f 0 at (drop at text) ≡ with_rest text empty (Err x)
+letter_err text empty f x r at b d h is digit ends other e err =
+    letter_read text empty f r at b d h is digit ends other e ∙ ap (λ (r : Result Flags ScriptFault). r >>= λ g. flags_from text empty g 0 (at + 1) (drop (at + 1) text)) err

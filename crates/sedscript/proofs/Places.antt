@@ -428,11 +428,11 @@ abbrev pub ExprFaultWithin : Type 0
 ExprFaultWithin = (kind : Kind) (delimiter : Option ℕ) (text : List ℕ) (max_nodes place : ℕ) (reason : ExprReason) → ExprFaulty kind delimiter text max_nodes place reason → place ≤ length text
 
 reading_fails : {A : Type 0} (P : ℕ → A → Type 0) (text : List ℕ) (kind : Kind) (m count : ℕ) (r : Reading A) (f : ScriptFault) → ExprFaultWithin → Fails text kind m r f → ReadingUpTo P (length text) count r → f.place ≤ length text
-reading_fails P text kind m count _ _ told own h = h
-reading_fails P text kind m count _ _ told (no_expression {p = p} {f = f} bad) h =
-    let low = told kind (Some p.delimiter) (bytes_between text p.from p.to) m f.place f.reason bad in
+reading_fails P text kind m count _ _ shown own h = h
+reading_fails P text kind m count _ _ shown (no_expression {p = p} {f = f} bad) h =
+    let low = shown kind (Some p.delimiter) (bytes_between text p.from p.to) m f.place f.reason bad in
     omega (arith, low, h.0, h.1, between_short text p.from p.to h.0)
-reading_fails P text kind m count _ f told (later {k = k} e is bad) h = reading_fails P text kind m (suc count) (k e.groups) f told bad (h.2 e.groups)
+reading_fails P text kind m count _ f shown (later {k = k} e is bad) h = reading_fails P text kind m (suc count) (k e.groups) f shown bad (h.2 e.groups)
 
 -- addresses
 
@@ -626,16 +626,16 @@ target_up_to n text all before depth (i ∷ is) h =
 
 -- the first fault of a text is in it or at its end
 pub fault_within : ExprFaultWithin → (text : List ℕ) (kind : Kind) (m : ℕ) (f : ScriptFault) → Faulty text kind m f → f.place ≤ length text
-fault_within told text kind m f (early is es to cut bad) =
+fault_within shown text kind m f (early is es to cut bad) =
     let reached = cut_up_to text kind m 0 0 to (length es) is es cut (omega arith) (omega arith) in
-    reading_fails (HereUpTo (length text)) text kind m (length es) (item_at text (length es) to) f told bad (item_read text (length es) to reached.0)
-fault_within told text kind m f (afterwards is es to cut ends found) =
+    reading_fails (HereUpTo (length text)) text kind m (length es) (item_at text (length es) to) f shown bad (item_read text (length es) to reached.0)
+fault_within shown text kind m f (afterwards is es to cut ends found) =
     let reached = cut_up_to text kind m 0 0 to (length es) is es cut (omega arith) (omega arith) in
     subst (FaultUpTo (length text)) found (target_up_to (length text) text is [] 0 is reached.1)
 
 pub faulty_within : ExprFaultWithin → (text : List ℕ) (kind : Kind) (m : ℕ) (f : ScriptFault) → Faulty text kind m f ⊎ (f ≡ NO_MEMORY) → f.place ≤ length text
-faulty_within told text kind m f (inl bad) = fault_within told text kind m f bad
-faulty_within told text kind m f (inr none) = rw none (omega arith)
+faulty_within shown text kind m f (inl bad) = fault_within shown text kind m f bad
+faulty_within shown text kind m f (inr none) = rw none (omega arith)
 
 -- what holds anyway holds where an answer is no fault
 pub holds_anyway : {A : Type 0} {P : Type 0} (r : Result A ScriptFault) → P → OnOk r P

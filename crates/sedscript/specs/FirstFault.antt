@@ -5,7 +5,7 @@ use Rattle.sedre.specs.Tree.{WrittenExpression}
 use Rattle.sedre.specs.declared.types.ExprFault.{ExprFault}
 use Rattle.sedre.specs.Grammar.{ExprFaulty}
 use Rattle.sedscript.specs.Types.{ScriptFault, Item, Expression}
-use Rattle.sedscript.specs.Items.{item_at, Pattern, Reading, plainly, expression}
+use Rattle.sedscript.specs.Items.{item_at, PatternExtent, Reading, plainly, expression}
 use Rattle.sedscript.specs.Script.{target_fault, CutScript, IsEnd, IsRead}
 use Rattle.sedscript.specs.Bytes.{bytes_between}
 
@@ -16,10 +16,10 @@ in_script from f = record { place = from + f.place; reason = Expression f }
 -- the fault of what is read: that of the first expression that has one, or else that of what is read after them all
 pub data Fails (text : List ℕ) (kind : Kind) (max_nodes : ℕ) {A : Type 0} : Reading A → ScriptFault → Type 0 where
   own : {f : ScriptFault} → Fails text kind max_nodes (plainly (Err f)) f
-  no_expression : {p : Pattern} {k : ℕ → Reading A} {f : ExprFault} →
+  no_expression : {p : PatternExtent} {k : ℕ → Reading A} {f : ExprFault} →
       ExprFaulty kind (Some p.delimiter) (bytes_between text p.from p.to) max_nodes f.place f.reason →
       Fails text kind max_nodes (expression p k) (in_script p.from f)
-  later : {p : Pattern} {k : ℕ → Reading A} {f : ScriptFault} (e : WrittenExpression) →
+  later : {p : PatternExtent} {k : ℕ → Reading A} {f : ScriptFault} (e : WrittenExpression) →
       IsRead text kind max_nodes p e → Fails text kind max_nodes (k e.groups) f →
       Fails text kind max_nodes (expression p k) f
 

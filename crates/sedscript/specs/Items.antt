@@ -7,7 +7,7 @@ use Rattle.sedscript.specs.Letters.{verb_of, allowed, reads_expression, substitu
 use Rattle.sedre.specs.Brackets.{delimiter_at}
 
 -- a regular expression in a script: where it begins and ends, the delimiter there, and whether its flag `I` folds case (this project's own)
-pub record Pattern : Type 0 where
+pub record PatternExtent : Type 0 where
   pub from : ℕ
   pub to : ℕ
   pub delimiter : ℕ
@@ -16,7 +16,7 @@ pub record Pattern : Type 0 where
 -- what is read: a value or a fault; or a regular expression, and by the number of its groups what is read after it
 pub data Reading (A : Type 0) : Type 0 where
   plainly : Result A ScriptFault → Reading A
-  expression : Pattern → (ℕ → Reading A) → Reading A
+  expression : PatternExtent → (ℕ → Reading A) → Reading A
 
 -- what is read, and then what is read after it
 infixl 10 ◌>>=◌

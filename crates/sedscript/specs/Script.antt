@@ -13,7 +13,7 @@ use Rattle.sedscript.specs.declared.types.FileUse.TheVariants.{Read, Write}
 use Rattle.sedscript.specs.Bytes.{bytes_between, Separator, Line, belongs, past, fault_if}
 use Rattle.sedscript.specs.Strings.{pieces_of, chars_of, bytes_of, table_of}
 use Rattle.sedscript.specs.Letters.{becomes_command, is_open, is_close}
-use Rattle.sedscript.specs.Items.{Pattern, Reading, plainly, expression, item_at}
+use Rattle.sedscript.specs.Items.{PatternExtent, Reading, plainly, expression, item_at}
 use Rattle.sedscript.specs.Program.{Program}
 
 -- the text with one part more, and a newline where the part doesn't end with one
@@ -21,7 +21,7 @@ abbrev pub with_part : List ℕ → List ℕ → List ℕ
 with_part text part = text ++ part ++ (if ends_with nat_eq part (10 ∷ []) then [] else 10 ∷ [])
 
 -- the text of a pattern is this expression (XBD 9.3, 9.4), has no fault and no more nodes than allowed
-pub record IsRead (text : List ℕ) (kind : Kind) (max_nodes : ℕ) (p : Pattern) (e : WrittenExpression) : Type 0 where
+pub record IsRead (text : List ℕ) (kind : Kind) (max_nodes : ℕ) (p : PatternExtent) (e : WrittenExpression) : Type 0 where
   pub reads : ReadsAs kind p.folded (Some p.delimiter) (bytes_between text p.from p.to) (expression_tree e) e.groups
   pub no_fault : (place : ℕ) (reason : ExprReason) →
       ExprFaulty kind (Some p.delimiter) (bytes_between text p.from p.to) max_nodes place reason → ⊥
@@ -30,7 +30,7 @@ pub record IsRead (text : List ℕ) (kind : Kind) (max_nodes : ℕ) (p : Pattern
 -- what is read is this value, with these expressions
 pub data Gives (text : List ℕ) (kind : Kind) (max_nodes : ℕ) {A : Type 0} : Reading A → List WrittenExpression → A → Type 0 where
   value : {x : A} → Gives text kind max_nodes (plainly (Ok x)) [] x
-  after_expression : {p : Pattern} {k : ℕ → Reading A} {es : List WrittenExpression} {x : A} (e : WrittenExpression) →
+  after_expression : {p : PatternExtent} {k : ℕ → Reading A} {es : List WrittenExpression} {x : A} (e : WrittenExpression) →
       IsRead text kind max_nodes p e → Gives text kind max_nodes (k e.groups) es x →
       Gives text kind max_nodes (expression p k) (e ∷ es) x
 

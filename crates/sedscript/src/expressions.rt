@@ -12,7 +12,7 @@ ghost use Rattle.sedscript.specs.Answers.{as_groups, ComesFrom, fault_of};
 use crate::items::Source;
 use crate::types::{ExprFault, NO_MEMORY, Reason, ScriptFault};
 use sedre::{Expr, read_folded};
-use std::alloc::{AllocError, Global};
+use std::alloc::Global;
 
 /// The fault of the script, where the regular expression that begins at `from` has this fault.
 fn fault_of(from: usize, fault: ExprFault) -> ScriptFault
@@ -66,12 +66,19 @@ fn expression_between(
     }
 }
 
-/// Adds a copy of an expression, which takes only the room that it needs; the one that was read may have taken more.
-fn add_copy(alloc: Global, exprs: &mut Vec<Expr>, expr: &Expr) -> Result<(), AllocError>
-    ensures { OnOk result (exprs.new.items ≡ exprs.old.items ++ expr.now ∷ []) }
+/// Adds a copy of an expression, which takes only the room that it needs; the one that was read may have taken more. Answers how
+/// many groups it has.
+fn add_copy(alloc: Global, exprs: &mut Vec<Expr>, expr: &Expr) -> Result<usize, ScriptFault>
+    ensures added { IfOk result (λ groups. (groups ≡ expr.now.groups) × (exprs.new.items ≡ exprs.old.items ++ expr.now ∷ [])) }
+    ensures memory { IfErr result (λ f. f ≡ NO_MEMORY) }
 {
-    exprs.push(expr.copy(alloc)?)?;
-    Ok(())
+    let Ok(copy) = expr.copy(alloc) else {
+        return Err(NO_MEMORY);
+    };
+    match exprs.push(copy) {
+        Ok(()) => Ok(expr.groups()),
+        Err(_) => Err(NO_MEMORY),
+    }
 }
 
 /// Reads the regular expression between two places, adds it and answers how many groups it has. Where it is `folded`,
@@ -93,10 +100,6 @@ pub fn expression_at(
 {
     match expression_between(source, delimiter, folded, from, to) {
         Err(fault) => Err(fault_of(from, fault)),
-        Ok(expr) => {
-            let groups = expr.groups();
-            add_copy(source.alloc, exprs, &expr)?;
-            Ok(groups)
-        }
+        Ok(expr) => add_copy(source.alloc, exprs, &expr),
     }
 }

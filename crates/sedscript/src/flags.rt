@@ -81,11 +81,17 @@ fn flag_at(text: &[u8], empty: bool, flags: Flags, at: usize) -> Result<(Flags, 
     let b = text[at];
     if b.is_ascii_digit() {
         let to = past(Sort::Digit, text, at);
-        Ok((with_number(flags, at, bytes_between(text, at, to))?, to))
+        match with_number(flags, at, bytes_between(text, at, to)) {
+            Ok(flags) => Ok((flags, to)),
+            Err(fault) => Err(fault),
+        }
     } else if b == b'w' {
         with_file(text, flags, at)
     } else {
-        Ok((with_flag(empty, flags, at, b)?, at + 1))
+        match with_flag(empty, flags, at, b) {
+            Ok(flags) => Ok((flags, at + 1)),
+            Err(fault) => Err(fault),
+        }
     }
 }
 
