@@ -1,20 +1,20 @@
 -- What commands that take no line do is a move.
 use Rattle.std.proofs.Common.{◌≡◌, ℕ, ◌+◌, ◌<◌, ◌≤◌, Bool, true, false, cond, List, [], ◌∷◌, ◌++◌, length, map, Option, Result, Ok, Err, refl, sym, ◌∙◌, arith, length-append}
 use Rattle.std.proofs.lemmas.List.{length-map}
-use Rattle.sedengine.specs.State.{Entry, Task, do_at, State, Move, Setting}
-use Rattle.sedengine.specs.Move.{writing, quietly, then_do, in_table}
-use Rattle.sedengine.specs.Ends.{WithinLimits}
-use Rattle.sedengine.specs.Meters.{SinkView}
-use Rattle.sedengine.specs.Calls.{NamesNone, WritesAll}
-use Rattle.sedengine.specs.Run.{RunState, at_lines, run_setting}
+use Rattle.sedacts.specs.State.{Entry, Task, do_at, State, Move, Setting}
+use Rattle.sedacts.specs.Move.{writing, quietly, then_do, in_table}
+use Rattle.sedacts.specs.Ends.{WithinLimits}
+use Rattle.sedacts.specs.Meters.{SinkView}
+use Rattle.sedacts.specs.Calls.{NamesNone, WritesAll}
+use Rattle.sedacts.specs.Run.{RunState, at_lines, run_setting}
 use Rattle.sedengine.specs.Holding.{BecomesOrFull}
 use Rattle.sedengine.specs.Queueing.{queueing, QueuesOrFull}
-use Rattle.sedengine.specs.Steps.{ActsHere, MakesMove, costs}
-use Rattle.sedengine.specs.declared.ends.Ended.{Ended}
-use Rattle.sedengine.specs.declared.ends.Ended.TheVariants.{HoldFull, PatternFull, QueueFull}
-use Rattle.sedengine.proofs.Moves.{ran_quietly, stopped_here, moves_writing}
+use Rattle.sedengine.specs.Advancing.{ActsHere, MakesMove, costs}
+use Rattle.sedacts.specs.declared.ends.Ended.{Ended}
+use Rattle.sedacts.specs.declared.ends.Ended.TheVariants.{HoldFull, PatternFull, QueueFull}
+use Rattle.sedacts.proofs.Moves.{ran_quietly, stopped_here, moves_writing}
 use Rattle.sedengine.proofs.Leaving.{leaves_quiet, leaves_stopped, leaves_written}
-use Rattle.sedengine.proofs.Streams.{names_long, names_ok}
+use Rattle.sedacts.proofs.Streams.{names_long, names_ok}
 use Rattle.sedengine.proofs.SubstituteMoves.{reached_line}
 
 -- the state with these contents of its spaces
@@ -40,7 +40,7 @@ module _ {O T : Type 0} {tally : O → SinkView} {count : O → ℕ} {text : T �
     -- one that writes alone
     pub acts_writing : {o' : O} {out : List (ℕ × ℕ)} {r : Result Unit Ended} → IsMove made e (λ ls. writing out (at_lines e ls)) → WritesAll tally count o o' out r → ActsHere tally count text made e e o o' t t r
     acts_writing {o'} {out} {r} is h = record {
-      acts = λ files told ls s c first. moves_writing e.limits (run_setting e files) s (at_lines e ls) (tally o) (tally o') out r c.fits (first ∙ is files ls) (within ls) c.lines h.puts;
+      acts = λ files shown ls s c first. moves_writing e.limits (run_setting e files) s (at_lines e ls) (tally o) (tally o') out r c.fits (first ∙ is files ls) (within ls) c.lines h.puts;
       falls = omega arith;
       leaves = leaves_written h;
     }
@@ -49,7 +49,7 @@ module _ {O T : Type 0} {tally : O → SinkView} {count : O → ℕ} {text : T �
     pub acts_leading : (s' : State) (e' : RunState) → e' ≡ record e { state = s' } → s'.turns ≡ e.state.turns → costs s'.tasks ≤ costs e.state.tasks + 8 → WithinLimits e.limits s' →
         IsMove made e (λ ls. quietly (record s' { lines = ls })) → ActsHere tally count text made e e' o o t t (Ok tt)
     acts_leading s' e' same turns few f is = rw same (record {
-      acts = λ files told ls s c first. ran_quietly e.limits (run_setting e files) s (record s' { lines = ls }) (tally o) c.fits (first ∙ is files ls) (record { pattern = f.pattern; hold = f.hold; queue = f.queue; turns = f.turns });
+      acts = λ files shown ls s c first. ran_quietly e.limits (run_setting e files) s (record s' { lines = ls }) (tally o) c.fits (first ∙ is files ls) (record { pattern = f.pattern; hold = f.hold; queue = f.queue; turns = f.turns });
       falls = omega arith;
       leaves = leaves_quiet names_ok (record { script = refl; limits = refl });
     })
@@ -58,7 +58,7 @@ module _ {O T : Type 0} {tally : O → SinkView} {count : O → ℕ} {text : T �
     pub acts_stopping : (e' : RunState) (end : Ended) → e' ≡ e → NamesNone {T = Unit {0}} (Err end) →
         ((files : ℕ → List ℕ) (ls : List (List ℕ)) → MakesMove e.limits (run_setting e files) (made (run_setting e files) (at_lines e ls)) (at_lines e ls) (at_lines e ls) (tally o) (tally o) (Err end)) →
         ActsHere tally count text made e e' o o t t (Err end)
-    acts_stopping e' end same names h = rw same (record { acts = λ files told. h files; falls = omega arith; leaves = leaves_stopped names })
+    acts_stopping e' end same names h = rw same (record { acts = λ files shown. h files; falls = omega arith; leaves = leaves_stopped names })
 
     -- one that does nothing
     pub acts_nothing : IsMove made e (λ ls. quietly (at_lines e ls)) → ActsHere tally count text made e e o o t t (Ok tt)

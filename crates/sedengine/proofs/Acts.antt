@@ -9,24 +9,29 @@ use Rattle.sedscript.specs.declared.types.Action.{Action}
 use Rattle.sedscript.specs.declared.types.Action.TheVariants.{Block}
 use Rattle.sedspace.specs.Stream.{Stream, left, lines_left}
 use Rattle.sedspace.specs.Reading.{TakesAtMost}
-use Rattle.sedengine.specs.State.{Limits, do_at, State, Move, Setting}
-use Rattle.sedengine.specs.Select.{Selection, selects}
-use Rattle.sedengine.specs.Move.{next_move, reach, acts, goes_past, none_left, writes_text_at}
-use Rattle.sedengine.specs.Ends.{WithinLimits, reads, asks_if_last, is_next_line}
-use Rattle.sedengine.specs.Meters.{SinkView}
-use Rattle.sedengine.specs.Run.{RunState, at_lines, run_setting}
+use Rattle.sedacts.specs.State.{Limits, do_at, State, Move, Setting}
+use Rattle.sedacts.specs.Select.{Selection, selects}
+use Rattle.sedacts.specs.Move.{next_move, reach, acts, goes_past, none_left, writes_text_at}
+use Rattle.sedacts.specs.Ends.{WithinLimits, reads, asks_if_last, is_next_line}
+use Rattle.sedacts.specs.Meters.{SinkView}
+use Rattle.sedacts.specs.Run.{RunState, at_lines, run_setting}
 use Rattle.sedengine.specs.Passing.{passed_over}
-use Rattle.sedengine.specs.Choose.{performs, Judges, as_selection, reached_with, current_in, is_active, names_last}
-use Rattle.sedengine.specs.Steps.{ActsHere, ActsLines, reaches, ReachesCommand, HasAction, PerformsSteps, Ran, StepsOf, TakesLines}
-use Rattle.sedengine.specs.Inside.{run_state_of, entry_by, entry_for, keeps_in_hold, queues, CommandHolds, CommandQueues, FillsHold, IsConsistent}
+use Rattle.sedacts.specs.Choose.{performs, is_active}
+use Rattle.sedengine.specs.Judging.{AnswersSelection, as_selection, reached_with, current_in, names_last}
+use Rattle.sedengine.specs.Advancing.{ActsHere, ActsLines, ReachesCommand, PerformsSteps, StepsOf}
+use Rattle.sedacts.specs.Steps.{reaches, HasAction, Ran}
+use Rattle.sedacts.specs.Bringing.{TakesLines}
+use Rattle.sedengine.specs.Inside.{run_state_of, IsConsistent}
+use Rattle.sedacts.specs.Keeping.{keeps_in_hold, queues, CommandHolds, CommandQueues, FillsHold}
 use Rattle.sedengine.specs.declared.machine.Machine.TheInside.{Inside}
-use Rattle.sedengine.specs.declared.select.Chosen.{Chosen}
-use Rattle.sedengine.specs.declared.ends.Ended.{Ended}
-use Rattle.sedengine.specs.declared.ends.Ended.TheVariants.{TurnsSpent, NoPrevious, InputBroken}
-use Rattle.sedengine.proofs.Streams.{LosesPart-none, lines_same}
+use Rattle.sedacts.specs.declared.select.Chosen.{Chosen}
+use Rattle.sedacts.specs.declared.ends.Ended.{Ended}
+use Rattle.sedacts.specs.declared.ends.Ended.TheVariants.{TurnsSpent, NoPrevious, InputBroken}
+use Rattle.sedacts.proofs.Streams.{LosesPart-none, lines_same}
 use Rattle.sedengine.proofs.Leaving.{leaves_unread}
-use Rattle.sedengine.proofs.Moves.{move_at, ran_quietly}
-use Rattle.sedengine.proofs.NextLines.{looked_moves, looked_then, none_taken}
+use Rattle.sedacts.proofs.Moves.{move_at, ran_quietly}
+use Rattle.sedengine.proofs.NextLines.{looked_moves, looked_then}
+use Rattle.sedacts.proofs.BroughtLines.{none_taken}
 use Rattle.sedengine.proofs.Choices.{or_left, or_right}
 use Rattle.sedengine.proofs.Tasks.{fits_of, halts_here, reach_spent, steps_by_moves}
 use Rattle.std.specs.Option.{option_map_or}
@@ -35,7 +40,7 @@ module _ {R O T : Type 0} {remaining : R → Option (List ℕ)} {failures : R �
   -- what a command that takes no line does leaves the lines
   pub acts_here : {made : Setting → State → Option Move} {l : Stream R} (asks : Bool) → ActsHere tally count text made e e' o o' t t' r → ActsLines remaining failures reference tally count text made asks e e' l l o o' t t' r
   acts_here {made} {l} asks h = record {
-    acts = λ sound ls known files told s c asked first. looked_moves remaining l l ls e.limits (run_setting e files) s e' (tally o) (tally o') r (lines_same remaining l ls known) c.lines (h.acts files told ls s c first);
+    acts = λ sound ls known files shown s c asked first. looked_moves remaining l l ls e.limits (run_setting e files) s e' (tally o) (tally o') r (lines_same remaining l ls known) c.lines (h.acts files shown ls s c first);
     falls = h.falls;
     leaves = leaves_unread h.leaves;
   }
@@ -96,12 +101,12 @@ module _ {R : Type 0} (remaining : R → Option (List ℕ)) (old new : Stream R)
       move_at _ _ _ t ∙ ap (reach (run_setting e files) (at_lines e ls) k) (command_seen a e k c seen is) ∙ ap (option_and_then (performs (run_setting e files) (at_lines e ls) k c)) h
 
   -- the end comes where the addresses are judged
-  pub reach_stopping : (sinks : SinkView) (used : Option ℕ) (end : Ended) (e' : RunState) → e' ≡ e → Judges (current_in e (none_left ls)) (is_active e.state k) c used (Err end) →
+  pub reach_stopping : (sinks : SinkView) (used : Option ℕ) (end : Ended) (e' : RunState) → e' ≡ e → AnswersSelection (current_in e (none_left ls)) (is_active e.state k) c used (Err end) →
       StepsOf remaining old new ls e.limits (run_setting e files) e e' sinks sinks (Err end)
   reach_stopping sinks used end e' same h =
       rw same (stops end h)
     where
-      stops : (end : Ended) → Judges (current_in e (none_left ls)) (is_active e.state k) c used (Err end) → StepsOf remaining old new ls e.limits (run_setting e files) e e sinks sinks (Err end)
+      stops : (end : Ended) → AnswersSelection (current_in e (none_left ls)) (is_active e.state k) c used (Err end) → StepsOf remaining old new ls e.limits (run_setting e files) e e sinks sinks (Err end)
       stops (NoPrevious n) (without, number) =
           halts_here remaining old new e.limits (run_setting e files) (at_lines e ls) e sinks (NoPrevious n) here refl
           (number, (λ _. turn_left a e seen i more), ap reaches t, reach_as None without) (record { pattern = refl; hold = refl; queue = λ _. refl; entries = omega arith }) (LosesPart-none _ _ _ bytes_stay)
@@ -131,11 +136,11 @@ module _ {R : Type 0} (remaining : R → Option (List ℕ)) (old new : Stream R)
     -- the command applies; `to` is where the lines then are
     pub reach_acting : (to : Stream R) (sinks sinks' : SinkView) (r : Result Unit Ended) (writes_text : Bool) → choice.yes ≡ true → writes_text ≡ writes_text_at c choice.end →
         PerformsSteps remaining new to ls e1.limits (run_setting e1 files) (acts (run_setting e1 files) (at_lines e1 ls) writes_text c.action) (is_next_line c.action) (at_lines e1 ls) e2 sinks sinks' r → StepsOf remaining old to ls e.limits (run_setting e files) e e2 sinks sinks' r
-    reach_acting to sinks sinks' r writes_text chosen tells_is h =
+    reach_acting to sinks sinks' r writes_text chosen answers_is h =
         let Q : RunState → Type 0 = λ e1. PerformsSteps remaining new to ls e1.limits (run_setting e1 files) (acts (run_setting e1 files) (at_lines e1 ls) writes_text c.action) (is_next_line c.action) (at_lines e1 ls) e2 sinks sinks' r in
         let now : State = at_lines (reached_with e k (slice_set e.state.ranges k choice.active) used) ls in
         let S : Bool → Type 0 = λ b. PerformsSteps remaining new to ls e.limits (run_setting e files) (acts (run_setting e files) now b c.action) (is_next_line c.action) now e2 sinks sinks' r in
-        let there = subst S tells_is (subst Q came h) in
+        let there = subst S answers_is (subst Q came h) in
         looked_then remaining old new to ls e.limits (run_setting e files) (at_lines e ls) e2 sinks sinks' r taken (there (at_lines e ls) here_reaches (λ asks. ap (reads (run_setting e files)) t ∙ ap (λ o. option_map_or asks_if_last o false) (command_seen a e k c seen is) ∙ or_right (names_last c) (is_next_line c.action) asks) (moves_as true chosen))
 
     -- it doesn't
@@ -145,11 +150,6 @@ module _ {R : Type 0} (remaining : R → Option (List ℕ)) (old new : Stream R)
         let less = turn_left a e seen i more in
         let f = here in
         rw (goes, came) (ls, taken, passes_on e.limits (run_setting e files) (at_lines e ls) now ls c.action sinks f (record { pattern = f.pattern; hold = f.hold; queue = f.queue; turns = omega arith }) (moves_as false not_yes))
-
--- the entry of a command that has this action
-pub entry_is : (texts : List (List ℕ)) (o : Option Command) (action : Action) → HasAction o action → entry_by texts o ≡ entry_for texts action
-entry_is texts None action h = absurd h
-entry_is texts (Some c) action h = ap (entry_for texts) h
 
 -- a command that has this action puts an entry into the queue
 pub queues_action : (o : Option Command) (action : Action) → HasAction o action → queues action ≡ true → CommandQueues o

@@ -1,26 +1,18 @@
 -- How addresses are judged.
-use Rattle.std.proofs.Common.{◌≡◌, ℕ, Bool, true, false, cond, not, ◌||◌, ◌<◌, List, length, get_or, Option, Some, None, Result, Err, refl, sym, ap, ◌∙◌, arith}
-use Rattle.std.specs.Prelude.{is_some, option_and_then, nat_le, nat_lt, nat_eq, if◌then◌else◌}
+use Rattle.std.proofs.Common.{◌≡◌, ℕ, Bool, true, false, cond, not, ◌||◌, Option, Some, None, Result, Err, refl, sym, ap, ◌∙◌, arith}
+use Rattle.std.specs.Prelude.{option_and_then, nat_le, nat_lt, nat_eq, if◌then◌else◌}
 use Rattle.std.proofs.lemmas.Bool.Decides.{nat_tests}
-use Rattle.std.proofs.lemmas.Option.{same_Some, slice_get_read}
-use Rattle.sedre.specs.Tree.{WrittenExpression, expression_tree}
-use Rattle.sedmatch.specs.Matching.{leftmost_longest}
+use Rattle.std.proofs.lemmas.Option.{same_Some}
 use Rattle.sedscript.specs.declared.types.Address.{Address}
 use Rattle.sedscript.specs.declared.types.Address.TheVariants.{Line, Last, Match}
 use Rattle.sedscript.specs.declared.types.Command.{Command}
-use Rattle.sedengine.specs.Select.{CurrentLine, AddressAnswer, Selection, answer, on_idle, on_active, of_addresses, selects, ends_at_once}
-use Rattle.sedengine.specs.Choose.{deciding, deciding_in, decides, choice_by_match, chosen_idle, chosen_active, as_selection, turned_by_bang, yes_by_number, Answers, Judges}
-use Rattle.sedengine.specs.Ends.{is_dollar}
-use Rattle.sedengine.specs.declared.ends.Ended.{Ended}
-use Rattle.sedengine.specs.declared.ends.Ended.TheVariants.{NoPrevious, InputBroken}
-use Rattle.sedengine.specs.State.{finds_in}
-use Rattle.sedengine.specs.declared.select.Chosen.{Chosen}
-use Rattle.std.specs.Option.{option_map_or}
-
--- whether there is a match, as the matcher's call answers it
-pub finds_as : (expressions : List WrittenExpression) (k : ℕ) (e : WrittenExpression) (v w : List ℕ) (b : Bool) → k < length expressions → e ≡ get_or expressions k e → v ≡ w → b ≡ is_some (leftmost_longest (expression_tree e) v 0) → b ≡ finds_in expressions k w
-finds_as expressions k e v w b inside is same found_as =
-    found_as ∙ ap (λ (x : List ℕ). is_some (leftmost_longest (expression_tree e) x 0)) same ∙ ap (λ (o : Option WrittenExpression). option_map_or (λ e. is_some (leftmost_longest (expression_tree e) w 0)) o false) (sym (slice_get_read expressions (length expressions) k e refl inside is))
+use Rattle.sedacts.specs.Select.{CurrentLine, AddressAnswer, Selection, answer, on_idle, on_active, of_addresses, selects, ends_at_once}
+use Rattle.sedacts.specs.Choose.{deciding, deciding_in, choice_by_match, chosen_idle, chosen_active, turned_by_bang, yes_by_number}
+use Rattle.sedengine.specs.Judging.{decides, as_selection, AnswersAddress, AnswersSelection}
+use Rattle.sedacts.specs.Ends.{is_dollar}
+use Rattle.sedacts.specs.declared.ends.Ended.{Ended}
+use Rattle.sedacts.specs.declared.ends.Ended.TheVariants.{NoPrevious, InputBroken}
+use Rattle.sedacts.specs.declared.select.Chosen.{Chosen}
 
 -- `!` turns the yes alone
 abbrev negated : Bool → Selection → Selection
@@ -101,7 +93,7 @@ deciding_dollar (Some first) (Some (Match e)) true number h = cc
 
 -- what is answered of the address that decides is answered of the command
 pub judges_err : (c : CurrentLine) (a active : Bool) (command : Command) (number : ℕ) (used : Option ℕ) (end : Ended) → a ≡ active → number ≡ c.number →
-    Answers c (decides c (deciding command.first command.second a number)) used (is_dollar (deciding command.first command.second a number)) (Err end) → Judges c active command used (Err end)
+    AnswersAddress c (decides c (deciding command.first command.second a number)) used (is_dollar (deciding command.first command.second a number)) (Err end) → AnswersSelection c active command used (Err end)
 judges_err c a active command number used (NoPrevious n) same_active same (none, is) = (rw (← same_active) (selects_none c a command (rw same at none)), is)
 judges_err c a active command number used InputBroken same_active same h = deciding_dollar command.first command.second a number h
 judges_err c a active command number used other same_active same h = h
@@ -112,7 +104,7 @@ pub judges_ok : (c : CurrentLine) (a active : Bool) (command : Command) (matched
 judges_ok c a active command matched number used used' choice same_active same_number same_used is h =
     rw (is, same_used, same_number, ← same_active) (selects_some c a command matched used h)
 
-pub answers_at : (c : CurrentLine) (a b : Address) (used : Option ℕ) (r : Result Bool Ended) → a ≡ b → Answers c (answer c b) used (is_dollar (Some b)) r → Answers c (answer c a) used (is_dollar (Some a)) r
+pub answers_at : (c : CurrentLine) (a b : Address) (used : Option ℕ) (r : Result Bool Ended) → a ≡ b → AnswersAddress c (answer c b) used (is_dollar (Some b)) r → AnswersAddress c (answer c a) used (is_dollar (Some a)) r
 answers_at c a b used r same h = rw same h
 
 straight : (c : CurrentLine) (active : Bool) (first second : Option Address) (negate applies : Bool) → yes_by_number first second negate c.number ≡ Some applies →

@@ -4,26 +4,26 @@ use Rattle.std.specs.Borrow.{GName}
 use Rattle.std.proofs.KnownBytes.{Keeps-refl, Keeps-trans}
 use Rattle.sedspace.specs.Stream.{Stream}
 use Rattle.std.specs.Prelude.{OnOk}
-use Rattle.sedengine.specs.State.{do_at, State}
+use Rattle.sedacts.specs.State.{do_at, State}
 use Rattle.sedengine.specs.SubstituteCalls.{same_but_replaced}
 use Rattle.sedscript.specs.declared.types.Action.{Action}
 use Rattle.sedscript.specs.declared.types.Action.TheVariants.{Block}
 use Rattle.sedengine.specs.Passing.{passed_over}
-use Rattle.sedengine.specs.Choose.{reached_with}
-use Rattle.sedengine.specs.Calls.{Delivers, NamesNone, ReadsLines, WritesAll}
-use Rattle.sedengine.specs.Meters.{SinkView}
-use Rattle.sedengine.specs.Run.{SameRun, RunState}
-use Rattle.sedengine.specs.Bringing.{brought}
+use Rattle.sedengine.specs.Judging.{reached_with}
+use Rattle.sedacts.specs.Calls.{Delivers, NamesNone, ReadsLines, WritesAll}
+use Rattle.sedacts.specs.Meters.{SinkView}
+use Rattle.sedacts.specs.Run.{SameRun, RunState}
+use Rattle.sedengine.specs.Fetching.{brought}
 use Rattle.sedengine.specs.Inside.{run_state_of}
 use Rattle.sedengine.specs.Queueing.{flushed, with_turns}
-use Rattle.sedengine.specs.Steps.{LeavesGiven, LeavesLines, costs, weight}
+use Rattle.sedengine.specs.Advancing.{LeavesGiven, LeavesLines, costs, weight}
 use Rattle.sedspace.specs.declared.lines.Got.{Got}
 use Rattle.sedspace.specs.declared.lines.Got.TheVariants.{End, Line}
-use Rattle.sedengine.specs.declared.ends.Ended.{Ended}
+use Rattle.sedacts.specs.declared.ends.Ended.{Ended}
 use Rattle.sedengine.specs.declared.machine.Machine.TheInside.{Inside}
 use Rattle.sedengine.proofs.Runs.{SameRun-then, same_seen}
-use Rattle.sedengine.proofs.Streams.{ReadsLines-none, ReadsLines-then, ReadsLines-unread}
-use Rattle.sedengine.proofs.Writing.{Delivers-none, Delivers-quiet, Delivers-then, writes_alone}
+use Rattle.sedacts.proofs.Streams.{ReadsLines-none, ReadsLines-then, ReadsLines-unread}
+use Rattle.sedacts.proofs.Writing.{Delivers-none, Delivers-quiet, Delivers-then, writes_alone}
 
 module _ {R O T : Type 0} {remaining : R → Option (List ℕ)} {failures : R → ℕ} {reference : R → List GName} {tally : O → SinkView} {count : O → ℕ} {text : T → ℕ → Option (List ℕ)} where
   pub leaves_none : {e : RunState} {l : Stream R} {o : O} {t : T} → LeavesLines remaining failures reference tally count text e e l l o o t t (Ok tt)

@@ -2,17 +2,17 @@
 use Rattle.std.proofs.Common.{◌≡◌, ℕ, suc, zero, ◌+◌, ◌<◌, ◌≤◌, min, List, [], ◌∷◌, length, get_or, Option, Some, None, Result, Ok, Err, refl, subst, sym, ap, ◌∙◌, arith}
 use Rattle.std.specs.Prelude.{IfSome, IsNone, OnOk}
 use Rattle.sedscript.specs.Program.{Program}
-use Rattle.sedengine.specs.State.{Limits}
+use Rattle.sedacts.specs.State.{Limits}
 use Rattle.std.specs.List.{All}
-use Rattle.sedengine.specs.Ends.{bytes_of_sink, FillsSink, GainedWithin}
-use Rattle.sedengine.specs.DevicesAfter.{SinksAtEnd}
-use Rattle.sedengine.specs.Calls.{Delivers, FailedSink}
-use Rattle.sedengine.specs.Meters.{Frame, FullSink, InLimit, Meter, Sent, SinkView, counted_bytes}
-use Rattle.sedengine.specs.Run.{Cycles, Ending, Input, RunState, SameRun, Sends, at_lines, as_moves_answer, run_setting}
-use Rattle.sedengine.specs.declared.ends.Ended.{Ended}
-use Rattle.sedengine.specs.declared.ends.Ended.TheVariants.{OutputBroken, OutputFull}
-use Rattle.sedengine.specs.declared.ends.Progress.{Progress}
-use Rattle.sedengine.specs.declared.ends.Progress.TheVariants as progress
+use Rattle.sedacts.specs.Ends.{bytes_of_sink, FillsSink, GainedWithin}
+use Rattle.sedacts.specs.DevicesAfter.{SinksAtEnd}
+use Rattle.sedacts.specs.Calls.{Delivers, FailedSink}
+use Rattle.sedacts.specs.Meters.{Frame, FullSink, InLimit, Meter, WereSent, SinkView, counted_bytes}
+use Rattle.sedacts.specs.Run.{Cycles, CameToEnd, InputLeft, RunState, SameRun, Sends, at_lines, as_moves_answer, run_setting}
+use Rattle.sedacts.specs.declared.ends.Ended.{Ended}
+use Rattle.sedacts.specs.declared.ends.Ended.TheVariants.{OutputBroken, OutputFull}
+use Rattle.sedacts.specs.declared.ends.Progress.{Progress}
+use Rattle.sedacts.specs.declared.ends.Progress.TheVariants as progress
 
 within_limit : (n : ℕ) (xs : List ℕ) (k : ℕ) → All (λ m. m ≤ n) xs → get_or xs k 0 ≤ n
 within_limit n [] k h = omega arith
@@ -24,18 +24,18 @@ abbrev pub tally_of : (ℕ → Option (List ℕ)) → (ℕ → ℕ) → Option �
 tally_of contents failures most sent frame = record { contents = contents; failures = failures; sent = counted_bytes most sent; frame = frame }
 
 module _ (sent sent' : List ℕ) (old new : ℕ → Option (List ℕ)) (f f' : ℕ → ℕ) (a a' : Frame) (out : List (ℕ × ℕ)) where
-  counts_on : (most : Option ℕ) → Sent (tally_of old f most sent a) (tally_of new f' most sent' a') out → IfSome most (λ n. (k : ℕ) → get_or sent' k 0 ≡ get_or sent k 0 + length (bytes_of_sink k out))
+  counts_on : (most : Option ℕ) → WereSent (tally_of old f most sent a) (tally_of new f' most sent' a') out → IfSome most (λ n. (k : ℕ) → get_or sent' k 0 ≡ get_or sent k 0 + length (bytes_of_sink k out))
   counts_on None h = tt
   counts_on (Some n) h = h.counts
 
-  stays_within : (most : Option ℕ) → InLimit most sent' → Sent (tally_of old f most sent a) (tally_of new f' most sent' a') out → IfSome most (λ n. (k : ℕ) → get_or sent k 0 + length (bytes_of_sink k out) ≤ n)
+  stays_within : (most : Option ℕ) → InLimit most sent' → WereSent (tally_of old f most sent a) (tally_of new f' most sent' a') out → IfSome most (λ n. (k : ℕ) → get_or sent k 0 + length (bytes_of_sink k out) ≤ n)
   stays_within None within h = tt
   stays_within (Some n) within h = λ k. rw (← h.counts k) (within_limit n sent' k within)
 
-  fills : (most : Option ℕ) (r : Result Unit Ended) → a'.most ≡ most → FullSink (tally_of new f' most sent' a') r → Sent (tally_of old f most sent a) (tally_of new f' most sent' a') out → FillsSink most (λ k. get_or sent k 0) out r
+  fills : (most : Option ℕ) (r : Result Unit Ended) → a'.most ≡ most → FullSink (tally_of new f' most sent' a') r → WereSent (tally_of old f most sent a) (tally_of new f' most sent' a') out → FillsSink most (λ k. get_or sent k 0) out r
   fills most (Ok u) same full h = tt
-  fills None (Err (OutputFull k)) same (n, is, told) h = cc
-  fills (Some m) (Err (OutputFull k)) same (n, is, told) h = let counts = h.counts k in sym same ∙ is ∙ sym told ∙ ap Some counts
+  fills None (Err (OutputFull k)) same (n, is, shown) h = cc
+  fills (Some m) (Err (OutputFull k)) same (n, is, shown) h = let counts = h.counts k in sym same ∙ is ∙ sym shown ∙ ap Some counts
   fills most (Err other) same full h = tt
 
 -- what a metered call says of the machine's sinks at its end it says of the engine's
@@ -47,16 +47,16 @@ sinks_at_end tally count s s' failures before after now most limit r is out fail
     at_end : (r : Result Unit Ended) → FailedSink (failures before) (failures now) r → FullSink (tally s') r → SinksAtEnd limit (failures before) (failures now) r
     at_end (Ok u) failed full = failed
     at_end (Err (OutputBroken k)) failed full = failed
-    at_end (Err (OutputFull k)) failed (n, is, told) = (λ none. let never : Some n ≡ None = sym is ∙ frame ∙ same ∙ none in cc, failed)
+    at_end (Err (OutputFull k)) failed (n, is, shown) = (λ none. let never : Some n ≡ None = sym is ∙ frame ∙ same ∙ none in cc, failed)
     at_end (Err other) failed full = (tt, failed)
 
 -- what the machine's sinks have gained by the meter is what the engine's have
 pub sends : (e e' : RunState) (m m' : Meter) (old new : ℕ → Option (List ℕ)) (f f' : ℕ → ℕ) (a a' : Frame) (r : Result Unit Ended) (out : List (ℕ × ℕ)) → m.most ≡ e.limits.output → m'.most ≡ m.most → a'.most ≡ m'.most →
-    m.sent ≡ e.sent → m'.sent ≡ e'.sent → InLimit m'.most m'.sent → FullSink (tally_of new f' m'.most m'.sent a') r → Sent (tally_of old f m.most m.sent a) (tally_of new f' m'.most m'.sent a') out → Sends e e' old new r out
+    m.sent ≡ e.sent → m'.sent ≡ e'.sent → InLimit m'.most m'.sent → FullSink (tally_of new f' m'.most m'.sent a') r → WereSent (tally_of old f m.most m.sent a) (tally_of new f' m'.most m'.sent a') out → Sends e e' old new r out
 sends e e' m m' old new f f' a a' r out limit same frame before now within full h =
     let W : Option ℕ → Type 0 = λ o. InLimit o m'.sent in
     let F : Option ℕ → Type 0 = λ o. FullSink (tally_of new f' o m'.sent a') r in
-    let S : Option ℕ → Type 0 = λ o. Sent (tally_of old f m.most m.sent a) (tally_of new f' o m'.sent a') out in
+    let S : Option ℕ → Type 0 = λ o. WereSent (tally_of old f m.most m.sent a) (tally_of new f' o m'.sent a') out in
     let G : Option ℕ → List ℕ → Type 0 = λ o sent. GainedWithin o (λ k. get_or sent k 0) old new r out in
     let C : Option ℕ → List ℕ → List ℕ → Type 0 = λ o sent sent'. IfSome o (λ n. (k : ℕ) → get_or sent' k 0 ≡ get_or sent k 0 + length (bytes_of_sink k out)) in
     let within' = subst W same within in
@@ -74,16 +74,16 @@ sends e e' m m' old new f f' a a' r out limit same frame before now within full 
     }
 
 -- A call of the machine m by the meter, which became m' and led to the machine m', is one of the engine that is seen as e.
-module _ {O : Type 0} (contents : O → ℕ → Option (List ℕ)) (m m' : RunState) (meter meter' : Meter) (ended ended' : Option Ended) (e : RunState) (before after now : O) (f f' : ℕ → ℕ) (a a' : Frame) (files : ℕ → List ℕ) (ls : List (List ℕ)) (old new : Input)
+module _ {O : Type 0} (contents : O → ℕ → Option (List ℕ)) (m m' : RunState) (meter meter' : Meter) (ended ended' : Option Ended) (e : RunState) (before after now : O) (f f' : ℕ → ℕ) (a a' : Frame) (files : ℕ → List ℕ) (ls : List (List ℕ)) (old new : InputLeft)
     (seen : record m { sent = meter.sent; ended = ended } ≡ e) (limit : meter.most ≡ m.limits.output) (is : now ≡ after) (same : meter'.most ≡ meter.most) (frame : a'.most ≡ meter'.most) (within : InLimit meter'.most meter'.sent) where
   sends_all : (r : Result Unit Ended) → FullSink (tally_of (contents after) f' meter'.most meter'.sent a') r → (out : List (ℕ × ℕ)) →
-      Sent (tally_of (contents before) f meter.most meter.sent a) (tally_of (contents after) f' meter'.most meter'.sent a') out →
+      WereSent (tally_of (contents before) f meter.most meter.sent a) (tally_of (contents after) f' meter'.most meter'.sent a') out →
       Sends (record m { sent = meter.sent; ended = ended }) (record m' { sent = meter'.sent; ended = ended' }) (contents before) (contents now) r out
   sends_all r full out h =
       rw is (sends (record m { sent = meter.sent; ended = ended }) (record m' { sent = meter'.sent; ended = ended' }) meter meter' (contents before) (contents after) f f' a a' r out limit same frame refl refl within full h)
 
   pub cycles_metered : (left : Option (List (List ℕ))) (r : Progress) → FullSink (tally_of (contents after) f' meter'.most meter'.sent a') (as_moves_answer r) →
-      (out : List (ℕ × ℕ)) × Sent (tally_of (contents before) f meter.most meter.sent a) (tally_of (contents after) f' meter'.most meter'.sent a') out × Cycles m.limits (run_setting m files) (at_lines m ls) out old new m' left r →
+      (out : List (ℕ × ℕ)) × WereSent (tally_of (contents before) f meter.most meter.sent a) (tally_of (contents after) f' meter'.most meter'.sent a') out × Cycles m.limits (run_setting m files) (at_lines m ls) out old new m' left r →
       (out : List (ℕ × ℕ)) × Sends e (record m' { sent = meter'.sent; ended = ended' }) (contents before) (contents now) (as_moves_answer r) out
       × Cycles e.limits (run_setting e files) (at_lines e ls) out old new (record m' { sent = meter'.sent; ended = ended' }) left r
   cycles_metered left r full (out, sent, h) =
@@ -97,10 +97,10 @@ module _ {O : Type 0} (contents : O → ℕ → Option (List ℕ)) (m m' : RunSt
       cycles_of left (progress.Ended end) h = h
 
   pub ending_metered : (end : Ended) → FullSink (tally_of (contents after) f' meter'.most meter'.sent a') (Err end) →
-      (out : List (ℕ × ℕ)) × Sent (tally_of (contents before) f meter.most meter.sent a) (tally_of (contents after) f' meter'.most meter'.sent a') out × Ending m.limits (run_setting m files) (at_lines m ls) out old new m'.state end →
-      (out : List (ℕ × ℕ)) × Sends e (record m' { sent = meter'.sent; ended = ended' }) (contents before) (contents now) (Err end) out × Ending e.limits (run_setting e files) (at_lines e ls) out old new m'.state end
+      (out : List (ℕ × ℕ)) × WereSent (tally_of (contents before) f meter.most meter.sent a) (tally_of (contents after) f' meter'.most meter'.sent a') out × CameToEnd m.limits (run_setting m files) (at_lines m ls) out old new m'.state end →
+      (out : List (ℕ × ℕ)) × Sends e (record m' { sent = meter'.sent; ended = ended' }) (contents before) (contents now) (Err end) out × CameToEnd e.limits (run_setting e files) (at_lines e ls) out old new m'.state end
   ending_metered end full (out, sent, h) =
-      let Q : RunState → Type 0 = λ e. Sends e (record m' { sent = meter'.sent; ended = ended' }) (contents before) (contents now) (Err end) out × Ending e.limits (run_setting e files) (at_lines e ls) out old new m'.state end in
+      let Q : RunState → Type 0 = λ e. Sends e (record m' { sent = meter'.sent; ended = ended' }) (contents before) (contents now) (Err end) out × CameToEnd e.limits (run_setting e files) (at_lines e ls) out old new m'.state end in
       let both = subst Q seen (sends_all (Err end) full out sent, h) in
       (out, both.0, both.1)
 
@@ -124,9 +124,6 @@ same_metered m m' e sent sent' ended ended' seen same =
 pub sound_more : {A : Type 0} (r : Progress) → OnOk (as_moves_answer r) A → r ≡ progress.More → A
 sound_more progress.More h is = h
 sound_more (progress.Ended end) h is = cc
-
-pub below_both : {k m n : ℕ} → k < min m n → (k < m) × (k < n)
-below_both h = (grind (arith, h), grind (arith, h))
 
 -- an end that has come, and one that has not
 pub not_none : {A : Type 0} {x : A} (o : Option A) → o ≡ Some x → IsNone o → ⊥

@@ -4,9 +4,7 @@ use Rattle.std.proofs.Math.Nat.{div-mul-le_self}
 use Rattle.std.proofs.Math.Seq.{get_or-append_seam, take-add, take-append_seam, take-length}
 use Rattle.std.proofs.lemmas.List.{drop-append-le, drop-drop, drop-take, drop_more, get_or-drop, get_or_append_left, take_more}
 use Rattle.std.proofs.lemmas.Option.{get_or_from_slice_get, slice_get_within}
-use Rattle.std.proofs.lemmas.Bool.Decides.{nat_tests}
-use Rattle.std.proofs.lemmas.List.Elements.{All-cons, All-nil}
-use Rattle.sedspace.proofs.StreamLemmas.{HasNoNewline-append}
+use Rattle.std.proofs.lemmas.List.Elements.{All-nil}
 use Rattle.std.specs.Prelude.{IfSome, OnOk, slice_get}
 use Rattle.std.specs.Borrow.{GName}
 use Rattle.std.specs.List.{All}
@@ -14,37 +12,38 @@ use Rattle.std.specs.Option.{option_map}
 use Rattle.std.specs.Io.KnownBytes.{prepend_known}
 use Rattle.sedre.specs.Tree.{WrittenExpression}
 use Rattle.sedspace.specs.Lines.{is_newline, split_lines, HasNoNewline}
-use Rattle.sedspace.specs.Stream.{AreWholeLines}
-use Rattle.sedspace.specs.Stream.{Stream, left, lines_left}
+use Rattle.sedspace.specs.Stream.{AreWholeLines, Stream, left, lines_left}
 use Rattle.sedspace.proofs.LineLemmas.{lines_at, lines_nil, lines_none}
 use Rattle.sedspace.proofs.WholeLemmas.{whole_then}
-use Rattle.sedengine.specs.State.{begin, do_at, Setting, finds_in}
-use Rattle.sedengine.specs.Move.{newline, none_left, to_sink}
-use Rattle.sedengine.specs.Meters.{Sent, SinkView}
-use Rattle.sedengine.specs.Ends.{WithinLimits, named_sink}
-use Rattle.sedengine.specs.Calls.{ReadsLines}
-use Rattle.sedengine.specs.Steps.{weight}
-use Rattle.sedengine.specs.Run.{RunState, SameRun, at_lines, run_setting, FailedSource}
-use Rattle.sedengine.specs.Passing.{AllowsLines, BlockLeftAlone, BreaksOff, BreaksOffBy, ClearTo, AsksNoNumber, IsExtent, IsIdleOf, IsLineOf, PassesLinesOver, RangesIdle, StepsPassing, PutsLines, bytes_of_lines, counted_block, engine_after, judged, line_brought}
-use Rattle.sedengine.specs.Inside.{IsConsistent, entries_of, run_state_of}
-use Rattle.sedengine.specs.declared.block.Extent.{Extent}
-use Rattle.sedengine.specs.declared.idle.Idle.{Idle}
-use Rattle.sedengine.specs.declared.meter.CutShort.{CutShort}
+use Rattle.sedacts.specs.State.{begin, do_at, Setting, finds_in}
+use Rattle.sedacts.specs.Move.{newline, none_left, to_sink}
+use Rattle.sedacts.specs.Meters.{WereSent, SinkView}
+use Rattle.sedacts.specs.Ends.{WithinLimits, named_sink}
+use Rattle.sedacts.specs.Calls.{ReadsLines}
+use Rattle.sedengine.specs.Advancing.{weight}
+use Rattle.sedacts.specs.Run.{RunState, SameRun, at_lines, run_setting, FailedSource}
+use Rattle.sedengine.specs.Passing.{AllowsLines, BlockLeftAlone, BreaksOff, BreaksOffBy, PassesLinesOver, StepsPassing, PutsLines, counted_block, engine_after, line_brought}
+use Rattle.sedacts.specs.Idle.{ClearTo, AsksNoNumber, IsExtent, IsIdleOf, IsLineOf, RangesIdle, bytes_of_lines, judged}
+use Rattle.sedengine.specs.Inside.{IsConsistent, run_state_of}
+use Rattle.sedacts.specs.Keeping.{entries_of}
+use Rattle.sedacts.specs.declared.block.Extent.{Extent}
+use Rattle.sedacts.specs.declared.idle.Idle.{Idle}
+use Rattle.sedacts.specs.declared.meter.CutShort.{CutShort}
 use Rattle.sedengine.specs.declared.machine.Machine.TheInside.{Inside}
-use Rattle.sedspace.specs.Spaces.{Contents}
+use Rattle.sedspace.specs.Spaces.{SpaceView}
 use Rattle.sedengine.specs.declared.next_step.NextStep.TheVariants as p
-use Rattle.sedengine.specs.declared.ends.Ended.{Ended}
-use Rattle.sedengine.specs.declared.ends.Ended.TheVariants.{InputBroken}
+use Rattle.sedacts.specs.declared.ends.Ended.{Ended}
+use Rattle.sedacts.specs.declared.ends.Ended.TheVariants.{InputBroken}
 use Rattle.sedengine.specs.declared.machine.passing.IdleLines.{IdleLines}
-use Rattle.sedengine.proofs.Gains.{take-to_sink}
-use Rattle.sedengine.proofs.Fitting.{sought}
-use Rattle.sedengine.proofs.Moves.{after_none, within_none, written_none}
-use Rattle.sedengine.proofs.Sending.{Sent-none}
-use Rattle.sedengine.proofs.Streams.{TakesAtMost-none, lines_same}
-use Rattle.sedengine.proofs.BlockLemmas.{block_bytes, block_parts, block_short}
+use Rattle.sedacts.proofs.Gains.{take-to_sink}
+use Rattle.sedacts.proofs.Fitting.{sought}
+use Rattle.sedacts.proofs.Moves.{after_none, within_none, written_none}
+use Rattle.sedacts.proofs.Sending.{WereSent-none}
+use Rattle.sedacts.proofs.Streams.{TakesAtMost-none, lines_same}
+use Rattle.sedacts.proofs.BlockLemmas.{block_bytes, block_parts, block_short, start_before}
 use Rattle.sedengine.proofs.PassingLemmas.{program_finds}
 use Rattle.sedengine.proofs.PassingRuns.{block_passed, block_broken}
-use Rattle.sedengine.proofs.Walking.{fewer_clear}
+use Rattle.sedacts.proofs.Walking.{fewer_clear}
 
 mul_le : (a b k : ℕ) → a ≤ b → a * k ≤ b * k
 mul_le a b k less = let h = mul-le-mul_left k less in rw (mul_comm a k, mul_comm b k) h
@@ -88,7 +87,7 @@ some_left bytes some = some_of (split_lines bytes) (λ none. let no = ap length 
 -- a block that is passed over is left alone, whatever comes after what is ahead
 alone_of : (e : RunState) (files : ℕ → List ℕ) (ahead xs : List ℕ) (b : IdleLines) → PassesLinesOver e ahead b → BlockLeftAlone (run_setting e files) b.reached e.state.number (split_lines (take b.bytes ahead)) (split_lines (drop b.bytes ahead ++ xs))
 alone_of e files ahead xs b h = record {
-  matches = h.matches;
+  unmatched = h.unmatched;
   numbers = λ n asked. subst (λ (k : ℕ). (n ≤ e.state.number) ⊎ (e.state.number + k < n)) h.count (h.clear n asked);
   last = λ asked. let more = h.last asked in some_left (drop b.bytes ahead ++ xs) (omega (arith, more, length-drop b.bytes ahead, length-append (drop b.bytes ahead) xs));
 }
@@ -123,7 +122,7 @@ passes_fewer e ahead w b n h fewer is whole some =
       short = omega (arith, h.short, fewer);
       turns = omega (arith, h.turns, cost);
       clear = λ k asked. fewer_clear k e.state.number b.lines (length (split_lines w)) few (h.clear k asked);
-      matches = λ x asked. subst (λ (w : List ℕ). All (λ line. finds_in e.script.expressions x line ≡ false) (split_lines w)) is (All-first (λ line. finds_in e.script.expressions x line ≡ false) (split_lines w) (split_lines rest) (subst (λ (ls : List (List ℕ)). All (λ line. finds_in e.script.expressions x line ≡ false) ls) all (h.matches x asked)));
+      unmatched = λ x asked. subst (λ (w : List ℕ). All (λ line. finds_in e.script.expressions x line ≡ false) (split_lines w)) is (All-first (λ line. finds_in e.script.expressions x line ≡ false) (split_lines w) (split_lines rest) (subst (λ (ls : List (List ℕ)). All (λ line. finds_in e.script.expressions x line ≡ false) ls) all (h.unmatched x asked)));
       last = λ asked. let more = h.last asked in omega (arith, more, fewer);
     }
 
@@ -131,7 +130,7 @@ passes_fewer e ahead w b n h fewer is whole some =
 pub nothing_passed : {R : Type 0} (remaining : R → Option (List ℕ)) (from : Stream R) (ls : List (List ℕ)) (e e' : RunState) (g : Setting) (sinks : SinkView) → lines_left remaining from ≡ Some ls → WithinLimits e.limits (at_lines e ls) → e' ≡ e →
     StepsPassing remaining from from ls e.limits g (at_lines e ls) e' sinks sinks (Ok tt)
 nothing_passed {R} remaining from ls e e' g sinks known fits same =
-    rw same (ls, lines_same remaining from ls known, record { t = 0; is = after_none g (at_lines e ls); within = within_none e.limits g (at_lines e ls) fits; sinks = rw written_none (Sent-none sinks) })
+    rw same (ls, lines_same remaining from ls known, record { t = 0; is = after_none g (at_lines e ls); within = within_none e.limits g (at_lines e ls) fits; sinks = rw written_none (WereSent-none sinks) })
 
 same_engine : (e : RunState) (files : ℕ → List ℕ) (b : IdleLines) (k : ℕ) → b.judged ≡ judged e.script.commands e.script.substitutions b.reached → b.lines ≡ k → engine_after e (run_setting e files) b.reached k ≡ counted_block e b
 same_engine e files b k used count = cc
@@ -139,7 +138,7 @@ same_engine e files b k used count = cc
 -- A block of the lines ahead was passed over.
 pub passes : {R : Type 0} (remaining : R → Option (List ℕ)) (from to : Stream R) (ls : List (List ℕ)) (e e' : RunState) (files : ℕ → List ℕ) (b : IdleLines) (old new : SinkView) →
     lines_left remaining from ≡ Some ls → PassesLinesOver e from.ahead b → WithinLimits e.limits (at_lines e ls) → e.state.tasks ≡ begin ∷ [] → e.state.pattern ≡ [] → to ≡ record from { ahead = drop b.bytes from.ahead } → e' ≡ counted_block e b →
-    Sent old new (cond e.script.quiet [] (to_sink 0 (take b.bytes from.ahead))) → StepsPassing remaining from to ls e.limits (run_setting e files) (at_lines e ls) e' old new (Ok tt)
+    WereSent old new (cond e.script.quiet [] (to_sink 0 (take b.bytes from.ahead))) → StepsPassing remaining from to ls e.limits (run_setting e files) (at_lines e ls) e' old new (Ok tt)
 passes {R} remaining from to ls e e' files b old new known h fits begins empty taken counted sent =
     let n : ℕ = b.bytes in
     let w : List ℕ = take n from.ahead in
@@ -158,12 +157,12 @@ passes {R} remaining from to ls e e' files b old new known h fits begins empty t
     (record { fits = record { pattern = fits.pattern; hold = fits.hold; queue = fits.queue; turns = fits.turns }; begins = begins; empty = empty; none = h.none; ranges = h.ranges })
     (subst (λ (w : List ℕ). BlockLeftAlone (run_setting e files) b.reached e.state.number (split_lines w) (split_lines bytes)) p.1 (alone_of e files from.ahead k.0 b h))
     (block_short p.0 e.limits.space size) (subst (λ (k : ℕ). e.state.turns + k * (b.reached + 1) ≤ e.limits.turns) count h.turns)
-    (subst (λ (w : List ℕ). Sent old new (cond e.script.quiet [] (to_sink 0 w))) p.1 sent)))
+    (subst (λ (w : List ℕ). WereSent old new (cond e.script.quiet [] (to_sink 0 w))) p.1 sent)))
 
 -- A sink took no more within a block.
 pub breaks : {R : Type 0} (remaining : R → Option (List ℕ)) (from to : Stream R) (ls : List (List ℕ)) (e e' : RunState) (files : ℕ → List ℕ) (b : IdleLines) (done : ℕ) (old new : SinkView) (end : Ended) →
     lines_left remaining from ≡ Some ls → PassesLinesOver e from.ahead b → WithinLimits e.limits (at_lines e ls) → e.state.tasks ≡ begin ∷ [] → e.state.pattern ≡ [] → (x : BreaksOff from to e e' done) → x.start + length x.line < b.bytes → done < b.bytes →
-    e.script.quiet ≡ false → Sent old new (to_sink 0 (take done (take b.bytes from.ahead))) → named_sink end ≡ Some 0 → StepsPassing remaining from to ls e.limits (run_setting e files) (at_lines e ls) e' old new (Err end)
+    e.script.quiet ≡ false → WereSent old new (to_sink 0 (take done (take b.bytes from.ahead))) → named_sink end ≡ Some 0 → StepsPassing remaining from to ls e.limits (run_setting e files) (at_lines e ls) e' old new (Err end)
 breaks {R} remaining from to ls e e' files b done old new end known h fits begins empty x ends less loud sent names =
     let n : ℕ = x.start + length x.line + 1 in
     let first : List ℕ = take x.start from.ahead in
@@ -190,9 +189,9 @@ breaks {R} remaining from to ls e e' files b done old new end known h fits begin
     let all : ls ≡ split_lines (p ++ 10 ∷ []) ++ split_lines (x.rest ++ k.0) =
     k.2 ∙ ap (λ a. split_lines (a ++ k.0)) are ∙ ap split_lines (append_assoc (p ++ 10 ∷ []) x.rest k.0) ∙ whole_then (p ++ 10 ∷ []) (x.rest ++ k.0) (inr (p, refl)) in
     let piece : take done (take b.bytes from.ahead) ≡ take done from.ahead = take-take done b.bytes from.ahead (omega (arith, less)) in
-    let took : Sent old new (take (length (bytes_of_lines (split_lines first)) + d) (to_sink 0 ((p ++ 10 ∷ []) ++ x.rest))) =
-    subst (λ (k : ℕ). Sent old new (take k (to_sink 0 ((p ++ 10 ∷ []) ++ x.rest)))) at (subst (λ (a : List ℕ). Sent old new (take done (to_sink 0 a))) are
-    (subst (λ (o : List (ℕ × ℕ)). Sent old new o) (ap (to_sink 0) piece ∙ sym (take-to_sink 0 done from.ahead)) sent)) in
+    let took : WereSent old new (take (length (bytes_of_lines (split_lines first)) + d) (to_sink 0 ((p ++ 10 ∷ []) ++ x.rest))) =
+    subst (λ (k : ℕ). WereSent old new (take k (to_sink 0 ((p ++ 10 ∷ []) ++ x.rest)))) at (subst (λ (a : List ℕ). WereSent old new (take done (to_sink 0 a))) are
+    (subst (λ (o : List (ℕ × ℕ)). WereSent old new o) (ap (to_sink 0) piece ∙ sym (take-to_sink 0 done from.ahead)) sent)) in
     let short : length (p ++ 10 ∷ []) ≤ e.limits.space = omega (arith, long, ends, h.short) in
     let alone : BlockLeftAlone (run_setting e files) b.reached e.state.number (split_lines (p ++ 10 ∷ [])) (split_lines (x.rest ++ k.0)) =
     subst (λ (r : List ℕ). BlockLeftAlone (run_setting e files) b.reached e.state.number (split_lines (p ++ 10 ∷ [])) (split_lines (r ++ k.0))) rest_left
@@ -271,8 +270,8 @@ pub found_lines : (a : Inside) (e : RunState) (ahead : List ℕ) (i : Idle) (mos
 found_lines a e ahead i most seen end whole x was known is allowed inside space low clear whole_low wholes last extent some =
     let Q : RunState → Type 0 = λ e. AllowsLines e i.reached most → PassesLinesOver e ahead (record { bytes = x.bytes; lines = x.lines; reached = i.reached; judged = i.judged }) in
     subst Q was (λ allowed.
-    let told : IfSome (Some i) (IsIdleOf a.script) = subst (λ (o : Option Idle). IfSome o (IsIdleOf a.script)) is known.idle in
-    let d = told.describes in
+    let shown : IfSome (Some i) (IsIdleOf a.script) = subst (λ (o : Option Idle). IfSome o (IsIdleOf a.script)) is known.idle in
+    let d = shown.describes in
     let size : length (take whole ahead) ≡ whole = length-take-le whole ahead (omega (arith, whole_low, low, inside)) in
     let bytes_low : x.bytes ≤ whole = omega (arith, extent.within, size) in
     let same : take x.bytes (take whole ahead) ≡ take x.bytes ahead = take-take x.bytes whole ahead bytes_low in
@@ -287,8 +286,8 @@ found_lines a e ahead i most seen end whole x was known is allowed inside space 
       ranges = allowed.ranges;
       none = allowed.none;
       judged = d.judged;
-      one = told.judged;
-      few = told.few;
+      one = shown.judged;
+      few = shown.few;
       some = positive x.lines some;
       within = omega (arith, bytes_low, whole_low, low, inside);
       whole = ends;
@@ -296,7 +295,7 @@ found_lines a e ahead i most seen end whole x was known is allowed inside space 
       short = omega (arith, bytes_low, whole_low, low, space);
       turns = omega (arith, few, allowed.turns);
       clear = λ n asked. fewer_clear n a.number most x.lines extent.few (allowed.clear n asked);
-      matches = λ k asked. subst (λ (ms : List WrittenExpression). All (λ line. finds_in ms k line ≡ false) (split_lines (take x.bytes ahead))) sought_is
+      unmatched = λ k asked. subst (λ (ms : List WrittenExpression). All (λ line. finds_in ms k line ≡ false) (split_lines (take x.bytes ahead))) sought_is
           (lines_clear a.matchers.items k (take seen ahead) (take x.bytes ahead) (take (seen - x.bytes) (drop x.bytes ahead)) end (clear k (d.expressions k asked)) parts (omega (arith, long, bytes_low, whole_low)) ends);
       last = λ asked. some_behind (last (d.last asked)) (positive x.lines some) count bytes_low;
     }) allowed
@@ -356,14 +355,6 @@ newline_after ahead start n done within is clear = λ less.
     let at : get_or (drop start (take done ahead)) n 0 ≡ 10 = get_or-drop start (take done ahead) n 0 ∙ get_or-take done ahead (start + n) 0 less ∙ is in
     let wrong : true ≡ false = ap is_newline (sym at) ∙ here in cc
 
-not_newline : (b : ℕ) → (b ≡ 10 → ⊥) → is_newline b ≡ false
-not_newline b h = grind (arith, nat_tests)
-
--- one byte more that is no newline
-pub no_newline_more : (xs : List ℕ) (i : ℕ) → i < length xs → HasNoNewline (take i xs) → (get_or xs i 0 ≡ 10 → ⊥) → HasNoNewline (take (i + 1) xs)
-no_newline_more xs i less h other =
-    subst HasNoNewline (sym (take_more xs i 0 less)) (HasNoNewline-append (take i xs) (get_or xs i 0 ∷ []) h (All-cons (λ b. is_newline b ≡ false) (get_or xs i 0) [] (not_newline (get_or xs i 0) other) (All-nil (λ b. is_newline b ≡ false))))
-
 -- A sink took no more after `done` bytes of lines that end by `bytes`: the line of that place was brought.
 pub breaks_off : {R : Type 0} (old new : Stream R) (e e' : RunState) (start n done bytes : ℕ) → start ≤ done → done < bytes → bytes ≤ length old.ahead → AreWholeLines (take bytes old.ahead) → AreWholeLines (take start old.ahead) →
     HasNoNewline (drop start (take done old.ahead)) → HasNoNewline (take n (take (bytes - start) (drop start old.ahead))) → (n ≡ length (take (bytes - start) (drop start old.ahead))) ⊎ (slice_get (take (bytes - start) (drop start old.ahead)) n ≡ Some 10) →
@@ -403,17 +394,17 @@ breaks_off_seen {R} old new e e' ahead start n done bytes same before less withi
     (n ≡ length (take (bytes - start) (drop start w))) ⊎ (slice_get (take (bytes - start) (drop start w)) n ≡ Some 10) → e' ≡ line_brought e (take n (drop start w)) → BreaksOffBy old new e e' done bytes in
     subst P (sym same) (λ first rest clear ends brought. breaks_off old new e e' start n done bytes before less within whole first rest clear ends taken brought) first rest clear ends brought
 
-pub brought_is : (a : Inside) (e : RunState) (pattern : Contents) (k : ℕ) (line : List ℕ) → run_state_of a ≡ e → pattern.bytes ≡ line → k ≡ length a.script.commands → run_state_of (record a { pattern = pattern; next_step = p.Do k }) ≡ line_brought e line
+pub brought_is : (a : Inside) (e : RunState) (pattern : SpaceView) (k : ℕ) (line : List ℕ) → run_state_of a ≡ e → pattern.bytes ≡ line → k ≡ length a.script.commands → run_state_of (record a { pattern = pattern; next_step = p.Do k }) ≡ line_brought e line
 brought_is a e pattern k line seen bytes all =
     rw (← seen) (ap₂ (λ (b : List ℕ) (k : ℕ). record (run_state_of a) { state = record (run_state_of a).state { pattern = b; tasks = do_at k ∷ [] } }) bytes all)
 
 -- the same where the block was found under other names
 module _ {R : Type 0} (remaining : R → Option (List ℕ)) (from to : Stream R) (ls : List (List ℕ)) (e e₁ e' : RunState) (files : ℕ → List ℕ) (b : IdleLines) (ahead : List ℕ) where
   pub passes_seen : (old new : SinkView) → lines_left remaining from ≡ Some ls → e₁ ≡ e → ahead ≡ from.ahead → PassesLinesOver e ahead b → WithinLimits e.limits (at_lines e ls) → e.state.tasks ≡ begin ∷ [] → e.state.pattern ≡ [] →
-      to ≡ record from { ahead = drop b.bytes from.ahead } → e' ≡ counted_block e₁ b → Sent old new (cond e₁.script.quiet [] (to_sink 0 (take b.bytes ahead))) → StepsPassing remaining from to ls e.limits (run_setting e files) (at_lines e ls) e' old new (Ok tt)
+      to ≡ record from { ahead = drop b.bytes from.ahead } → e' ≡ counted_block e₁ b → WereSent old new (cond e₁.script.quiet [] (to_sink 0 (take b.bytes ahead))) → StepsPassing remaining from to ls e.limits (run_setting e files) (at_lines e ls) e' old new (Ok tt)
   passes_seen old new known same is h fits begins empty taken counted sent =
       passes remaining from to ls e e' files b old new known (subst (λ (w : List ℕ). PassesLinesOver e w b) is h) fits begins empty taken (counted ∙ ap (λ (e : RunState). counted_block e b) same)
-      (subst (λ (e : RunState). Sent old new (cond e.script.quiet [] (to_sink 0 (take b.bytes from.ahead)))) same (subst (λ (w : List ℕ). Sent old new (cond e₁.script.quiet [] (to_sink 0 (take b.bytes w)))) is sent))
+      (subst (λ (e : RunState). WereSent old new (cond e.script.quiet [] (to_sink 0 (take b.bytes from.ahead)))) same (subst (λ (w : List ℕ). WereSent old new (cond e₁.script.quiet [] (to_sink 0 (take b.bytes w)))) is sent))
 
   pub breaks_seen : (cut : CutShort) (old new : SinkView) → lines_left remaining from ≡ Some ls → e₁ ≡ e → ahead ≡ from.ahead → PassesLinesOver e ahead b → WithinLimits e.limits (at_lines e ls) → e.state.tasks ≡ begin ∷ [] → e.state.pattern ≡ [] →
       BreaksOffBy from to e₁ e' cut.done b.bytes → PutsLines old new e₁.script.quiet (take b.bytes ahead) (Err cut) → StepsPassing remaining from to ls e.limits (run_setting e files) (at_lines e ls) e' old new (Err cut.end)
@@ -422,7 +413,7 @@ module _ {R : Type 0} (remaining : R → Option (List ℕ)) (from to : Stream R)
       let loud : e.script.quiet ≡ false = subst (λ (e : RunState). e.script.quiet ≡ false) same wrote.0 in
       let over : PassesLinesOver e from.ahead b = subst (λ (w : List ℕ). PassesLinesOver e w b) is h in
       let less : cut.done < b.bytes = let low = wrote.1.0 in omega (arith, low, length-take b.bytes ahead) in
-      breaks remaining from to ls e e' files b cut.done old new cut.end known over fits begins empty x.0 x.1 less loud (subst (λ (w : List ℕ). Sent old new (to_sink 0 (take cut.done (take b.bytes w)))) is wrote.1.2) wrote.1.1
+      breaks remaining from to ls e e' files b cut.done old new cut.end known over fits begins empty x.0 x.1 less loud (subst (λ (w : List ℕ). WereSent old new (to_sink 0 (take cut.done (take b.bytes w)))) is wrote.1.2) wrote.1.1
 
 -- a sink that took no more is no input that failed
 no_input : (end : Ended) → named_sink end ≡ Some 0 → (r : Result Unit Ended) → r ≡ Err end → r ≡ Err InputBroken → ⊥
@@ -449,13 +440,6 @@ pub done_taken : (ahead all : List ℕ) (done bytes : ℕ) → ahead ≡ all →
 done_taken ahead all done bytes same less within =
     let size : length ahead ≡ length all = ap (λ (w : List ℕ). length w) same in
     sym (length-take-le done ahead (omega arith))
-
-pub start_before : (ahead : List ℕ) (start done : ℕ) → start ≤ length (take done ahead) → start ≤ done
-start_before ahead start done low = omega (arith, length-take done ahead)
-
--- whole lines of the first bytes are whole lines
-pub whole_first : (ahead : List ℕ) (start done : ℕ) → start ≤ length (take done ahead) → AreWholeLines (take start (take done ahead)) → AreWholeLines (take start ahead)
-whole_first ahead start done low = subst AreWholeLines (take-take start done ahead (start_before ahead start done low))
 
 pub start_low : (ahead : List ℕ) (start done bytes : ℕ) → start ≤ length (take done ahead) → done < bytes → start ≤ bytes
 start_low ahead start done bytes low less = let before = start_before ahead start done low in omega arith

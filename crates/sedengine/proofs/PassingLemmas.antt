@@ -18,29 +18,31 @@ use Rattle.sedscript.specs.declared.types.Action.{Action}
 use Rattle.sedscript.specs.declared.types.Action.TheVariants.{Block, Branch, Substitute}
 use Rattle.sedscript.specs.declared.types.BranchUse.TheVariants.{Always, IfReplaced}
 use Rattle.sedscript.specs.declared.substitution.Substitution.{Substitution}
-use Rattle.sedengine.specs.State.{Limits, Task, begin, do_at, flush, empty_pattern, State, Move, Setting, search_for, setting_of, occurrence_at_span}
-use Rattle.sedengine.specs.Select.{CurrentLine, Selection, answer, selects, stands_for}
-use Rattle.sedengine.specs.Substitute.{Occurrence, each_occurrence, occurrences_from, to_replace}
-use Rattle.sedengine.specs.Move.{acts, after, begun_cycle, current_of, flushes, line_to, next_move, newline, none_left, goes_past, quietly, reach, having_reached, replaces, substitutes, writes_text_at, then_do, to_sink, writing, written}
-use Rattle.sedengine.specs.Meters.{Sent, SinkView}
-use Rattle.sedengine.specs.Ends.{BrokenOff, WithinLimits, Within, named_sink}
-use Rattle.sedengine.specs.Held.{HoldsAt, SameLengths}
-use Rattle.sedengine.specs.declared.ends.Ended.{Ended}
-use Rattle.sedengine.specs.declared.idle.Need.{Need}
-use Rattle.sedengine.specs.declared.idle.Need.TheVariants.{NoMatch, OtherNumber, NotLast, Nothing}
-use Rattle.sedengine.proofs.Writing.{slice_get-append_add}
-use Rattle.sedengine.specs.Passing.{need_of_address, need_of_substitution, need_of_action, need_of, behind_by, behind, place_at, need_at, judged_by, judged, IsIdleIn, judged_in, MeetsNeed, LeftAlone, AllLeftAlone, BlockLeftAlone, FindsAsItSearches, bytes_of_lines, passed_out, after_passing, moves_of, line_due, Went, CanPass, MovesLedTo, StoppedPassing}
-use Rattle.sedengine.proofs.Gains.{to_sink-append}
-use Rattle.sedengine.proofs.Moves.{after-add, written-add, Within-add, move_at, after_none}
-use Rattle.sedengine.specs.Choose.{performs, is_active}
+use Rattle.sedacts.specs.State.{Limits, Task, begin, do_at, flush, empty_pattern, State, Move, Setting, search_for, setting_of, occurrence_at_span}
+use Rattle.sedacts.specs.Select.{CurrentLine, Selection, answer, selects, stands_for}
+use Rattle.sedacts.specs.Substitute.{Occurrence, each_occurrence, occurrences_from, to_replace}
+use Rattle.sedacts.specs.Move.{acts, after, begun_cycle, current_of, flushes, line_to, next_move, newline, none_left, goes_past, quietly, reach, having_reached, replaces, substitutes, writes_text_at, then_do, to_sink, writing, written}
+use Rattle.sedacts.specs.Meters.{WereSent, SinkView}
+use Rattle.sedacts.specs.Ends.{BrokenOff, WithinLimits, StaysWithin, named_sink}
+use Rattle.sedacts.specs.Held.{HoldsAt, SameLengths}
+use Rattle.sedacts.specs.declared.ends.Ended.{Ended}
+use Rattle.sedacts.specs.declared.idle.Need.{Need}
+use Rattle.sedacts.specs.declared.idle.Need.TheVariants.{NoMatch, OtherNumber, NotLast, Nothing}
+use Rattle.sedacts.proofs.Writing.{slice_get-append_add}
+use Rattle.sedacts.specs.Idle.{need_of_address, need_of_substitution, need_of_action, need_of, behind_by, behind, place_at, need_at, judged_by, bytes_of_lines}
+use Rattle.sedengine.specs.Passing.{IsIdleIn, judged_in, MeetsNeed, LeftAlone, AllLeftAlone, BlockLeftAlone, FindsAsItSearches, passed_out, after_passing, moves_of, line_due, Went, CanPass, MovesLedTo, StoppedPassing}
+use Rattle.sedacts.proofs.Gains.{to_sink-append}
+use Rattle.sedacts.proofs.Moves.{after-add, written-add, StaysWithin-add, move_at, after_none}
+use Rattle.sedacts.specs.Choose.{performs, is_active}
 use Rattle.sedengine.specs.SubstituteCalls.{to_replace_in}
-use Rattle.sedengine.proofs.Occurrences.{with_rest}
-use Rattle.sedengine.specs.Steps.{at_end, WholeOrBrokenOff, next_or_stay, writes_of}
+use Rattle.sedacts.proofs.Occurrences.{with_rest}
+use Rattle.sedacts.specs.Steps.{at_end, WholeOrBrokenOff, next_or_stay, writes_of}
+use Rattle.sedacts.proofs.Walking.{judged_suc, judged_zero, place_suc, place_zero}
 
 pub went_on : (l : Limits) (g : Setting) (s m now : State) (out more : List (ℕ × ℕ)) (t u : ℕ) → Went l g s m out t → Went l g m now more u → Went l g s now (out ++ more) (t + u)
 went_on l g s m now out more t u a b =
     let c : Went l g (after g s t) now more u = rw a.is b in
-    record { is = after-add g s t u ∙ c.is; wrote = written-add g s t u ∙ ap₂ (λ x y. x ++ y) a.wrote c.wrote; within = Within-add l g s t u a.within c.within }
+    record { is = after-add g s t u ∙ c.is; wrote = written-add g s t u ∙ ap₂ (λ x y. x ++ y) a.wrote c.wrote; within = StaysWithin-add l g s t u a.within c.within }
 
 one_is : (g : Setting) (s : State) (m : Move) → next_move g s ≡ Some m → after g s 1 ≡ m.next
 unfolding after
@@ -54,8 +56,8 @@ none_or_one : (k : ℕ) → k ≤ 1 → (k ≡ 0) ⊎ (k ≡ 1)
 none_or_one zero h = inl refl
 none_or_one (suc k) h = inr (omega arith)
 
-one_within : (l : Limits) (g : Setting) (s : State) → WithinLimits l s → WithinLimits l (after g s 1) → Within l g s 1
-unfolding Within
+one_within : (l : Limits) (g : Setting) (s : State) → WithinLimits l s → WithinLimits l (after g s 1) → StaysWithin l g s 1
+unfolding StaysWithin
 one_within l g s f n = λ k h. elim (none_or_one k h) [ inl none ↦ rw (none, after_none g s) f | inr one ↦ rw one n ]
 
 -- one move
@@ -172,22 +174,6 @@ allows_of g number last line (Some need) some h = h need refl
 option_or-assoc : (a b c : Option ℕ) → option_or a (option_or b c) ≡ option_or (option_or a b) c
 option_or-assoc None b c = refl
 option_or-assoc (Some a) b c = refl
-
-pub place_zero : (cs : List Command) → place_at cs 0 ≡ 0
-unfolding place_at
-place_zero cs = refl
-
-pub place_suc : (cs : List Command) (j : ℕ) → place_at cs (suc j) ≡ behind (slice_get cs (place_at cs j)) (place_at cs j)
-unfolding place_at
-place_suc cs j = refl
-
-pub judged_zero : (cs : List Command) (ts : List Substitution) → judged cs ts 0 ≡ None
-unfolding judged
-judged_zero cs ts = refl
-
-pub judged_suc : (cs : List Command) (ts : List Substitution) (j : ℕ) → judged cs ts (suc j) ≡ option_or (judged_by (need_at cs ts j)) (judged cs ts j)
-unfolding judged
-judged_suc cs ts j = refl
 
 -- no state is changed but in what these are
 abbrev in_cycle : State → List ℕ → List (List ℕ) → Option ℕ → ℕ → List Task → State
@@ -335,14 +321,14 @@ block_left_alone g c number [] rest h = tt
 block_left_alone g c number (line ∷ lines) rest h = (
   alone,
   block_left_alone g c (number + 1) lines rest (record {
-    matches = λ e asked. All-tail (λ x. g.finds e x ≡ false) line lines (h.matches e asked);
+    unmatched = λ e asked. All-tail (λ x. g.finds e x ≡ false) line lines (h.unmatched e asked);
     numbers = λ n asked. later_line n number (length lines) (h.numbers n asked);
     last = h.last;
   }),
 )
   where
     alone : LeftAlone g c (number + 1) (none_left (lines ++ rest)) line
-    alone (NoMatch e) asked = All-head (λ x. g.finds e x ≡ false) line lines (h.matches e asked)
+    alone (NoMatch e) asked = All-head (λ x. g.finds e x ≡ false) line lines (h.unmatched e asked)
     alone (OtherNumber n) asked = other_line n number (length lines) (h.numbers n asked)
     alone NotLast asked = left-append lines rest (h.last asked)
     alone Nothing asked = tt
@@ -370,7 +356,7 @@ alone-append g c number (line ∷ before) lines rest h =
     ((one, more.0), subst (λ (n : ℕ). AllLeftAlone g c n lines rest) same more.1)
 
 went_fits : (l : Limits) (g : Setting) (s now : State) (out : List (ℕ × ℕ)) (t : ℕ) → Went l g s now out t → WithinLimits l now
-unfolding Within
+unfolding StaysWithin
 went_fits l g s now out t h = subst (λ (x : State). WithinLimits l x) h.is (h.within t (omega arith))
 
 same_due : (s : State) (line : List ℕ) (rest : List (List ℕ)) (number number' : ℕ) (used used' : Option ℕ) (turns turns' : ℕ) → number ≡ number' → used ≡ used' → turns ≡ turns' →
@@ -412,7 +398,7 @@ out_parts before line more =
 -- A sink took no more in the move after those that lead to the state a, which writes this line.
 stopped_printing : (l : Limits) (g : Setting) (s a b now : State) (out tail : List (ℕ × ℕ)) (line : List ℕ) (t n d : ℕ) (old new : SinkView) (end : Ended) →
     Went l g s a out t → next_move g a ≡ writing (line_to 0 line) b → WithinLimits l b → length out ≡ n → d ≤ length line →
-    Sent old new (take (n + d) ((out ++ line_to 0 line) ++ tail)) → named_sink end ≡ Some 0 → SameLengths a now → a.lines ≡ now.lines → StoppedPassing l g s now old new end
+    WereSent old new (take (n + d) ((out ++ line_to 0 line) ++ tail)) → named_sink end ≡ Some 0 → SameLengths a now → a.lines ≡ now.lines → StoppedPassing l g s now old new end
 stopped_printing l g s a b now out tail line t n d old new end went is fits long inside took names same lines =
     let piece : List (ℕ × ℕ) = line_to 0 line in
     let next : Went l g s b (out ++ piece) (t + 1) = went_on l g s a b out piece t 1 went (went_one l g a b piece (went_fits l g s a out t went) is fits) in
@@ -472,7 +458,7 @@ module _ (l : Limits) (g : Setting) (c : ℕ) (finds : FindsAsItSearches g) (idl
   pub broken_block : (s : State) (can : CanPass l g c s) (before : List (List ℕ)) (line : List ℕ) (more rest : List (List ℕ)) (now : State) (d : ℕ) (old new : SinkView) (end : Ended) →
       s.lines ≡ (before ++ line ∷ more) ++ rest → AllLeftAlone g c s.number (before ++ line ∷ more) rest → All (λ x. length x ≤ l.space) (before ++ line ∷ more) →
       s.turns + length before * (c + 1) + 1 + c ≤ l.turns → g.quiet ≡ false → d ≤ length line →
-      Sent old new (take (length (bytes_of_lines before) + d) (to_sink 0 (bytes_of_lines (before ++ line ∷ more)))) → named_sink end ≡ Some 0 →
+      WereSent old new (take (length (bytes_of_lines before) + d) (to_sink 0 (bytes_of_lines (before ++ line ∷ more)))) → named_sink end ≡ Some 0 →
       SameLengths (line_due g c (length before) line (more ++ rest) s) now → now.lines ≡ more ++ rest → StoppedPassing l g s now old new end
   broken_block s can before line more rest now d old new end is alone shorts turns loud inside took names same lines =
       let parts = alone-append g c s.number before (line ∷ more) rest alone in
@@ -487,9 +473,9 @@ module _ (l : Limits) (g : Setting) (c : ℕ) (finds : FindsAsItSearches g) (idl
       let fits = went_fits l g s a (passed_out false before) (length before * moves_of c + (c + 2)) went' in
       stopped_printing l g s a b now (passed_out false before) (passed_out false more) line (length before * moves_of c + (c + 2)) (length (bytes_of_lines before)) d old new end
       went' prints_it (record { pattern = fits.pattern; hold = fits.hold; queue = fits.queue; turns = fits.turns }) (length-to_sink 0 (bytes_of_lines before)) inside
-      (subst (λ (w : List (ℕ × ℕ)). Sent old new (take (length (bytes_of_lines before) + d) w)) (out_parts before line more) took) names same (sym lines)
+      (subst (λ (w : List (ℕ × ℕ)). WereSent old new (take (length (bytes_of_lines before) + d) w)) (out_parts before line more) took) names same (sym lines)
 
 -- lines of which all that they write was written are passed over
-pub all_passed : (l : Limits) (g : Setting) (s now : State) (out : List (ℕ × ℕ)) (t : ℕ) (old new : SinkView) → Went l g s now out t → Sent old new out → MovesLedTo l g s now old new
+pub all_passed : (l : Limits) (g : Setting) (s now : State) (out : List (ℕ × ℕ)) (t : ℕ) (old new : SinkView) → Went l g s now out t → WereSent old new out → MovesLedTo l g s now old new
 all_passed l g s now out t old new went took =
-    record { t = t; is = went.is; within = went.within; sinks = subst (λ (w : List (ℕ × ℕ)). Sent old new w) (sym went.wrote) took }
+    record { t = t; is = went.is; within = went.within; sinks = subst (λ (w : List (ℕ × ℕ)). WereSent old new w) (sym went.wrote) took }

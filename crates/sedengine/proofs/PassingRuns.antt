@@ -8,26 +8,27 @@ use Rattle.std.specs.Option.{option_map}
 use Rattle.sedspace.specs.Lines.{split_lines}
 use Rattle.sedspace.specs.Reading.{TakesAtMost}
 use Rattle.sedspace.specs.Stream.{Stream, left}
-use Rattle.sedengine.specs.State.{Limits, State, Setting}
-use Rattle.sedengine.specs.Move.{after, to_sink, written}
-use Rattle.sedengine.specs.Meters.{Sent, SinkView}
-use Rattle.sedengine.specs.Ends.{named_sink, LosesPartAfter, size_of}
+use Rattle.sedacts.specs.State.{Limits, State, Setting}
+use Rattle.sedacts.specs.Move.{after, to_sink, written}
+use Rattle.sedacts.specs.Meters.{WereSent, SinkView}
+use Rattle.sedacts.specs.Ends.{named_sink, LosesPartAfter, size_of}
 use Rattle.std.specs.Io.KnownBytes.{prepend_known}
 use Rattle.std.proofs.KnownBytes.{prepend_known-nil}
-use Rattle.sedengine.specs.Run.{SameRun, RunState, run_setting, at_lines, lost, input_of, Ending}
-use Rattle.sedengine.specs.DevicesAfter.{more_at}
-use Rattle.sedengine.specs.Steps.{TakesLines}
-use Rattle.sedengine.specs.Passing.{IsIdleIn, AllLeftAlone, BlockLeftAlone, FindsAsItSearches, bytes_of_lines, passed_out, moves_of, CanPass, MovesLedTo, HaltedPassing, StepsPassing, engine_after}
-use Rattle.sedengine.specs.declared.ends.Ended.{Ended}
-use Rattle.sedengine.specs.declared.ends.Ended.TheVariants.{PatternFull, InputBroken}
-use Rattle.sedengine.proofs.Sending.{Sent-append}
-use Rattle.sedengine.proofs.Streams.{LosesPartAfter-bytes, LosesPartAfter-then, TakesLines-then, size_of-append}
-use Rattle.sedengine.proofs.Moves.{after-add, written-add, Within-add, Cause-add, HoldsAt-add}
+use Rattle.sedacts.specs.Run.{SameRun, RunState, run_setting, at_lines, lost, input_of, CameToEnd}
+use Rattle.sedacts.specs.DevicesAfter.{more_at}
+use Rattle.sedacts.specs.Bringing.{TakesLines}
+use Rattle.sedengine.specs.Passing.{IsIdleIn, AllLeftAlone, BlockLeftAlone, FindsAsItSearches, passed_out, moves_of, CanPass, MovesLedTo, HaltedPassing, StepsPassing, engine_after}
+use Rattle.sedacts.specs.Idle.{bytes_of_lines}
+use Rattle.sedacts.specs.declared.ends.Ended.{Ended}
+use Rattle.sedacts.specs.declared.ends.Ended.TheVariants.{PatternFull, InputBroken}
+use Rattle.sedacts.proofs.Sending.{WereSent-append}
+use Rattle.sedacts.proofs.Streams.{LosesPartAfter-bytes, LosesPartAfter-then, TakesLines-then, size_of-append}
+use Rattle.sedacts.proofs.Moves.{after-add, written-add, StaysWithin-add, Cause-add, HoldsAt-add}
 use Rattle.sedengine.proofs.Runs.{Reached, same_setting, without_lines, takes_of, lost_more}
 use Rattle.sedspace.proofs.WholeLemmas.{some_lines}
-use Rattle.sedengine.proofs.BlockLemmas.{block_bytes, length-bytes_of}
+use Rattle.sedacts.proofs.BlockLemmas.{block_bytes, length-bytes_of}
 use Rattle.sedengine.proofs.PassingLemmas.{idle_block, broken_block, block_left_alone, all_passed, bytes_of-append, length-to_sink}
-use Rattle.sedengine.proofs.Gains.{to_sink-append}
+use Rattle.sedacts.proofs.Gains.{to_sink-append}
 
 -- The run that began with the engine a and the lines `from`, and came to the engine e.
 module _ {R : Type 0} (remaining : R → Option (List ℕ)) (from at to : Stream R) (files : ℕ → List ℕ) (a : RunState) (s : State) (e : RunState) (old mid new : SinkView) (same : SameRun a e)
@@ -51,14 +52,14 @@ module _ {R : Type 0} (remaining : R → Option (List ℕ)) (from at to : Stream
         rest = rest;
         taken = TakesLines-then remaining from at to s.lines r.rest rest r.taken taken;
         is = after-add g s r.t h.t ∙ h.is;
-        within = Within-add a.limits g s r.t h.t r.within h.within;
-        gained = rw written-add (Sent-append r.gained h.sinks);
+        within = StaysWithin-add a.limits g s r.t h.t r.within h.within;
+        gained = rw written-add (WereSent-append r.gained h.sinks);
       }
 
   -- it ends
   abbrev pub pass_stop : (e' : RunState) (end : Ended) → StepsPassing remaining at to r.rest e.limits (run_setting e files) (at_lines e r.rest) e' mid new (Err end) →
       (k : ℕ) × TakesAtMost (remaining from.source) (remaining to.source) k → length to.ahead ≤ max (length from.ahead) from.read_ahead → from.read_ahead ≡ a.limits.look → (end ≡ InputBroken → to.ahead ≡ []) →
-      (out : List (ℕ × ℕ)) × Sent old new out × Ending a.limits (run_setting a files) s out (input_of remaining from) (input_of remaining to) e'.state end
+      (out : List (ℕ × ℕ)) × WereSent old new out × CameToEnd a.limits (run_setting a files) s out (input_of remaining from) (input_of remaining to) e'.state end
   pass_stop e' end halted shrinks ahead look drained =
       let g : Setting = run_setting a files in
       let h = passing_halted_on e' end halted in
@@ -69,11 +70,11 @@ module _ {R : Type 0} (remaining : R → Option (List ℕ)) (from at to : Stream
       let sizes : size_of r.taken.lines + size_of h.lines ≤ size_of (r.taken.lines ++ h.lines) = let e = size_of-append r.taken.lines h.lines in omega arith in
       let all = LosesPartAfter-then (left remaining from) (left remaining at) (left remaining to) _ _ _ _ sizes r.taken.bytes h.bytes in (
         written g s r.t ++ h.stopped.out,
-        Sent-append r.gained h.stopped.sinks,
+        WereSent-append r.gained h.stopped.sinks,
         record {
           t = r.t + u;
           cause = Cause-add a.limits g s h.stopped.out end r.t u r.within h.stopped.cause;
-          takes = takes_of remaining from to a.limits g s (r.t + u) (lost a.limits end) (more_at a.limits end) (r.taken.lines ++ h.lines) are all shrinks (rw look at ahead) (lost_more a.limits end);
+          lines_taken = takes_of remaining from to a.limits g s (r.t + u) (lost a.limits end) (more_at a.limits end) (r.taken.lines ++ h.lines) are all shrinks (rw look at ahead) (lost_more a.limits end);
           broken = λ is.
               let L : Ended → Type 0 = λ end. LosesPartAfter (left remaining from) (left remaining to) (size_of (r.taken.lines ++ h.lines)) (lost a.limits end) in
               let all_left : left remaining to ≡ remaining to.source = ap (λ bs. prepend_known bs (remaining to.source)) (drained is) ∙ prepend_known-nil _ in
@@ -101,7 +102,7 @@ block_taken {R} remaining old new block bytes was is = record {
 
 -- the lines of a block, passed over
 pub lines_passed : (e : RunState) (g : Setting) (c : ℕ) (old new : SinkView) (block rest : List (List ℕ)) → 0 < length block → FindsAsItSearches g → IsIdleIn g c → CanPass e.limits g c (at_lines e (block ++ rest)) →
-    BlockLeftAlone g c e.state.number block rest → All (λ x. length x ≤ e.limits.space) block → e.state.turns + length block * (c + 1) ≤ e.limits.turns → Sent old new (passed_out g.quiet block) →
+    BlockLeftAlone g c e.state.number block rest → All (λ x. length x ≤ e.limits.space) block → e.state.turns + length block * (c + 1) ≤ e.limits.turns → WereSent old new (passed_out g.quiet block) →
     MovesLedTo e.limits g (at_lines e (block ++ rest)) (at_lines (engine_after e g c (length block)) rest) old new
 lines_passed e g c old new [] rest some finds idle can alone short turns took = absurd (omega arith)
 lines_passed e g c old new (line ∷ lines) rest some finds idle can alone short turns took =
@@ -111,13 +112,13 @@ lines_passed e g c old new (line ∷ lines) rest some finds idle can alone short
 pub block_passed : {R : Type 0} (remaining : R → Option (List ℕ)) (from to : Stream R) (block bytes : List ℕ) (e : RunState) (g : Setting) (c : ℕ) (old new : SinkView) →
     left remaining from ≡ Some ((block ++ 10 ∷ []) ++ bytes) → left remaining to ≡ Some bytes → FindsAsItSearches g → IsIdleIn g c →
     CanPass e.limits g c (at_lines e (split_lines (block ++ 10 ∷ []) ++ split_lines bytes)) → BlockLeftAlone g c e.state.number (split_lines (block ++ 10 ∷ [])) (split_lines bytes) →
-    All (λ x. length x ≤ e.limits.space) (split_lines (block ++ 10 ∷ [])) → e.state.turns + length (split_lines (block ++ 10 ∷ [])) * (c + 1) ≤ e.limits.turns → Sent old new (cond g.quiet [] (to_sink 0 (block ++ 10 ∷ []))) →
+    All (λ x. length x ≤ e.limits.space) (split_lines (block ++ 10 ∷ [])) → e.state.turns + length (split_lines (block ++ 10 ∷ [])) * (c + 1) ≤ e.limits.turns → WereSent old new (cond g.quiet [] (to_sink 0 (block ++ 10 ∷ []))) →
     StepsPassing remaining from to (split_lines (block ++ 10 ∷ []) ++ split_lines bytes) e.limits g (at_lines e (split_lines (block ++ 10 ∷ []) ++ split_lines bytes)) (engine_after e g c (length (split_lines (block ++ 10 ∷ [])))) old new (Ok tt)
 block_passed {R} remaining from to block bytes e g c old new was is finds idle can alone short turns took =
     let out : cond g.quiet [] (to_sink 0 (block ++ 10 ∷ [])) ≡ passed_out g.quiet (split_lines (block ++ 10 ∷ [])) = ap (λ bs. cond g.quiet [] (to_sink 0 bs)) (sym (block_bytes block)) in (
       split_lines bytes,
       block_taken remaining from to block bytes was is,
-      lines_passed e g c old new (split_lines (block ++ 10 ∷ [])) (split_lines bytes) (some_lines block []) finds idle can alone short turns (subst (λ (w : List (ℕ × ℕ)). Sent old new w) out took),
+      lines_passed e g c old new (split_lines (block ++ 10 ∷ [])) (split_lines bytes) (some_lines block []) finds idle can alone short turns (subst (λ (w : List (ℕ × ℕ)). WereSent old new w) out took),
     )
 
 -- an end that names a sink loses nothing
@@ -131,7 +132,7 @@ pub block_broken : {R : Type 0} (remaining : R → Option (List ℕ)) (from to :
     left remaining from ≡ Some ((block ++ 10 ∷ []) ++ (tail ++ bytes)) → left remaining to ≡ Some (tail ++ bytes) → split_lines (block ++ 10 ∷ []) ≡ before ++ line ∷ [] → FindsAsItSearches g → IsIdleIn g c →
     CanPass e.limits g c (at_lines e (split_lines (block ++ 10 ∷ []) ++ split_lines (tail ++ bytes))) → BlockLeftAlone g c e.state.number (split_lines (block ++ 10 ∷ [])) (split_lines (tail ++ bytes)) →
     All (λ x. length x ≤ e.limits.space) (split_lines (block ++ 10 ∷ [])) → e.state.turns + length (split_lines (block ++ 10 ∷ [])) * (c + 1) ≤ e.limits.turns → g.quiet ≡ false → d ≤ length line →
-    Sent old new (take (length (bytes_of_lines before) + d) (to_sink 0 ((block ++ 10 ∷ []) ++ tail))) → named_sink end ≡ Some 0 →
+    WereSent old new (take (length (bytes_of_lines before) + d) (to_sink 0 ((block ++ 10 ∷ []) ++ tail))) → named_sink end ≡ Some 0 →
     e'.state.pattern ≡ line → e'.state.hold ≡ e.state.hold → e'.state.queue ≡ e.state.queue →
     HaltedPassing remaining from to e.limits g (at_lines e (split_lines (block ++ 10 ∷ []) ++ split_lines (tail ++ bytes))) e' old new end
 block_broken {R} remaining from to block tail bytes e e' g c before line d old new end was is parts finds idle can alone short turns loud inside took names pattern hold queue =
@@ -151,7 +152,7 @@ block_broken {R} remaining from to block tail bytes e e' g c before line d old n
       rest = rest;
       stopped = broken_block e.limits g c finds idle s can before line [] rest (at_lines e' rest) d old new end (ap (λ ls. ls ++ rest) parts)
           (subst (λ (ls : List (List ℕ)). AllLeftAlone g c e.state.number ls rest) parts (block_left_alone g c e.state.number (split_lines (block ++ 10 ∷ [])) rest alone))
-          (subst (λ (ls : List (List ℕ)). All (λ x. length x ≤ e.limits.space) ls) parts short) enough loud inside (subst (λ (w : List (ℕ × ℕ)). Sent old new w) first took) names
+          (subst (λ (ls : List (List ℕ)). All (λ x. length x ≤ e.limits.space) ls) parts short) enough loud inside (subst (λ (w : List (ℕ × ℕ)). WereSent old new w) first took) names
           (record { pattern = ap length pattern; hold = ap length hold; queue = λ _. same_queue; entries = omega arith }) refl;
       lines = split_lines (block ++ 10 ∷ []);
       are = refl;

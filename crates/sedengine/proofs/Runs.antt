@@ -3,23 +3,25 @@ use Rattle.std.proofs.Common.{subst, ◌≡◌, ℕ, ◌<◌, ◌+◌, ◌≤◌
 use Rattle.std.specs.Prelude.{max}
 use Rattle.sedspace.specs.Stream.{Stream, left, lines_left}
 use Rattle.sedspace.specs.Reading.{TakesAtMost}
-use Rattle.sedengine.specs.State.{Limits, State, Setting, setting_of}
-use Rattle.sedengine.specs.Move.{after, written}
-use Rattle.sedengine.specs.Meters.{Sent, SinkView}
-use Rattle.sedengine.specs.Ends.{WithinLimits, Within, named_sink, size_of, LosesPartAfter}
-use Rattle.sedengine.specs.Held.{HoldsAt, SameLengths}
+use Rattle.sedacts.specs.State.{Limits, State, Setting, setting_of}
+use Rattle.sedacts.specs.Move.{after, written}
+use Rattle.sedacts.specs.Meters.{WereSent, SinkView}
+use Rattle.sedacts.specs.Ends.{WithinLimits, StaysWithin, named_sink, size_of, LosesPartAfter}
+use Rattle.sedacts.specs.Held.{HoldsAt, SameLengths}
 use Rattle.sedengine.specs.Inside.{run_state_of}
-use Rattle.sedengine.specs.Run.{SameRun, RunState, run_setting, at_lines, lost, input_of, TakesLeft, Ending, Cycled, InOneCycle, starts_cycle}
-use Rattle.sedengine.specs.DevicesAfter.{more_at}
-use Rattle.sedengine.specs.Steps.{Ran, TakesLines, Halted, StepsOf}
-use Rattle.sedengine.specs.declared.ends.Ended.{Ended}
+use Rattle.sedacts.specs.Run.{SameRun, RunState, run_setting, at_lines, lost, input_of, TakesLeft, CameToEnd, Cycled, InOneCycle, starts_cycle}
+use Rattle.sedacts.specs.DevicesAfter.{more_at}
+use Rattle.sedacts.specs.Steps.{Ran}
+use Rattle.sedacts.specs.Bringing.{TakesLines}
+use Rattle.sedengine.specs.Advancing.{Halted, StepsOf}
+use Rattle.sedacts.specs.declared.ends.Ended.{Ended}
 use Rattle.sedengine.specs.declared.machine.Machine.TheInside.{Inside}
-use Rattle.sedengine.specs.declared.ends.Ended.TheVariants.{InputBroken}
-use Rattle.sedengine.proofs.Sending.{Sent-append, Sent-none}
+use Rattle.sedacts.specs.declared.ends.Ended.TheVariants.{InputBroken}
+use Rattle.sedacts.proofs.Sending.{WereSent-append, WereSent-none}
 use Rattle.std.specs.Io.KnownBytes.{prepend_known}
 use Rattle.std.proofs.KnownBytes.{prepend_known-nil}
-use Rattle.sedengine.proofs.Streams.{LosesPartAfter-bytes, LosesPartAfter-takes, LosesPartAfter-then, TakesLines-then, TakesAtMost-more, source_takes, lines_same, size_of-append}
-use Rattle.sedengine.proofs.Moves.{after-add, written-add, Within-add, Cause-add, HoldsAt-add, InOneCycle-add, within_none, after_none, written_none}
+use Rattle.sedacts.proofs.Streams.{LosesPartAfter-bytes, LosesPartAfter-takes, LosesPartAfter-then, TakesLines-then, TakesAtMost-more, source_takes, lines_same, size_of-append}
+use Rattle.sedacts.proofs.Moves.{after-add, written-add, StaysWithin-add, Cause-add, HoldsAt-add, InOneCycle-add, within_none, after_none, written_none}
 
 same_without : (s : State) (e : RunState) (ls : List (List ℕ)) → SameLengths s (at_lines e ls) → SameLengths s e.state
 same_without s e ls h = record { pattern = h.pattern; hold = h.hold; queue = h.queue; entries = h.entries }
@@ -36,8 +38,8 @@ pub record Reached {R : Type 0} (remaining : R → Option (List ℕ)) (from at :
   pub rest : List (List ℕ)
   pub taken : TakesLines remaining from at s.lines rest
   pub is : after g s t ≡ at_lines e rest
-  pub within : Within l g s t
-  pub gained : Sent old new (written g s t)
+  pub within : StaysWithin l g s t
+  pub gained : WereSent old new (written g s t)
 
 abbrev pub Reached-none : {R : Type 0} (remaining : R → Option (List ℕ)) (from : Stream R) (l : Limits) (g : Setting) (e : RunState) (ls : List (List ℕ)) (sinks : SinkView) →
     lines_left remaining from ≡ Some ls → WithinLimits l (at_lines e ls) → Reached remaining from from l g (at_lines e ls) e sinks sinks
@@ -47,7 +49,7 @@ Reached-none {R} remaining from l g e ls sinks known f = record {
   taken = lines_same remaining from ls known;
   is = after_none g (at_lines e ls);
   within = within_none l g (at_lines e ls) f;
-  gained = rw written_none (Sent-none sinks);
+  gained = rw written_none (WereSent-none sinks);
 }
 
 pub same_setting : (old new : RunState) (files : ℕ → List ℕ) → SameRun old new → run_setting new files ≡ run_setting old files
@@ -99,13 +101,13 @@ module _ {R : Type 0} (remaining : R → Option (List ℕ)) (from at to : Stream
         rest = rest;
         taken = TakesLines-then remaining from at to s.lines r.rest rest r.taken taken;
         is = after-add g s r.t h.t ∙ h.is;
-        within = Within-add a.limits g s r.t h.t r.within h.within;
-        gained = rw written-add (Sent-append r.gained h.sinks);
+        within = StaysWithin-add a.limits g s r.t h.t r.within h.within;
+        gained = rw written-add (WereSent-append r.gained h.sinks);
       }
 
   abbrev pub stop_on : (e' : RunState) (end : Ended) → StepsOf remaining at to r.rest e.limits (run_setting e files) e e' mid new (Err end) →
       (k : ℕ) × TakesAtMost (remaining from.source) (remaining to.source) k → length to.ahead ≤ max (length from.ahead) from.read_ahead → from.read_ahead ≡ a.limits.look → (end ≡ InputBroken → to.ahead ≡ []) →
-      (out : List (ℕ × ℕ)) × Sent old new out × Ending a.limits (run_setting a files) s out (input_of remaining from) (input_of remaining to) e'.state end
+      (out : List (ℕ × ℕ)) × WereSent old new out × CameToEnd a.limits (run_setting a files) s out (input_of remaining from) (input_of remaining to) e'.state end
   stop_on e' end halted shrinks ahead look drained =
       let g : Setting = run_setting a files in
       let h = halted_on e' end halted in
@@ -116,11 +118,11 @@ module _ {R : Type 0} (remaining : R → Option (List ℕ)) (from at to : Stream
       let sizes : size_of r.taken.lines + size_of h.lines ≤ size_of (r.taken.lines ++ h.lines) = let e = size_of-append r.taken.lines h.lines in omega arith in
       let all = LosesPartAfter-then (left remaining from) (left remaining at) (left remaining to) _ _ _ _ sizes r.taken.bytes h.bytes in (
         written g s r.t ++ h.stopped.out,
-        Sent-append r.gained h.stopped.sinks,
+        WereSent-append r.gained h.stopped.sinks,
         record {
           t = r.t + u;
           cause = Cause-add a.limits g s h.stopped.out end r.t u r.within h.stopped.cause;
-          takes = takes_of remaining from to a.limits g s (r.t + u) (lost a.limits end) (more_at a.limits end) (r.taken.lines ++ h.lines) are all shrinks (rw look at ahead) (lost_more a.limits end);
+          lines_taken = takes_of remaining from to a.limits g s (r.t + u) (lost a.limits end) (more_at a.limits end) (r.taken.lines ++ h.lines) are all shrinks (rw look at ahead) (lost_more a.limits end);
           broken = λ is.
               let L : Ended → Type 0 = λ end. LosesPartAfter (left remaining from) (left remaining to) (size_of (r.taken.lines ++ h.lines)) (lost a.limits end) in
               let all_left : left remaining to ≡ remaining to.source = ap (λ bs. prepend_known bs (remaining to.source)) (drained is) ∙ prepend_known-nil _ in
@@ -160,6 +162,6 @@ cycled {R} remaining from to l g s e old new r some one starts shrinks ahead loo
         one = one;
         within = r.within;
         wrote = refl;
-        takes = takes_of remaining from to l g s r.t 0 l.look r.taken.lines are (LosesPartAfter-bytes _ _ _ r.taken.bytes) shrinks (rw look at ahead) (omega arith);
+        lines_taken = takes_of remaining from to l g s r.t 0 l.look r.taken.lines are (LosesPartAfter-bytes _ _ _ r.taken.bytes) shrinks (rw look at ahead) (omega arith);
       },
     )

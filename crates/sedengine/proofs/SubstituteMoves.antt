@@ -8,34 +8,35 @@ use Rattle.sedmatch.specs.SearchRoom.{FitInto, SearchRoom}
 use Rattle.sedmatch.specs.Occurrences.{KeepsRoom, RoomFor}
 use Rattle.sedmatch.specs.declared.occurrences.Occurrences.{Occurrences}
 use Rattle.sedscript.specs.declared.substitution.Substitution.{Substitution}
-use Rattle.sedspace.specs.Spaces.{Contents}
+use Rattle.sedspace.specs.Spaces.{SpaceView}
 use Rattle.sedspace.specs.declared.errors.Full.{Full}
-use Rattle.sedengine.specs.State.{Task, do_at, State, Move, Setting, search_in}
-use Rattle.sedengine.specs.Substitute.{Occurrence, to_replace, each_occurrence, replaced_from}
-use Rattle.sedengine.specs.Select.{stands_for}
-use Rattle.sedengine.specs.Move.{next_move, quietly, writing, replaces}
-use Rattle.sedengine.specs.Ends.{WithinLimits}
-use Rattle.sedengine.specs.Held.{SameLengths}
-use Rattle.sedengine.specs.Meters.{SinkView}
-use Rattle.sedengine.specs.Calls.{Puts}
-use Rattle.sedengine.specs.Run.{RunState, at_lines, run_setting}
-use Rattle.sedengine.specs.Steps.{Leads, reaches, line_at, ReachesCommand, Moves, MakesMove}
-use Rattle.sedengine.specs.SubstituteCalls.{written_by, written_of, Makes, ReplacesIn, same_but_replaced, to_replace_in}
-use Rattle.sedengine.specs.Fitting.{RoomToSeek}
+use Rattle.sedacts.specs.State.{Task, do_at, State, Move, Setting, search_in}
+use Rattle.sedacts.specs.Substitute.{Occurrence, to_replace, each_occurrence, replaced_from}
+use Rattle.sedacts.specs.Select.{stands_for}
+use Rattle.sedacts.specs.Move.{next_move, quietly, writing, replaces}
+use Rattle.sedacts.specs.Ends.{WithinLimits}
+use Rattle.sedacts.specs.Held.{SameLengths}
+use Rattle.sedacts.specs.Meters.{SinkView}
+use Rattle.sedacts.specs.Calls.{PutsBytes}
+use Rattle.sedacts.specs.Run.{RunState, at_lines, run_setting}
+use Rattle.sedacts.specs.Steps.{Leads, reaches, line_at, MakesMoves}
+use Rattle.sedengine.specs.Advancing.{ReachesCommand, MakesMove}
+use Rattle.sedengine.specs.SubstituteCalls.{written_by, written_of, MakesSubstitution, ReplacesIn, same_but_replaced, to_replace_in}
+use Rattle.sedacts.specs.Fitting.{RoomToSeek}
 use Rattle.sedengine.specs.Inside.{run_state_of, tasks_of, IsConsistent}
 use Rattle.sedengine.specs.declared.machine.Machine.TheInside.{Inside}
-use Rattle.sedengine.specs.declared.substitute.Findings.{Findings}
-use Rattle.sedengine.specs.declared.ends.Ended.{Ended}
-use Rattle.sedengine.specs.declared.ends.Ended.TheVariants.{PatternFull, NoPrevious}
-use Rattle.sedengine.proofs.Moves.{moves_writing, ran_quietly, stopped_here}
+use Rattle.sedacts.specs.declared.substitute.Findings.{Findings}
+use Rattle.sedacts.specs.declared.ends.Ended.{Ended}
+use Rattle.sedacts.specs.declared.ends.Ended.TheVariants.{PatternFull, NoPrevious}
+use Rattle.sedacts.proofs.Moves.{moves_writing, ran_quietly, stopped_here}
 use Rattle.sedmatch.proofs.RoomLemmas.{room_within}
-use Rattle.sedengine.specs.SubstituteParts.{ReplacesThese}
-use Rattle.sedengine.proofs.Fitting.{fits_at, sought, sought_at}
+use Rattle.sedacts.specs.SubstituteParts.{ReplacesThese}
+use Rattle.sedacts.proofs.Fitting.{fits_at, sought, sought_at}
 use Rattle.sedengine.proofs.Tasks.{may_hold}
 use Rattle.sedengine.proofs.Tried.{matcher_at, standing}
 
 -- the fields of the engine after a substitution with the expression e
-pub replaced_is_run : (a : Inside) (pattern build : Contents) (scratch : SearchRoom) (seeking : Occurrences) (findings : Findings) (matchers : Vec WrittenExpression Global) (e : ℕ) (replaced : Bool) → IsConsistent a → reaches (tasks_of a.next_step) ≡ true → e < length a.script.expressions →
+pub replaced_is_run : (a : Inside) (pattern build : SpaceView) (scratch : SearchRoom) (seeking : Occurrences) (findings : Findings) (matchers : Vec WrittenExpression Global) (e : ℕ) (replaced : Bool) → IsConsistent a → reaches (tasks_of a.next_step) ≡ true → e < length a.script.expressions →
     pattern.limit ≡ a.pattern.limit → length pattern.bytes ≤ pattern.limit → build.limit ≡ a.build.limit → scratch ≡ a.scratch → RoomToSeek a.script.substitutions a.script.expressions a.limits.space seeking → matchers.items ≡ a.matchers.items →
     IsConsistent (record a { pattern = pattern; build = build; scratch = scratch; seeking = seeking; findings = findings; matchers = matchers; used = Some e; replaced = replaced })
 replaced_is_run a pattern build scratch seeking findings matchers e replaced i at within limit fits limit' same room same' = record {
@@ -78,12 +79,12 @@ room_kept a e m begun after i at room number kept some =
     kept.1 a.limits.space a.script.expressions (rw number at) (room a.limits.space a.script.expressions (i.seeking some))
 
 -- what a call made of a space: these bytes, or nothing, for want of a substitution or of room
-abbrev pub IsMade : Contents → Contents → ℕ → List ℕ → Result Bool Full → Type 0
+abbrev pub IsMade : SpaceView → SpaceView → ℕ → List ℕ → Result Bool Full → Type 0
 IsMade old new limit made (Ok true) = new ≡ record old { bytes = made }
 IsMade old new limit made (Ok false) = new ≡ old
 IsMade old new limit made (Err f) = limit ≡ old.limit
 
-made_in : (old new : Contents) (limit : ℕ) (made : List ℕ) (r : Result Bool Full) (u : Substitution) (ms : List Occurrence) → IsMade old new limit made r → ReplacesThese old.bytes u.replacement ms limit made r → ReplacesIn u ms old new r
+made_in : (old new : SpaceView) (limit : ℕ) (made : List ℕ) (r : Result Bool Full) (u : Substitution) (ms : List Occurrence) → IsMade old new limit made r → ReplacesThese old.bytes u.replacement ms limit made r → ReplacesIn u ms old new r
 made_in old new limit made (Ok true) u ms becomes h = (h.0, becomes ∙ ap (λ (bytes : List ℕ). record old { bytes = bytes }) h.1)
 made_in old new limit made (Ok false) u ms becomes h = (h, becomes)
 made_in old new limit made (Err f) u ms becomes h = (h.0, rw becomes at h.1)
@@ -93,11 +94,11 @@ pub some_substitution : (a : Inside) (e : RunState) (k : ℕ) → run_state_of a
 some_substitution a e k seen h = let there = ap (λ (e : RunState). length e.script.substitutions) seen in omega arith
 
 -- spaces that were exchanged keep their limits
-pub limit_exchanged : (a : Inside) (pattern built : Contents) → IsConsistent a → 0 < length a.script.substitutions → pattern ≡ built → built.limit ≡ a.build.limit → pattern.limit ≡ a.pattern.limit
-limit_exchanged a pattern built i some is limit = ap (λ (c : Contents). c.limit) is ∙ limit ∙ i.build_limit some ∙ sym i.pattern_limit
+pub limit_exchanged : (a : Inside) (pattern built : SpaceView) → IsConsistent a → 0 < length a.script.substitutions → pattern ≡ built → built.limit ≡ a.build.limit → pattern.limit ≡ a.pattern.limit
+limit_exchanged a pattern built i some is limit = ap (λ (c : SpaceView). c.limit) is ∙ limit ∙ i.build_limit some ∙ sym i.pattern_limit
 
-pub made_exchanged : (a : Inside) (pattern built : Contents) → IsConsistent a → 0 < length a.script.substitutions → pattern ≡ built → built.limit ≡ a.build.limit → pattern ≡ record a.pattern { bytes = built.bytes }
-made_exchanged a pattern built i some is limit = is ∙ ap (λ (n : ℕ). record built { limit = n }) (sym (ap (λ (c : Contents). c.limit) is) ∙ limit_exchanged a pattern built i some is limit)
+pub made_exchanged : (a : Inside) (pattern built : SpaceView) → IsConsistent a → 0 < length a.script.substitutions → pattern ≡ built → built.limit ≡ a.build.limit → pattern ≡ record a.pattern { bytes = built.bytes }
+made_exchanged a pattern built i some is limit = is ∙ ap (λ (n : ℕ). record built { limit = n }) (sym (ap (λ (c : SpaceView). c.limit) is) ∙ limit_exchanged a pattern built i some is limit)
 
 -- What is known of the fields of an engine that substitutes in what its pattern space holds, the bytes w, by the expression e.
 module _ (a : Inside) (i : IsConsistent a) (w : List ℕ) (same : w ≡ a.pattern.bytes) where
@@ -123,7 +124,7 @@ module _ (a : Inside) (i : IsConsistent a) (w : List ℕ) (same : w ≡ a.patter
       room_within (length w) a.limits.space a.script.expressions a.seeking (omega arith) (i.seeking some)
 
   -- what was made of it
-  pub made_by : (ms : List WrittenExpression) (k e : ℕ) (t : Substitution) (new : Contents) (limit : ℕ) (made : List ℕ) (r : Result Bool Full) → slice_get a.script.substitutions k ≡ Some t → IsMade a.pattern new limit made r →
+  pub made_by : (ms : List WrittenExpression) (k e : ℕ) (t : Substitution) (new : SpaceView) (limit : ℕ) (made : List ℕ) (r : Result Bool Full) → slice_get a.script.substitutions k ≡ Some t → IsMade a.pattern new limit made r →
       ReplacesThese w t.replacement (to_replace t.number t.global (each_occurrence (search_in ms e w) (length w))) limit made r →
       (u : Substitution) → slice_get a.script.substitutions k ≡ Some u → ReplacesIn u (to_replace u.number u.global (each_occurrence (search_in ms e a.pattern.bytes) (length a.pattern.bytes))) a.pattern new r
   made_by ms k e t new limit made r is becomes h u is' =
@@ -137,12 +138,12 @@ leads_full : (s : State) (t : Substitution) (ms : List Occurrence) (space : ℕ)
 leads_full s t [] space some more = absurd (omega arith)
 leads_full s t (m ∷ ms) space some more = (_, refl, more)
 
-pub makes_full : (a : Inside) (r : RunState) (seen : run_state_of a ≡ r) (es : List WrittenExpression) (same : es ≡ a.script.expressions) (k e : ℕ) (files : ℕ → List ℕ) (ls : List (List ℕ)) (t : Substitution) (new : Contents) (now : State) (f : Full) → a.pattern.limit ≡ a.limits.space →
+pub makes_full : (a : Inside) (r : RunState) (seen : run_state_of a ≡ r) (es : List WrittenExpression) (same : es ≡ a.script.expressions) (k e : ℕ) (files : ℕ → List ℕ) (ls : List (List ℕ)) (t : Substitution) (new : SpaceView) (now : State) (f : Full) → a.pattern.limit ≡ a.limits.space →
     slice_get r.script.substitutions k ≡ Some t →
     ((t : Substitution) → slice_get a.script.substitutions k ≡ Some t → ReplacesIn t (to_replace t.number t.global (each_occurrence (search_in es e a.pattern.bytes) (length a.pattern.bytes))) a.pattern new (Err f)) →
-    Makes r.limits (replaces (record (at_lines r ls) { used = Some e }) t (to_replace_in (run_setting r files) t e r.state.pattern)) t (at_lines r ls) now (Err (PatternFull a.number))
+    MakesSubstitution r.limits (replaces (record (at_lines r ls) { used = Some e }) t (to_replace_in (run_setting r files) t e r.state.pattern)) t (at_lines r ls) now (Err (PatternFull a.number))
 makes_full a r seen es same k e files ls t new now f limit is h =
-    let Q : RunState → Type 0 = λ r. slice_get r.script.substitutions k ≡ Some t → Makes r.limits (replaces (record (at_lines r ls) { used = Some e }) t (to_replace_in (run_setting r files) t e r.state.pattern)) t (at_lines r ls) now (Err (PatternFull a.number)) in
+    let Q : RunState → Type 0 = λ r. slice_get r.script.substitutions k ≡ Some t → MakesSubstitution r.limits (replaces (record (at_lines r ls) { used = Some e }) t (to_replace_in (run_setting r files) t e r.state.pattern)) t (at_lines r ls) now (Err (PatternFull a.number)) in
     subst Q seen
     (λ is.
     let made = rw same at (h t is) in
@@ -179,16 +180,16 @@ module _ (r r' : RunState) (ls : List (List ℕ)) (before : WithinLimits r.limit
       record { pattern = rw limits at within; hold = rw hold before.hold; queue = rw queue before.queue; turns = rw turns before.turns }
 
   -- nothing was replaced
-  pub replaced_nothing : Makes r.limits o t (at_lines r ls) (at_lines r' ls) (Ok false) → MakesMove r.limits g o (at_lines r ls) (at_lines r' ls) old old (Ok tt)
+  pub replaced_nothing : MakesSubstitution r.limits o t (at_lines r ls) (at_lines r' ls) (Ok false) → MakesMove r.limits g o (at_lines r ls) (at_lines r' ls) old old (Ok tt)
   replaced_nothing is = λ s c first. ran_quietly r.limits g s (at_lines r' ls) old c.fits (first ∙ is) there
 
   -- something was, and is written by the flags `p` and `w`
-  pub replaced_some : (told : Result Unit Ended) → Makes r.limits o t (at_lines r ls) (at_lines r' ls) (Ok true) → Puts old new (written_by t r'.state.pattern) told →
-      MakesMove r.limits g o (at_lines r ls) (at_lines r' ls) old new told
-  replaced_some told is put = λ s c first. moves_writing r.limits g s (at_lines r' ls) old new (written_by t r'.state.pattern) told c.fits (first ∙ is) there c.lines put
+  pub replaced_some : (shown : Result Unit Ended) → MakesSubstitution r.limits o t (at_lines r ls) (at_lines r' ls) (Ok true) → PutsBytes old new (written_by t r'.state.pattern) shown →
+      MakesMove r.limits g o (at_lines r ls) (at_lines r' ls) old new shown
+  replaced_some shown is put = λ s c first. moves_writing r.limits g s (at_lines r' ls) old new (written_by t r'.state.pattern) shown c.fits (first ∙ is) there c.lines put
 
   -- the end comes
-  pub replaced_not : (end : Ended) → r'.state.pattern ≡ r.state.pattern → Makes r.limits o t (at_lines r ls) (at_lines r' ls) (Err end) → MakesMove r.limits g o (at_lines r ls) (at_lines r' ls) old old (Err end)
+  pub replaced_not : (end : Ended) → r'.state.pattern ≡ r.state.pattern → MakesSubstitution r.limits o t (at_lines r ls) (at_lines r' ls) (Err end) → MakesMove r.limits g o (at_lines r ls) (at_lines r' ls) old old (Err end)
   replaced_not end kept is = λ s c first. stops s c first end is
     where
       lengths : (s : State) → ReachesCommand r.limits g s (at_lines r ls) → SameLengths s (at_lines r' ls)
@@ -201,7 +202,7 @@ module _ (r r' : RunState) (ls : List (List ℕ)) (before : WithinLimits r.limit
             entries = let more = w.entries in let queue = ap (λ (r : RunState). length r.state.queue) same in omega arith;
           }
 
-      stops : (s : State) (c : ReachesCommand r.limits g s (at_lines r ls)) → next_move g s ≡ o → (end : Ended) → Makes r.limits o t (at_lines r ls) (at_lines r' ls) (Err end) → Moves r.limits g s (at_lines r' ls) old old (Err end)
+      stops : (s : State) (c : ReachesCommand r.limits g s (at_lines r ls)) → next_move g s ≡ o → (end : Ended) → MakesSubstitution r.limits o t (at_lines r ls) (at_lines r' ls) (Err end) → MakesMoves r.limits g s (at_lines r' ls) old old (Err end)
       stops s c first (NoPrevious n) (without, number) =
           stopped_here r.limits g s (at_lines r' ls) old (NoPrevious n) c.fits refl (number ∙ sym c.number, c.turn, c.reaches, first ∙ without) (lengths s c) c.lines
       stops s c first (PatternFull n) ((m, is, more), number) =
@@ -225,10 +226,10 @@ replaces_some s t [] some = absurd (omega arith)
 replaces_some s t (m ∷ ms) some = refl
 
 -- a substitution that replaces something, and one that replaces nothing
-pub makes_some : (a : Inside) (r : RunState) (seen : run_state_of a ≡ r) (es : List WrittenExpression) (same : es ≡ a.script.expressions) (k e : ℕ) (files : ℕ → List ℕ) (ls : List (List ℕ)) (t : Substitution) (new : Contents) →
+pub makes_some : (a : Inside) (r : RunState) (seen : run_state_of a ≡ r) (es : List WrittenExpression) (same : es ≡ a.script.expressions) (k e : ℕ) (files : ℕ → List ℕ) (ls : List (List ℕ)) (t : Substitution) (new : SpaceView) →
     slice_get r.script.substitutions k ≡ Some t →
     ((t : Substitution) → slice_get a.script.substitutions k ≡ Some t → ReplacesIn t (to_replace t.number t.global (each_occurrence (search_in es e a.pattern.bytes) (length a.pattern.bytes))) a.pattern new (Ok true)) →
-    Makes r.limits (replaces (record (at_lines r ls) { used = Some e }) t (to_replace_in (run_setting r files) t e r.state.pattern)) t (at_lines r ls)
+    MakesSubstitution r.limits (replaces (record (at_lines r ls) { used = Some e }) t (to_replace_in (run_setting r files) t e r.state.pattern)) t (at_lines r ls)
     (record (at_lines (run_state_of a) ls) { pattern = new.bytes; used = Some e; replaced = true }) (Ok true)
 makes_some a r seen es same k e files ls t new is h =
     let now : State = record (at_lines (run_state_of a) ls) { pattern = new.bytes; used = Some e; replaced = true } in
@@ -238,12 +239,12 @@ makes_some a r seen es same k e files ls t new is h =
     subst Q seen
     (λ is.
     let made = rw same at (h t is) in
-    replaces_some s t ms made.0 ∙ ap (λ (w : List ℕ). becomes s t w) (sym (ap (λ (x : Contents). x.bytes) made.1))) is
+    replaces_some s t ms made.0 ∙ ap (λ (w : List ℕ). becomes s t w) (sym (ap (λ (x : SpaceView). x.bytes) made.1))) is
 
-pub makes_none : (a : Inside) (r : RunState) (seen : run_state_of a ≡ r) (es : List WrittenExpression) (same : es ≡ a.script.expressions) (k e : ℕ) (files : ℕ → List ℕ) (ls : List (List ℕ)) (t : Substitution) (new : Contents) →
+pub makes_none : (a : Inside) (r : RunState) (seen : run_state_of a ≡ r) (es : List WrittenExpression) (same : es ≡ a.script.expressions) (k e : ℕ) (files : ℕ → List ℕ) (ls : List (List ℕ)) (t : Substitution) (new : SpaceView) →
     slice_get r.script.substitutions k ≡ Some t →
     ((t : Substitution) → slice_get a.script.substitutions k ≡ Some t → ReplacesIn t (to_replace t.number t.global (each_occurrence (search_in es e a.pattern.bytes) (length a.pattern.bytes))) a.pattern new (Ok false)) →
-    Makes r.limits (replaces (record (at_lines r ls) { used = Some e }) t (to_replace_in (run_setting r files) t e r.state.pattern)) t (at_lines r ls)
+    MakesSubstitution r.limits (replaces (record (at_lines r ls) { used = Some e }) t (to_replace_in (run_setting r files) t e r.state.pattern)) t (at_lines r ls)
     (record (at_lines (run_state_of a) ls) { pattern = new.bytes; used = Some e }) (Ok false)
 makes_none a r seen es same k e files ls t new is h =
     let now : State = record (at_lines (run_state_of a) ls) { pattern = new.bytes; used = Some e } in
@@ -252,4 +253,4 @@ makes_none a r seen es same k e files ls t new is h =
     subst Q seen
     (λ is.
     let made = rw same at (h t is) in
-    ap (λ (ms : List Occurrence). replaces s t ms) made.0 ∙ ap (λ (w : List ℕ). quietly (record s { pattern = w })) (sym (ap (λ (x : Contents). x.bytes) made.1))) is
+    ap (λ (ms : List Occurrence). replaces s t ms) made.0 ∙ ap (λ (w : List ℕ). quietly (record s { pattern = w })) (sym (ap (λ (x : SpaceView). x.bytes) made.1))) is

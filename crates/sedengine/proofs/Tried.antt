@@ -1,6 +1,6 @@
 -- The expression that an address or a substitution tries.
 use Rattle.std.proofs.Common.{◌≡◌, ℕ, ◌<◌, ◌≤◌, Bool, List, length, get_or, Option, Some, None, Result, refl, sym, subst, ap, ◌∙◌, arith}
-use Rattle.std.specs.Prelude.{option_and_then}
+use Rattle.std.specs.Prelude.{option_and_then, slice_get, slice_set}
 use Rattle.std.specs.Option.{option_or}
 use Rattle.std.proofs.lemmas.Option.{same_Some, slice_get_read}
 use Rattle.sedre.specs.Tree.{WrittenExpression}
@@ -8,15 +8,14 @@ use Rattle.sedscript.specs.Ranges.{AddressWithin, IsOneOf}
 use Rattle.sedscript.specs.declared.types.Address.TheVariants.{Match}
 use Rattle.sedscript.specs.declared.substitution.Substitution.{Substitution}
 use Rattle.sedspace.specs.declared.errors.Full.{Full}
-use Rattle.sedengine.specs.Choose.{current_in}
+use Rattle.sedengine.specs.Judging.{current_in}
 use Rattle.sedengine.specs.Inside.{run_state_of, IsConsistent}
-use Rattle.std.specs.Prelude.{slice_get, slice_set}
 use Rattle.std.proofs.lemmas.List.{set-get_or}
-use Rattle.sedengine.specs.SubstituteParts.{ReplacesThese}
-use Rattle.sedengine.specs.Run.{RunState}
-use Rattle.sedengine.specs.State.{finds_in, search_for, search_in}
-use Rattle.sedengine.specs.Select.{AddressAnswer, answer, stands_for}
-use Rattle.sedengine.specs.Substitute.{to_replace, each_occurrence}
+use Rattle.sedacts.specs.SubstituteParts.{ReplacesThese}
+use Rattle.sedacts.specs.Run.{RunState}
+use Rattle.sedacts.specs.State.{finds_in, search_for, search_in}
+use Rattle.sedacts.specs.Select.{AddressAnswer, answer, stands_for}
+use Rattle.sedacts.specs.Substitute.{to_replace, each_occurrence}
 use Rattle.sedengine.specs.declared.machine.Machine.TheInside.{Inside}
 
 pub standing : (named used : Option ℕ) → option_or named used ≡ stands_for named used

@@ -1,8 +1,9 @@
 -- Private to the proofs: no contract of a public item cites what is here.
 -- What the engine's calls for the hold space promise one another.
 use Rattle.std.specs.Prelude.{◌≡◌, ◌<◌, ◌≤◌, Result, Ok, Err, length}
-use Rattle.sedengine.specs.Run.{RunState}
-use Rattle.sedengine.specs.Types.{Ended, PatternFull, HoldFull}
+use Rattle.sedacts.specs.Run.{RunState}
+use Rattle.sedacts.specs.declared.ends.Ended.{Ended}
+use Rattle.sedacts.specs.declared.ends.Ended.TheVariants.{PatternFull, HoldFull}
 
 -- The engine becomes `made`, whose spaces are within the limit; or it stays, and the end names the space that is too
 -- long in `made`.

@@ -1,21 +1,15 @@
 -- Private to the proofs: no contract of a public item cites what is here.
 -- The fields of the machine, and what they stand for.
-use Rattle.std.specs.Prelude.{◌≡◌, ℕ, ◌<◌, ◌≤◌, Bool, true, false, Option, Some, None, List, [], ◌∷◌, length, map, slice_get, IfSome}
-use Rattle.std.specs.Option.{unwrap_or}
-use Rattle.sedengine.specs.Types.{Command, Action}
-use Rattle.sedscript.specs.declared.types.Action.TheVariants.{File, Plain, Text}
-use Rattle.sedscript.specs.declared.types.TextUse.TheVariants.{Append}
-use Rattle.sedscript.specs.declared.types.FileUse.TheVariants.{Read}
-use Rattle.sedscript.specs.declared.types.Simple.TheVariants as simple
+use Rattle.std.specs.Prelude.{◌≡◌, ℕ, ◌<◌, ◌≤◌, None, List, [], ◌∷◌, length, IfSome}
 use Rattle.sedscript.specs.Ranges.{IsOneOf}
-use Rattle.sedscript.specs.Program.{Program}
-use Rattle.sedengine.specs.State.{Entry, text_entry, file_entry, Task, begin, rebegin, do_at, print_pattern, flush}
-use Rattle.sedengine.specs.Run.{RunState}
-use Rattle.sedengine.specs.Fitting.{AllFit, RoomToSeek, Seek}
-use Rattle.sedengine.specs.Passing.{IsIdleOf}
+use Rattle.sedacts.specs.State.{Task, begin, rebegin, do_at, print_pattern, flush}
+use Rattle.sedacts.specs.Run.{RunState}
+use Rattle.sedacts.specs.Fitting.{AllFit, RoomToSeek, Seek}
+use Rattle.sedacts.specs.Idle.{IsIdleOf}
 use Rattle.sedengine.specs.declared.next_step.NextStep.{NextStep}
 use Rattle.sedengine.specs.declared.next_step.NextStep.TheVariants as p
 use Rattle.sedengine.specs.declared.machine.Machine.TheInside.{Inside}
+use Rattle.sedacts.specs.Keeping.{AllQueue, FillsHold, entries_of}
 
 -- the tasks that a next step stands for
 abbrev pub tasks_of : NextStep → List Task
@@ -24,20 +18,6 @@ tasks_of p.Rebegin = rebegin ∷ []
 tasks_of (p.Do k) = do_at k ∷ []
 tasks_of p.WriteLast = print_pattern ∷ flush ∷ []
 tasks_of p.Ended = []
-
--- the entry of an action that puts one into the queue: a text or a file
-abbrev pub entry_for : List (List ℕ) → Action → Entry
-entry_for texts (Text t k) = text_entry (unwrap_or (slice_get texts k) [])
-entry_for texts (File u k) = file_entry k
-entry_for texts other = text_entry []
-
-abbrev pub entry_by : List (List ℕ) → Option Command → Entry
-entry_by texts None = text_entry []
-entry_by texts (Some c) = entry_for texts c.action
-
--- the entries that commands of these numbers put into the queue
-abbrev pub entries_of : Program → List ℕ → List Entry
-entries_of p is = map (λ i. entry_by p.texts (slice_get p.commands i)) is
 
 abbrev pub run_state_of : Inside → RunState
 run_state_of a = record {
@@ -63,36 +43,6 @@ run_state_of a = record {
 abbrev pub IsEmptied : NextStep → List ℕ → Type 0
 IsEmptied p.Begin bytes = bytes ≡ []
 IsEmptied other bytes = Unit {0}
-
--- whether an action puts an entry into the queue
-abbrev pub queues : Action → Bool
-queues (Text Append k) = true
-queues (File Read k) = true
-queues other = false
-
-abbrev pub CommandQueues : Option Command → Type 0
-CommandQueues None = ⊥
-CommandQueues (Some c) = queues c.action ≡ true
-
--- each of these numbers is one of a command that puts an entry into the queue
-abbrev pub AllQueue : Program → List ℕ → Type 0
-AllQueue p [] = Unit {0}
-AllQueue p (i ∷ is) = CommandQueues (slice_get p.commands i) × AllQueue p is
-
--- whether an action puts something into the hold space
-abbrev pub keeps_in_hold : Action → Bool
-keeps_in_hold (Plain simple.Hold) = true
-keeps_in_hold (Plain simple.HoldMore) = true
-keeps_in_hold (Plain simple.Exchange) = true
-keeps_in_hold other = false
-
-abbrev pub CommandHolds : Option Command → Type 0
-CommandHolds None = ⊥
-CommandHolds (Some c) = keeps_in_hold c.action ≡ true
-
--- One of the commands of a script puts something into the hold space, which is empty else.
-abbrev pub FillsHold : Program → Type 0
-FillsHold p = (i : ℕ) × CommandHolds (slice_get p.commands i)
 
 pub record IsConsistent (a : Inside) : Type 0 where
   pub number : a.number ≤ a.turns

@@ -2,18 +2,17 @@
 -- What the engine's calls for the queue promise one another.
 use Rattle.std.specs.Prelude.{◌≡◌, ℕ, ◌<◌, ◌≤◌, ◌+◌, Option, Result, Ok, Err, OnOk, OnErr, List, [], ◌∷◌, ◌++◌, length}
 use Rattle.std.specs.Io.KnownBytes.{Keeps}
-use Rattle.sedspace.specs.Spaces.{Contents}
-use Rattle.sedengine.specs.State.{Limits, Entry, Task, flush, State, Setting, TellsFiles}
-use Rattle.sedengine.specs.Ends.{WithinLimits}
-use Rattle.sedengine.specs.Held.{SameLengths}
-use Rattle.sedengine.specs.Meters.{SinkView}
-use Rattle.sedengine.specs.Move.{then_do}
-use Rattle.sedengine.specs.Calls.{DeliversAlone}
-use Rattle.sedengine.specs.Run.{RunState, at_lines, run_setting}
-use Rattle.sedengine.specs.Steps.{LeavesGiven, Moves, MovesTo, weight}
+use Rattle.sedacts.specs.State.{Entry, Task, flush, State, GivesFiles}
+use Rattle.sedacts.specs.Meters.{SinkView}
+use Rattle.sedacts.specs.Move.{then_do}
+use Rattle.sedacts.specs.Calls.{DeliversAlone}
+use Rattle.sedacts.specs.Run.{RunState, at_lines, run_setting}
+use Rattle.sedengine.specs.Advancing.{LeavesGiven, weight}
+use Rattle.sedacts.specs.Steps.{MakesMoves}
 use Rattle.sedengine.specs.Inside.{tasks_of}
 use Rattle.sedengine.specs.declared.next_step.NextStep.{NextStep}
-use Rattle.sedengine.specs.Types.{Ended, QueueFull}
+use Rattle.sedacts.specs.declared.ends.Ended.{Ended}
+use Rattle.sedacts.specs.declared.ends.Ended.TheVariants.{QueueFull}
 
 -- the state with a further entry in its queue
 abbrev pub queueing : Entry → State → State
@@ -38,28 +37,12 @@ with_turns e turns = record e { state = record e.state { turns = turns } }
 abbrev pub flushed : RunState → ℕ → RunState
 flushed e turns = record e { state = record e.state { queue = []; turns = turns } }
 
--- What a call answers that writes the queue, or a part of it: which tasks and entries there are before and after it, whatever
--- tasks and entries come after those. An end is reported of the state `now`. The call takes turns, within the limit.
-pub record FlushesPart {O T : Type 0} (tally : O → SinkView) (count : O → ℕ) (text : T → ℕ → Option (List ℕ)) (l : Limits)
-    (from to : List Task → List Entry → List Task × List Entry) (turns turns' : ℕ) (build build' : Contents)
-    (outputs outputs' : O) (texts texts' : T) (result : Result Unit Ended) : Type 0 where
-  pub moves : (g : Setting) → TellsFiles (text texts) g.files → (s now : State) (rest : List Task) (later : List Entry) →
-      s.tasks ≡ (from rest later).0 → s.queue ≡ (from rest later).1 → s.turns ≡ turns → WithinLimits l s →
-      SameLengths s now → s.lines ≡ now.lines →
-      MovesTo l g s (record s { tasks = (to rest later).0; queue = (to rest later).1; turns = turns' }) now
-      (tally outputs) (tally outputs') result
-  pub devices : DeliversAlone tally count outputs outputs' result
-  pub limit : build'.limit ≡ build.limit
-  pub later : turns ≤ turns'
-  pub within : turns' ≤ l.turns
-  pub kept : (j : ℕ) → Keeps (text texts j) (text texts' j)
-
 -- What a call answers that does these tasks, of which the last writes the queue, whatever is to be done after them. It takes
 -- turns, empties the queue where the run goes on, and changes nothing else of the engine.
 pub record WritesQueue {O T : Type 0} (tally : O → SinkView) (count : O → ℕ) (text : T → ℕ → Option (List ℕ))
     (tasks : List Task) (old new : RunState) (outputs outputs' : O) (texts texts' : T) (result : Result Unit Ended) : Type 0 where
-  pub moves : (files : ℕ → List ℕ) → TellsFiles (text texts) files → (ls : List (List ℕ)) (rest : List Task) →
-      Moves old.limits (run_setting old files) (then_do (tasks ++ rest) (at_lines old ls)) (then_do rest (at_lines new ls))
+  pub moves : (files : ℕ → List ℕ) → GivesFiles (text texts) files → (ls : List (List ℕ)) (rest : List Task) →
+      MakesMoves old.limits (run_setting old files) (then_do (tasks ++ rest) (at_lines old ls)) (then_do rest (at_lines new ls))
       (tally outputs) (tally outputs') result
   pub ok : OnOk result (new ≡ flushed old new.state.turns)
   pub err : OnErr result (new ≡ with_turns old new.state.turns)
@@ -70,8 +53,8 @@ pub record WritesQueue {O T : Type 0} (tally : O → SinkView) (count : O → �
 -- What a call answers that writes the queue and then goes on at this place. It leads to little more work without a turn.
 pub record EndsCycle {O T : Type 0} (tally : O → SinkView) (count : O → ℕ) (text : T → ℕ → Option (List ℕ))
     (next_step : NextStep) (old new : RunState) (outputs outputs' : O) (texts texts' : T) (result : Result Unit Ended) : Type 0 where
-  pub moves : (files : ℕ → List ℕ) → TellsFiles (text texts) files → (ls : List (List ℕ)) →
-      Moves old.limits (run_setting old files) (then_do (flush ∷ tasks_of next_step) (at_lines old ls)) (at_lines new ls)
+  pub moves : (files : ℕ → List ℕ) → GivesFiles (text texts) files → (ls : List (List ℕ)) →
+      MakesMoves old.limits (run_setting old files) (then_do (flush ∷ tasks_of next_step) (at_lines old ls)) (at_lines new ls)
       (tally outputs) (tally outputs') result
   pub falls : weight new ≤ weight old + 8
   pub leaves : LeavesGiven tally count text old new outputs outputs' texts texts' result

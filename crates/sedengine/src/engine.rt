@@ -3,17 +3,17 @@ ghost use Rattle.std.specs.Prelude.{◌≡◌, ◌<◌, ◌≤◌, ◌+◌, [], 
 ghost use Rattle.std.specs.Option.{ForSome};
 ghost use Rattle.std.specs.Io.KnownBytes.{Keeps};
 ghost use Rattle.sedspace.specs.Stream.{lines_left, ReadsOn};
-ghost use Rattle.sedengine.specs.Move.{start};
-ghost use Rattle.sedengine.specs.DevicesAfter.{SameSinks, SinksAtEnd};
-ghost use Rattle.sedengine.specs.Ends.{SourceAtEnd};
-ghost use Rattle.sedengine.specs.Held.{total_of, bound_of};
-ghost use Rattle.sedengine.specs.Run.{as_moves_answer, Cycles, Ending, SameRun, Sends, at_lines, end_answered, run_setting, input_of, FailedSource};
-ghost use Rattle.sedengine.specs.State.{TellsFiles};
+ghost use Rattle.sedacts.specs.Move.{start};
+ghost use Rattle.sedacts.specs.DevicesAfter.{SameSinks, SinksAtEnd};
+ghost use Rattle.sedacts.specs.Ends.{SourceAtEnd};
+ghost use Rattle.sedacts.specs.Held.{total_of, bound_of};
+ghost use Rattle.sedacts.specs.Run.{as_moves_answer, Cycles, CameToEnd, SameRun, Sends, at_lines, end_answered, run_setting};
+ghost use Rattle.sedacts.specs.Run.{input_of, FailedSource};
+ghost use Rattle.sedacts.specs.State.{GivesFiles};
 
-use crate::ends::{Ended, Held, Progress};
-use crate::limits::Limits;
 use crate::machine::Machine;
-use crate::meter::{Meter, Metered};
+use sedacts::meter::{Meter, Metered};
+use sedacts::{Ended, Held, Limits, Progress};
 use sedscript::Script;
 use sedspace::{ByteSource, Lines, Outputs, Texts};
 use std::alloc::{AllocError, Global};
@@ -33,7 +33,7 @@ pub struct Engine {
 
 impl Model for Engine {
     ghost use Rattle.std.specs.Prelude.{◌≡◌, ◌+◌, length};
-    ghost use Rattle.sedengine.specs.Run.{RunState};
+    ghost use Rattle.sedacts.specs.Run.{RunState};
 
     ghost Value = { RunState };
 
@@ -112,7 +112,7 @@ impl Engine {
         // limit, and what was taken from the source.
         ensures cycles { IsNone self.old.ended → lines.old.fault ≡ None →
             ForSome (lines_left R.remaining lines.old) (λ ls.
-            (files : ℕ → List ℕ) → TellsFiles (T.text texts.old) files →
+            (files : ℕ → List ℕ) → GivesFiles (T.text texts.old) files →
             (out : List (ℕ × ℕ))
             × Sends self.old self.new (O.contents outputs.old) (O.contents outputs.new) (as_moves_answer result) out
             × Cycles self.old.limits (run_setting self.old files) (at_lines self.old ls) out
@@ -164,10 +164,10 @@ impl Engine {
         // what these moves write, within the limit, and this was taken from the source.
         ensures ends { IsNone self.old.ended → lines.old.fault ≡ None →
             ForSome (lines_left R.remaining lines.old) (λ ls.
-            (files : ℕ → List ℕ) → TellsFiles (T.text texts.old) files →
+            (files : ℕ → List ℕ) → GivesFiles (T.text texts.old) files →
             (out : List (ℕ × ℕ))
             × Sends self.old self.new (O.contents outputs.old) (O.contents outputs.new) (Err result) out
-            × Ending self.old.limits (run_setting self.old files) (at_lines self.old ls) out
+            × CameToEnd self.old.limits (run_setting self.old files) (at_lines self.old ls) out
             (input_of R.remaining lines.old) (input_of R.remaining lines.new) self.new.state result) }
         // The device that the end names has failed in this run, and no other source or sink has. A sink is full only where
         // the limits have one on the output.

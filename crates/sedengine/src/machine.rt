@@ -1,8 +1,8 @@
 //! The machine that makes the moves of a run: its parts, and what it holds.
 ghost use Rattle.std.specs.Prelude.{◌≡◌, ◌≤◌, [], None, IfOk, length};
-ghost use Rattle.sedengine.specs.Move.{start};
-ghost use Rattle.sedengine.specs.Held.{total_of, bound_of};
-ghost use Rattle.sedengine.specs.Parts.{AreEngineParts};
+ghost use Rattle.sedacts.specs.Move.{start};
+ghost use Rattle.sedacts.specs.Held.{total_of, bound_of};
+ghost use Rattle.sedacts.specs.Parts.{AreEngineParts};
 
 mod addresses;
 pub(crate) mod commands;
@@ -11,19 +11,17 @@ mod holding;
 mod known;
 mod moves;
 mod next;
-mod parts;
 mod passing;
 mod queueing;
 mod replacing;
 mod tasks;
 
-use crate::ends::Held;
-use crate::idle::Idle;
-use crate::limits::Limits;
 use crate::next_step::NextStep;
-use crate::patience::Patience;
-use crate::substitute::Findings;
-use parts::Parts;
+use sedacts::idle::Idle;
+use sedacts::parts::Parts;
+use sedacts::patience::Patience;
+use sedacts::substitute::Findings;
+use sedacts::{Held, Limits};
 use sedmatch::{Occurrences, Scratch, TableMatcher};
 use sedscript::Script;
 use sedspace::{Queue, Space};
@@ -63,7 +61,7 @@ pub(crate) struct Machine {
 }
 
 impl Model for Machine {
-    ghost use Rattle.sedengine.specs.Run.{RunState};
+    ghost use Rattle.sedacts.specs.Run.{RunState};
     ghost use Rattle.sedengine.specs.Inside.{run_state_of, IsConsistent};
 
     ghost Value = { RunState };

@@ -5,25 +5,16 @@
 ghost use Rattle.std.specs.Prelude.{◌≡◌, ◌<◌, Some, length, slice_set};
 ghost use Rattle.sedscript.specs.Ranges.{AddressWithin, CommandWithin};
 ghost use Rattle.sedscript.specs.declared.types.Address.TheVariants.{Match};
-ghost use Rattle.sedengine.specs.Choose.{AsksLast, JudgesCommand, JudgesDeciding, SeeksMatch, reached_with, deciding, is_active};
+ghost use Rattle.sedengine.specs.Judging.{JudgesCommand, JudgesDeciding, SeeksMatch, reached_with};
+ghost use Rattle.sedacts.specs.Choose.{deciding, is_active};
 
 use super::Machine;
-use crate::ends::Ended;
 use crate::next_step::NextStep;
-use crate::select::{Chosen, choose, deciding, finds, yes_by_number};
+use sedacts::Ended;
+use sedacts::bringing::is_last;
+use sedacts::select::{Chosen, choose, deciding, finds, yes_by_number};
 use sedscript::{Address, Command};
 use sedspace::{ByteSource, Lines};
-
-/// Whether the line given last was the last one of the input. Only an address `$`, `n`, and an `N` that has no room ask
-/// this.
-pub(super) fn is_last<R: ByteSource>(lines: &mut Lines<R>) -> Result<bool, Ended>
-    ensures { AsksLast R.remaining R.failures R.reference lines.old lines.new result }
-{
-    match lines.is_last() {
-        Ok(last) => Ok(last),
-        Err(_) => Err(Ended::InputBroken),
-    }
-}
 
 impl Machine {
     /// Whether the pattern space has a match of an expression, or of the one last used where none is named. It is then

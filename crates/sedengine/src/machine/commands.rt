@@ -1,69 +1,27 @@
 //! The commands (XCU sed, "Editing Commands in sed"): `act` and the calls that it passes commands on to have a case for each.
-ghost use Rattle.std.specs.Prelude.{◌≡◌, ◌<◌, ◌≤◌, ◌+◌, ◌^◌, [], ◌∷◌, Ok, Err, Bool, List, ℕ, true, false, length, slice_get};
+ghost use Rattle.std.specs.Prelude.{◌≡◌, ◌<◌, [], ◌∷◌, Ok, Err, Bool, List, ℕ, true, false, length, slice_get};
 ghost use Rattle.sedscript.specs.Script.{ActionWithin};
 ghost use Rattle.sedscript.specs.declared.types.Action.TheVariants.{Plain};
-ghost use Rattle.sedengine.specs.State.{do_at, flush, print_pattern};
-ghost use Rattle.sedengine.specs.Move.{acts, line_to, writes_text_at};
-ghost use Rattle.sedengine.specs.Ends.{WithinLimits, is_next_line};
-ghost use Rattle.sedengine.specs.Run.{at_lines};
-ghost use Rattle.sedengine.specs.Inside.{keeps_in_hold};
-ghost use Rattle.sedengine.specs.Passing.{NeedWithin, behind_by, need_of_action, passed_over};
-ghost use Rattle.sedengine.specs.Calls.{WritesAll};
-ghost use Rattle.sedengine.specs.Steps.{reaches, ActsHere, ActsLines, Advances, HasAction, takes_further_line};
+ghost use Rattle.sedacts.specs.State.{do_at, flush, print_pattern};
+ghost use Rattle.sedacts.specs.Move.{acts, line_to};
+ghost use Rattle.sedacts.specs.Ends.{WithinLimits, is_next_line};
+ghost use Rattle.sedacts.specs.Run.{at_lines};
+ghost use Rattle.sedengine.specs.Passing.{passed_over};
+ghost use Rattle.sedacts.specs.Calls.{WritesAll};
+ghost use Rattle.sedacts.specs.Steps.{reaches, HasAction};
+ghost use Rattle.sedengine.specs.Advancing.{ActsHere, ActsLines, Advances, takes_further_line};
 
 use super::Machine;
-use crate::ends::Ended;
-use crate::idle::Need;
-use crate::listing::write_listing;
-use crate::meter::MeteredSinks;
 use crate::next_step::NextStep;
-use crate::write::write_line;
 use itoa::Buffer;
+use sedacts::Ended;
+use sedacts::listing::write_listing;
+use sedacts::meter::MeteredSinks;
+use sedacts::select::writes_text;
+use sedacts::write::write_line;
+use sedscript::Action;
 use sedscript::types::{BranchUse, FileUse, Simple, TextUse};
-use sedscript::{Action, Command, Script};
 use sedspace::{ByteSource, Lines, Texts};
-
-/// Whether `c` writes its text: without a range, at a range's end, and with `!`.
-fn writes_text(command: &Command, end: bool) -> bool
-    ensures { result ≡ writes_text_at command.now end }
-{
-    command.second.is_none() || end || command.negate
-}
-
-/// Whether an action puts something into the hold space.
-pub(crate) fn is_holding(action: &Action) -> bool
-    ensures { result ≡ keeps_in_hold action.now }
-{
-    matches!(
-        action,
-        Action::Plain(Simple::Hold | Simple::HoldMore | Simple::Exchange)
-    )
-}
-
-/// What an action needs to do nothing where it applies.
-pub(crate) fn need_of_action(script: &Script, action: Action) -> Option<Need>
-    requires { ActionWithin script.now action }
-    ensures is { result ≡ need_of_action script.now.substitutions action }
-    ensures within { NeedWithin (length script.now.expressions) result }
-{
-    match action {
-        Action::Substitute(k) => script.substitution(k).expression.map(Need::NoMatch),
-        Action::Block(_) | Action::Branch(..) => Some(Need::Nothing),
-        _ => None,
-    }
-}
-
-/// Where the script goes on behind command `k`, if that does nothing.
-pub(crate) fn behind(command: &Command, k: usize) -> usize
-    requires { k + 1 < 2 ^ 64 }
-    ensures { result ≡ behind_by command.now.first command.now.action k }
-{
-    match (command.first, command.action) {
-        (Some(_), Action::Block(next)) => next,
-        (None, Action::Branch(BranchUse::Always, target)) => target,
-        _ => k + 1,
-    }
-}
 
 impl Machine {
     /// Reaches a command, or the end of the script.

@@ -3,14 +3,14 @@ ghost use Rattle.std.specs.Prelude.{◌<◌, true, length};
 ghost use Rattle.sedscript.specs.declared.types.Action.TheVariants.{Plain, Text};
 ghost use Rattle.sedscript.specs.declared.types.Simple.TheVariants.{Delete, DeleteFirst};
 ghost use Rattle.sedscript.specs.declared.types.TextUse.TheVariants.{Change};
-ghost use Rattle.sedengine.specs.Move.{acts};
-ghost use Rattle.sedengine.specs.Steps.{ActsHere};
+ghost use Rattle.sedacts.specs.Move.{acts};
+ghost use Rattle.sedengine.specs.Advancing.{ActsHere};
 
 use super::Machine;
-use crate::ends::Ended;
-use crate::meter::MeteredSinks;
 use crate::next_step::NextStep;
-use crate::write::write_line;
+use sedacts::Ended;
+use sedacts::meter::MeteredSinks;
+use sedacts::write::write_line;
 use sedspace::Texts;
 
 impl Machine {

@@ -1,12 +1,12 @@
 //! The commands `g`, `G`, `h`, `H` and `x`: the hold space (XCU sed, "Editing Commands in sed").
 ghost use Rattle.std.specs.Prelude.{◌≡◌, ◌∷◌, ◌++◌, true};
-ghost use Rattle.sedengine.specs.Move.{newline};
+ghost use Rattle.sedacts.specs.Move.{newline};
 ghost use Rattle.sedengine.specs.Holding.{BecomesOrFull};
-ghost use Rattle.sedengine.specs.Inside.{FillsHold};
-ghost use Rattle.sedengine.specs.Steps.{reaches};
+ghost use Rattle.sedacts.specs.Keeping.{FillsHold};
+ghost use Rattle.sedacts.specs.Steps.{reaches};
 
 use super::Machine;
-use crate::ends::Ended;
+use sedacts::Ended;
 
 impl Machine {
     /// The command `g`: the pattern space becomes what the hold space is.

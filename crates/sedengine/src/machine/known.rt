@@ -2,8 +2,8 @@
 //!
 //! A fact that always holds of a type's fields is known where one of them is looked at, as these calls do.
 ghost use Rattle.std.specs.Prelude.{◌≡◌, ◌<◌, ◌≤◌, ◌^◌, List, ℕ, length};
-ghost use Rattle.sedengine.specs.Ends.{WithinLimits};
-ghost use Rattle.sedengine.specs.Run.{at_lines};
+ghost use Rattle.sedacts.specs.Ends.{WithinLimits};
+ghost use Rattle.sedacts.specs.Run.{at_lines};
 
 use super::Machine;
 use sedspace::Space;

@@ -1,13 +1,13 @@
 //! The moves one after another.
 ghost use Rattle.std.specs.Prelude.{◌≡◌, ◌<◌, Err, length};
 ghost use Rattle.sedspace.specs.Stream.{lines_left};
-ghost use Rattle.sedengine.specs.Run.{Cycles, Ending, as_moves_answer, starts_cycle};
-ghost use Rattle.sedengine.specs.Steps.{Advances, RunsOn};
+ghost use Rattle.sedacts.specs.Run.{Cycles, CameToEnd, as_moves_answer, starts_cycle};
+ghost use Rattle.sedengine.specs.Advancing.{Advances, RunsOn};
 
 use super::Machine;
-use crate::ends::{Ended, Progress};
-use crate::meter::MeteredSinks;
 use crate::next_step::NextStep;
+use sedacts::meter::MeteredSinks;
+use sedacts::{Ended, Progress};
 use sedspace::{ByteSource, Lines, Texts};
 
 impl Machine {
@@ -41,7 +41,7 @@ impl Machine {
         requires sinks { length self.old.script.wfiles < O.count outputs.old }
         requires look { lines.old.read_ahead ≡ self.old.limits.look }
         ensures { RunsOn R.remaining R.failures R.reference O.tally O.count T.text
-            (λ g s out before after. Ending self.old.limits g s out before after self.new.state result)
+            (λ g s out before after. CameToEnd self.old.limits g s out before after self.new.state result)
             self.old self.new lines.old lines.new outputs.old outputs.new texts.old texts.new (Err result) }
     {
         self.is_within_limits();

@@ -1,18 +1,19 @@
 //! The commands `n` and `N`: further lines (XCU sed, "Editing Commands in sed").
-ghost use Rattle.std.specs.Prelude.{◌≡◌, ◌<◌, [], ◌∷◌, ◌++◌, true, false};
+ghost use Rattle.std.specs.Prelude.{◌≡◌, ◌<◌, [], ◌∷◌, true, false};
 ghost use Rattle.sedscript.specs.declared.types.Action.TheVariants.{Plain};
 ghost use Rattle.sedscript.specs.declared.types.Simple.TheVariants.{AppendNext};
-ghost use Rattle.sedengine.specs.State.{empty_pattern, fetch, join};
-ghost use Rattle.sedengine.specs.Move.{acts, newline};
-ghost use Rattle.sedengine.specs.Steps.{reaches, ActsLines};
-ghost use Rattle.sedengine.specs.Bringing.{BringsLine, Fetches, brought, next_line};
+ghost use Rattle.sedacts.specs.State.{empty_pattern, fetch, join};
+ghost use Rattle.sedacts.specs.Move.{acts};
+ghost use Rattle.sedacts.specs.Steps.{reaches};
+ghost use Rattle.sedengine.specs.Advancing.{ActsLines};
+ghost use Rattle.sedengine.specs.Fetching.{Fetches, brought, next_line};
 
 use super::Machine;
-use super::addresses::is_last;
-use crate::ends::Ended;
-use crate::meter::MeteredSinks;
 use crate::next_step::NextStep;
-use sedspace::{ByteSource, Full, Got, LineFault, Lines, Space, Texts};
+use sedacts::Ended;
+use sedacts::bringing::{bring_line, is_last, join_line};
+use sedacts::meter::MeteredSinks;
+use sedspace::{ByteSource, Got, Lines, Texts};
 
 impl Machine {
     /// The command `n`: writes the pattern space, unless default output is suppressed, and the queue, and goes on with the
@@ -96,50 +97,5 @@ impl Machine {
         let got = join_line(&mut self.pattern, lines, self.number + 1)?;
         self.go_on(got);
         Ok(())
-    }
-}
-
-/// Appends the next line, which has this number, to a space, and says whether there was one.
-fn bring_line<R: ByteSource>(
-    space: &mut Space,
-    lines: &mut Lines<R>,
-    number: u64,
-) -> Result<Got, Ended>
-    ensures { BringsLine R.remaining R.failures R.reference space.old.bytes number space.old space.new
-        lines.old lines.new result }
-{
-    match lines.next_into(space) {
-        Ok(got) => Ok(got),
-        Err(LineFault::TooLong) => Err(Ended::PatternFull(number)),
-        Err(LineFault::Broken) => Err(Ended::InputBroken),
-    }
-}
-
-/// Appends a newline and the next line, which has this number, to a space, and says whether there was one.
-fn join_line<R: ByteSource>(
-    space: &mut Space,
-    lines: &mut Lines<R>,
-    number: u64,
-) -> Result<Got, Ended>
-    ensures { BringsLine R.remaining R.failures R.reference (space.old.bytes ++ newline ∷ []) number space.old space.new
-        lines.old lines.new result }
-{
-    let len = space.len();
-    if let Err(Full) = space.append(b"\n") {
-        if is_last(lines)? {
-            return Ok(Got::End);
-        }
-        return Err(Ended::PatternFull(number));
-    }
-    match bring_line(space, lines, number) {
-        Ok(Got::Line) => Ok(Got::Line),
-        Ok(Got::End) => {
-            space.truncate(len);
-            Ok(Got::End)
-        }
-        Err(end) => {
-            space.truncate(len);
-            Err(end)
-        }
     }
 }

@@ -2,17 +2,18 @@
 ghost use Rattle.std.specs.Prelude.{◌≡◌, ◌<◌, ◌≤◌, ◌+◌, ◌*◌, [], ◌∷◌, IfSome, IsTrue, List, ℕ, is_some, length, take, true};
 ghost use Rattle.sedscript.specs.Ranges.{IsOneOf};
 ghost use Rattle.sedspace.specs.Stream.{AreWholeLines};
-ghost use Rattle.sedengine.specs.State.{begin};
-ghost use Rattle.sedengine.specs.Ends.{WithinLimits};
-ghost use Rattle.sedengine.specs.Run.{at_lines};
-ghost use Rattle.sedengine.specs.Passing.{AllowsLines, BreaksOffBy, PassesLines, PassesLinesOver, WritesLines, counted_block, need_at};
+ghost use Rattle.sedacts.specs.State.{begin};
+ghost use Rattle.sedacts.specs.Ends.{WithinLimits};
+ghost use Rattle.sedacts.specs.Run.{at_lines};
+ghost use Rattle.sedengine.specs.Passing.{AllowsLines, BreaksOffBy, PassesLines, PassesLinesOver, WritesLines, counted_block};
+ghost use Rattle.sedacts.specs.Idle.{need_at};
 
 use super::Machine;
-use crate::block::{clear_end, extent_of, line_length, lines_before};
-use crate::ends::Ended;
-use crate::idle::{Idle, clear_lines};
-use crate::meter::{CutShort, MeteredSinks};
 use crate::next_step::NextStep;
+use sedacts::Ended;
+use sedacts::block::{clear_end, extent_of, line_length, lines_before};
+use sedacts::idle::{Idle, clear_lines};
+use sedacts::meter::{CutShort, MeteredSinks};
 use sedspace::{ByteSource, Lines, whole_lines};
 
 /// The first of the bytes ahead, which are lines that no command touches.

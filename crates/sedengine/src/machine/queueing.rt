@@ -1,18 +1,17 @@
 //! The queue: the commands `a` and `r`, and the places at which it is written (XCU sed, "Editing Commands in sed").
-ghost use Rattle.std.specs.Prelude.{◌<◌, [], ◌∷◌, slice_get, if◌then◌else◌};
-ghost use Rattle.sedengine.specs.State.{flush, print_pattern};
-ghost use Rattle.sedengine.specs.Move.{line_to};
-ghost use Rattle.sedengine.specs.Calls.{WritesAll};
-ghost use Rattle.sedengine.specs.Inside.{IsEmptied, CommandQueues, entry_by};
+ghost use Rattle.std.specs.Prelude.{◌<◌, [], ◌∷◌, slice_get};
+ghost use Rattle.sedacts.specs.State.{flush, print_pattern};
+ghost use Rattle.sedengine.specs.Inside.{IsEmptied};
+ghost use Rattle.sedacts.specs.Keeping.{CommandQueues, entry_by};
 ghost use Rattle.sedengine.specs.Queueing.{EndsCycle, QueuesOrFull, WritesQueue};
 
 use super::Machine;
-use crate::ends::Ended;
-use crate::flushing::flush_queue;
-use crate::meter::MeteredSinks;
 use crate::next_step::NextStep;
-use sedscript::Script;
-use sedspace::{Space, Texts};
+use sedacts::Ended;
+use sedacts::flushing::flush_queue;
+use sedacts::meter::MeteredSinks;
+use sedacts::write::print_by_default;
+use sedspace::Texts;
 
 impl Machine {
     /// The commands `a` and `r`: the entry of command `k` waits in the queue, if there is room.
@@ -80,21 +79,4 @@ impl Machine {
         self.next_step = next_step;
         self.flush(outputs, texts)
     }
-}
-
-/// Writes the pattern space, unless default output is suppressed. Apart from `print_and_flush`, so that its proof needs no
-/// machine.
-fn print_by_default<O: MeteredSinks>(
-    script: &Script,
-    pattern: &Space,
-    outputs: &mut O,
-) -> Result<(), Ended>
-    requires { 0 < O.count outputs.old }
-    ensures { WritesAll O.tally O.count outputs.old outputs.new
-        (if script.now.quiet then [] else line_to 0 pattern.now.bytes) result }
-{
-    if script.quiet() {
-        return Ok(());
-    }
-    outputs.write_all(0, pattern.line())
 }

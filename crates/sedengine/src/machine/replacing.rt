@@ -1,20 +1,21 @@
 //! The commands `s`, `t` and `y`: substitutions, what `t` sees of them, and tables (XCU sed, "Editing Commands in
 //! sed").
 ghost use Rattle.std.specs.Prelude.{◌≡◌, ◌<◌, [], ◌∷◌, List, ℕ, false, true, length, map, slice_get, if◌then◌else◌};
-ghost use Rattle.sedengine.specs.State.{do_at};
-ghost use Rattle.sedengine.specs.Move.{in_table, substitutes};
-ghost use Rattle.sedengine.specs.Ends.{WithinLimits};
-ghost use Rattle.sedengine.specs.Run.{at_lines};
-ghost use Rattle.sedengine.specs.Calls.{WritesAll};
-ghost use Rattle.sedengine.specs.Steps.{reaches, ActsAlone};
+ghost use Rattle.sedacts.specs.State.{do_at};
+ghost use Rattle.sedacts.specs.Move.{in_table, substitutes};
+ghost use Rattle.sedacts.specs.Ends.{WithinLimits};
+ghost use Rattle.sedacts.specs.Run.{at_lines};
+ghost use Rattle.sedacts.specs.Calls.{WritesAll};
+ghost use Rattle.sedacts.specs.Steps.{reaches};
+ghost use Rattle.sedengine.specs.Advancing.{ActsAlone};
 ghost use Rattle.sedengine.specs.SubstituteCalls.{ReplacesOccurrences, written_of};
 
 use super::Machine;
 use super::known::is_within;
-use crate::ends::Ended;
-use crate::meter::MeteredSinks;
 use crate::next_step::NextStep;
-use crate::substitute::build_text;
+use sedacts::Ended;
+use sedacts::meter::MeteredSinks;
+use sedacts::substitute::build_text;
 use sedspace::Full;
 
 impl Machine {

@@ -1,12 +1,12 @@
 //! The start of a cycle, and its end.
 ghost use Rattle.std.specs.Prelude.{◌≡◌, ◌<◌, ◌≤◌, [], ◌∷◌, length};
-ghost use Rattle.sedengine.specs.State.{begin, rebegin, do_at, print_pattern, flush};
-ghost use Rattle.sedengine.specs.Steps.{AdvancesAlone, AdvancesHere, AdvancesReading};
+ghost use Rattle.sedacts.specs.State.{begin, rebegin, do_at, print_pattern, flush};
+ghost use Rattle.sedengine.specs.Advancing.{AdvancesAlone, AdvancesHere, AdvancesReading};
 
 use super::Machine;
-use crate::ends::Ended;
-use crate::meter::MeteredSinks;
 use crate::next_step::NextStep;
+use sedacts::Ended;
+use sedacts::meter::MeteredSinks;
 use sedspace::{ByteSource, Got, LineFault, Lines, Texts};
 
 impl Machine {

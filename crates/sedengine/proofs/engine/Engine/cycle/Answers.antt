@@ -1,16 +1,16 @@
 use Rattle.std.proofs.Common.{refl, sym, ap, ◌∙◌, rules}
 use Rattle.std.proofs.KnownBytes.{Keeps-refl}
-use Rattle.sedengine.specs.Meters.{Frame}
-use Rattle.sedengine.specs.Run.{RunState}
+use Rattle.sedacts.specs.Meters.{Frame}
+use Rattle.sedacts.specs.Run.{RunState}
 use Rattle.sedengine.proofs.Metering.{cycles_metered, sinks_at_end, meter_fits, never_some, not_none, same_metered, sink_counts, sound_more}
 use Rattle.sedengine.proofs.engine.Engine.cycle.Goals as goal
 
 pub returns-clause-cycles : goal.returns-clause-cycles
-returns-clause-cycles g c = λ fresh sound ls known files told.
+returns-clause-cycles g c = λ fresh sound ls known files shown.
     let w = c.cycle-progress.ensures in
     cycles_metered g.O.Outputs.contents c.self.inside.machine c.cycle-progress.new.self c.self.inside.meter c.cycle-progress.new.outputs.meter.now c.self.inside.ended c.end-self-inside.result c.args.self.now c.args.outputs.now c.cycle-progress.new.outputs.outputs.now _ _ _ _ _ files ls _ _
     c.self.view_is c.self.invariant.0 (search rules) (ap (λ (f : Frame). f.most) w.leaves.output.same_frame) refl c.is_within_limit.ensures _ _ w.leaves.output.full
-    (w.runs sound ls known files told)
+    (w.runs sound ls known files shown)
 
 pub returns-clause-output : goal.returns-clause-output
 returns-clause-output g c = λ fresh.

@@ -3,10 +3,10 @@ use Rattle.std.proofs.lemmas.Grind.{common_steps}
 use Rattle.std.proofs.lemmas.List.{length-map}
 use Rattle.std.specs.Prelude.{replicate}
 use Rattle.sedscript.specs.Program.{Program}
-use Rattle.sedengine.specs.State.{Limits}
-use Rattle.sedengine.specs.Meters.{Meter}
-use Rattle.sedengine.specs.Move.{start}
-use Rattle.sedengine.specs.Run.{RunState}
+use Rattle.sedacts.specs.State.{Limits}
+use Rattle.sedacts.specs.Meters.{Meter}
+use Rattle.sedacts.specs.Move.{start}
+use Rattle.sedacts.specs.Run.{RunState}
 use Rattle.sedengine.proofs.engine.Engine.open.Goals as goal
 
 -- the machine that was opened

@@ -1,16 +1,16 @@
 use Rattle.std.proofs.Common.{Some, refl, sym, ap, ◌∙◌, rules}
 use Rattle.std.proofs.KnownBytes.{Keeps-refl}
-use Rattle.sedengine.specs.Meters.{Frame}
-use Rattle.sedengine.specs.Run.{RunState}
+use Rattle.sedacts.specs.Meters.{Frame}
+use Rattle.sedacts.specs.Run.{RunState}
 use Rattle.sedengine.proofs.Metering.{ending_metered, sinks_at_end, meter_fits, never_some, not_none, same_metered, sink_counts}
 use Rattle.sedengine.proofs.engine.Engine.run.Goals as goal
 
 pub returns-clause-ends : goal.returns-clause-ends
-returns-clause-ends g c = λ fresh sound ls known files told.
+returns-clause-ends g c = λ fresh sound ls known files shown.
     let w = c.run-end.ensures in
     ending_metered g.O.Outputs.contents c.self.inside.machine c.run-end.new.self c.self.inside.meter c.run-end.new.outputs.meter.now c.self.inside.ended (Some c.run-end.result) c.args.self.now c.args.outputs.now c.run-end.new.outputs.outputs.now _ _ _ _ _ files ls _ _
     c.self.view_is c.self.invariant.0 (search rules) (ap (λ (f : Frame). f.most) w.leaves.output.same_frame) refl c.is_within_limit.ensures _ w.leaves.output.full
-    (w.runs sound ls known files told)
+    (w.runs sound ls known files shown)
 
 pub returns-clause-input : goal.returns-clause-input
 returns-clause-input g c = λ fresh sound. c.run-end.ensures.leaves.input.failed sound

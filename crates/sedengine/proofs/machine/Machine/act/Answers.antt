@@ -1,9 +1,9 @@
 use Rattle.std.proofs.Common.{rules, Bool, Option, ap, ◌∙◌}
 use Rattle.sedscript.specs.declared.types.Action.{Action}
 use Rattle.sedscript.specs.declared.types.Action.TheVariants.{Plain}
-use Rattle.sedengine.specs.State.{Move, Setting, State}
-use Rattle.sedengine.specs.Ends.{is_next_line}
-use Rattle.sedengine.specs.Move.{acts}
+use Rattle.sedacts.specs.State.{Move, Setting, State}
+use Rattle.sedacts.specs.Ends.{is_next_line}
+use Rattle.sedacts.specs.Move.{acts}
 use Rattle.sedengine.proofs.Acts.{acts_here, lines_by, some_sink}
 use Rattle.sedengine.proofs.machine.Machine.act.Goals as goal
 

@@ -1,6 +1,6 @@
 use Rattle.std.proofs.Common.{ap, ◌∙◌}
-use Rattle.sedengine.specs.Run.{RunState}
-use Rattle.sedengine.specs.Steps.{reaches}
+use Rattle.sedacts.specs.Run.{RunState}
+use Rattle.sedacts.specs.Steps.{reaches}
 use Rattle.sedengine.proofs.Tasks.{appended_is_run, held_appended, held_too_long}
 use Rattle.sedengine.proofs.machine.Machine.act_append_hold.Goals as goal
 use Rattle.sedengine.proofs.machine.Machine.act_append_hold.Goals.{in-Ok, in-Err}

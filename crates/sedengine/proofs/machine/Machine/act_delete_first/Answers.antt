@@ -1,7 +1,7 @@
 use Rattle.std.proofs.Common.{[], refl}
 use Rattle.sedengine.specs.Inside.{run_state_of}
 use Rattle.sedengine.specs.declared.next_step.NextStep.TheVariants as p
-use Rattle.sedengine.proofs.Writing.{writes_none}
+use Rattle.sedacts.proofs.Writing.{writes_none}
 use Rattle.sedengine.proofs.Deleting.{acts_deleting, cut_is_run, cut_seen, uncut_performs}
 use Rattle.sedengine.proofs.Leaving.{falls_seen, leaves_seen}
 use Rattle.sedengine.proofs.machine.Machine.act_delete_first.Goals as goal
@@ -19,7 +19,7 @@ returns-else-cut_line g c =
     let whole = c.cut_line.ensures.whole c.if-cut_line.false in
     let e1 = run_state_of (record c.self.inside { pattern = c.cut_line.new.self }) in
     record {
-      acts = λ files told ls. uncut_performs c.self.inside c.args.self.now c.act_delete.new.self files ls c.cut_line.new.self _ _ c.act_delete.result c.self.view_is whole.0 whole.1 (w.acts files told ls);
+      acts = λ files shown ls. uncut_performs c.self.inside c.args.self.now c.act_delete.new.self files ls c.cut_line.new.self _ _ c.act_delete.result c.self.view_is whole.0 whole.1 (w.acts files shown ls);
       falls = falls_seen c.self.inside c.args.self.now e1 c.act_delete.new.self c.self.view_is refl w.falls;
       leaves = leaves_seen c.self.inside c.args.self.now e1 c.self.view_is refl refl w.leaves;
     }

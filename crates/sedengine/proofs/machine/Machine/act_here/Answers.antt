@@ -6,14 +6,15 @@ use Rattle.sedscript.specs.declared.types.FileUse.TheVariants.{Read}
 use Rattle.sedscript.specs.declared.types.TextUse.TheVariants.{Append}
 use Rattle.std.specs.Prelude.{[], slice_get}
 use Rattle.std.specs.Option.{unwrap_or}
-use Rattle.sedengine.specs.State.{do_at, State, Move, Setting}
-use Rattle.sedengine.specs.Inside.{entry_for, queues}
+use Rattle.sedacts.specs.State.{do_at, State, Move, Setting}
+use Rattle.sedacts.specs.Keeping.{entry_for, queues}
 use Rattle.sedengine.specs.declared.next_step.NextStep.TheVariants as p
-use Rattle.sedengine.specs.Move.{acts, line_to, quietly, then_do}
+use Rattle.sedacts.specs.Move.{acts, line_to, quietly, then_do}
 use Rattle.sedengine.specs.Queueing.{queueing}
-use Rattle.sedengine.specs.Run.{RunState, at_lines}
+use Rattle.sedacts.specs.Run.{RunState, at_lines}
 use Rattle.sedengine.proofs.Acting.{acts_by, acts_going, acts_nothing, acts_queueing, acts_testing, acts_translating, acts_writing}
-use Rattle.sedengine.proofs.Acts.{entry_is, queues_action, some_sink}
+use Rattle.sedacts.proofs.Entries.{entry_is}
+use Rattle.sedengine.proofs.Acts.{queues_action, some_sink}
 use Rattle.sedengine.proofs.Tasks.{placed}
 use Rattle.sedengine.proofs.Ending.{writes_seen}
 use Rattle.sedengine.proofs.Leaving.{falls_more}
@@ -79,7 +80,7 @@ pub returns-in-Substitute : goal.returns-in-Substitute
 returns-in-Substitute g c =
     let w = c.act_substitute.ensures in
     acts_by (here c.args.writes_text) c.in-Substitute.is (record {
-      acts = λ files told ls. w.acts files ls;
+      acts = λ files shown ls. w.acts files ls;
       falls = falls_more w.falls;
       leaves = record { devices = w.devices; same = w.same; kept = λ j. Keeps-refl _ };
     })

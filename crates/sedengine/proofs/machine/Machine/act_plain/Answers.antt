@@ -4,11 +4,11 @@ use Rattle.sedscript.specs.declared.types.Simple.{Simple}
 use Rattle.std.specs.Prelude.{[], decimal}
 use Rattle.std.specs.List.{before_first}
 use Rattle.sedspace.specs.Lines.{is_newline}
-use Rattle.sedengine.specs.State.{flush, print_pattern, State, Move, Setting}
-use Rattle.sedengine.specs.Listing.{listed}
-use Rattle.sedengine.specs.Inside.{keeps_in_hold}
-use Rattle.sedengine.specs.Move.{acts, line_to, newline, to_sink}
-use Rattle.sedengine.specs.Run.{RunState}
+use Rattle.sedacts.specs.State.{flush, print_pattern, State, Move, Setting}
+use Rattle.sedacts.specs.Listing.{listed}
+use Rattle.sedacts.specs.Keeping.{keeps_in_hold}
+use Rattle.sedacts.specs.Move.{acts, line_to, newline, to_sink}
+use Rattle.sedacts.specs.Run.{RunState}
 use Rattle.sedengine.proofs.Acting.{acts_by, acts_going, acts_growing, acts_holding, acts_writing}
 use Rattle.sedengine.proofs.Acts.{fills}
 use Rattle.sedengine.proofs.Ending.{writes_seen}

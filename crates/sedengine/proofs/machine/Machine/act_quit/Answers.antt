@@ -1,6 +1,6 @@
 use Rattle.std.proofs.Common.{[], ◌∷◌, ap, refl}
-use Rattle.sedengine.specs.State.{flush, print_pattern}
-use Rattle.sedengine.specs.Run.{RunState}
+use Rattle.sedacts.specs.State.{flush, print_pattern}
+use Rattle.sedacts.specs.Run.{RunState}
 use Rattle.sedengine.specs.declared.next_step.NextStep.TheVariants as p
 use Rattle.sedengine.proofs.Tasks.{placed}
 use Rattle.sedengine.proofs.machine.Machine.act_quit.Goals as goal

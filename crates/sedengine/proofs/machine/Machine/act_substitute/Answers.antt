@@ -1,11 +1,11 @@
 use Rattle.std.proofs.Common.{◌≡◌, Some, ap, ◌∙◌}
 use Rattle.std.proofs.lemmas.Result.{err_from_is_err_and}
 use Rattle.std.specs.Prelude.{slice_get}
-use Rattle.sedengine.specs.Move.{substitutes}
-use Rattle.sedengine.specs.Run.{RunState, at_lines, run_setting}
-use Rattle.sedengine.proofs.Writing.{Delivers-none, Delivers-unwritten, writes_alone}
+use Rattle.sedacts.specs.Move.{substitutes}
+use Rattle.sedacts.specs.Run.{RunState, at_lines, run_setting}
+use Rattle.sedacts.proofs.Writing.{Delivers-none, Delivers-unwritten, writes_alone}
 use Rattle.sedengine.proofs.Leaving.{falls_replaced, same_replaced}
-use Rattle.sedengine.proofs.Streams.{names_ok}
+use Rattle.sedacts.proofs.Streams.{names_ok}
 use Rattle.sedengine.proofs.SubstituteMoves.{of_this, there_is, replaced_nothing, replaced_some, replaced_not}
 use Rattle.sedengine.proofs.machine.Machine.act_substitute.Goals as goal
 

@@ -1,5 +1,5 @@
-use Rattle.sedengine.specs.Move.{line_to}
-use Rattle.sedengine.specs.Run.{RunState}
+use Rattle.sedacts.specs.Move.{line_to}
+use Rattle.sedacts.specs.Run.{RunState}
 use Rattle.sedengine.proofs.Ending.{writes_seen}
 use Rattle.sedengine.proofs.machine.Machine.act_write.Goals as goal
 

@@ -1,7 +1,7 @@
 use Rattle.std.proofs.Common.{Bool, ◌∙◌, refl, sym, ap, Ok, Err}
 use Rattle.sedspace.specs.declared.lines.Got.{Got}
 use Rattle.sedengine.proofs.Runs.{same_seen}
-use Rattle.sedengine.proofs.Streams.{broken_long, kept_long, last_told, names_long, names_ok, names_spent, reads_broken, reads_long, reads_told, some_told}
+use Rattle.sedacts.proofs.Streams.{broken_long, kept_long, last_shown, names_long, names_ok, names_spent, reads_broken, reads_long, reads_shown, some_shown}
 use Rattle.sedengine.specs.declared.next_step.NextStep.TheVariants as p
 use Rattle.sedengine.proofs.Tasks.{begun_falls, begun_is_run, ended_falls, placed, begins_last, begins_none, begins_takes, begins_stops, begins_spent, begins_broken, begins_failed}
 use Rattle.sedengine.proofs.machine.Machine.begin.Goals as goal
@@ -10,11 +10,11 @@ pub returns-in-Ok-true : goal.returns-in-Ok-true
 returns-in-Ok-true g c = record {
   steps = λ sound ls known files sinks.
       let w = c.is_last.ensures in
-      let none = last_told _ ls c.in-Ok-true.field-0 known c.in-Ok-true.ensures.last c.in-Ok-true.field-0-test in
+      let none = last_shown _ ls c.in-Ok-true.field-0 known c.in-Ok-true.ensures.last c.in-Ok-true.field-0-test in
       begins_last g.R.ByteSource.remaining c.args.lines.now c.is_last.new.self c.self.inside _ c.self.view_is c.self.invariant c.requires ls known files sinks
       none w.lines w.left;
   reads = let w = c.in-Ok-true.ensures in
-      reads_told _ _ c.in-Ok-true.field-0 _ names_ok w.reads w.taken w.fault w.failed;
+      reads_shown _ _ c.in-Ok-true.field-0 _ names_ok w.reads w.taken w.fault w.failed;
   falls = ended_falls c.self.inside c.args.self.now c.self.inside.pattern c.self.view_is c.requires;
   same = same_seen c.self.inside c.args.self.now _ c.self.view_is refl refl;
 }
@@ -23,11 +23,11 @@ pub returns-in-Ok-false : goal.returns-in-Ok-false
 returns-in-Ok-false g c = record {
   steps = λ sound ls known files sinks.
       let w = c.is_last.ensures in
-      let some = some_told _ ls c.in-Ok-false.field-0 known c.in-Ok-false.ensures.last c.in-Ok-false.field-0-test in
+      let some = some_shown _ ls c.in-Ok-false.field-0 known c.in-Ok-false.ensures.last c.in-Ok-false.field-0-test in
       begins_spent g.R.ByteSource.remaining c.args.lines.now c.is_last.new.self c.self.inside _ c.self.view_is c.self.invariant c.requires ls known files sinks
       some (c.if-self-turns.true ∙ c.turns.ensures) w.left;
   reads = let w = c.in-Ok-false.ensures in
-      reads_told _ _ c.in-Ok-false.field-0 _ names_spent w.reads w.taken w.fault w.failed;
+      reads_shown _ _ c.in-Ok-false.field-0 _ names_spent w.reads w.taken w.fault w.failed;
   falls = tt;
   same = record { script = refl; limits = refl };
 }
@@ -52,7 +52,7 @@ returns-in-Ok-Line g c = record {
       begins_takes g.R.ByteSource.remaining c.args.lines.now c.next_into.new.self c.self.inside _ c.self.view_is c.self.invariant c.requires ls known files sinks
       c.next_into.new.space h.0 (λ e. c.if-self-turns.false (e ∙ sym c.turns.ensures)) h.1 w.fits h.2 h.3;
   reads = let w = c.in-Ok-Line.ensures in
-      reads_told _ _ c.in-Ok-Line.field-0 _ names_ok w.reads w.taken w.fault w.failed;
+      reads_shown _ _ c.in-Ok-Line.field-0 _ names_ok w.reads w.taken w.fault w.failed;
   falls = begun_falls c.self.inside c.args.self.now c.next_into.new.space c.self.view_is c.self.invariant c.requires (λ e. c.if-self-turns.false (e ∙ sym c.turns.ensures));
   same = same_seen c.self.inside c.args.self.now _ c.self.view_is refl refl;
 }
@@ -65,7 +65,7 @@ returns-in-Ok-End g c = record {
       begins_none g.R.ByteSource.remaining c.args.lines.now c.next_into.new.self c.self.inside _ c.self.view_is c.self.invariant c.requires ls known files sinks
       _ c.next_into.new.space h.0 w.taken h.1 h.2;
   reads = let w = c.in-Ok-End.ensures in
-      reads_told _ _ c.in-Ok-End.field-0 _ names_ok w.reads w.taken w.fault w.failed;
+      reads_shown _ _ c.in-Ok-End.field-0 _ names_ok w.reads w.taken w.fault w.failed;
   falls = ended_falls c.self.inside c.args.self.now c.next_into.new.space c.self.view_is c.requires;
   same = same_seen c.self.inside c.args.self.now _ c.self.view_is refl refl;
 }

@@ -1,9 +1,10 @@
 use Rattle.std.proofs.Common.{◌+◌, List, ℕ, take, drop, subst, ap, ◌∙◌}
-use Rattle.sedspace.specs.Spaces.{Contents}
+use Rattle.sedspace.specs.Spaces.{SpaceView}
 use Rattle.sedspace.specs.Stream.{AreWholeLines}
-use Rattle.sedengine.proofs.Telling.{le_more}
-use Rattle.sedengine.proofs.Passes.{add_less, breaks_off_seen, brought_is, done_taken, fits_within, less_seen, less_within, line_inside, no_longer, start_before, start_low, whole_first, whole_through}
-use Rattle.sedengine.specs.Run.{RunState}
+use Rattle.sedacts.proofs.DecidingGroups.{le_more}
+use Rattle.sedengine.proofs.Passes.{add_less, breaks_off_seen, brought_is, done_taken, fits_within, less_seen, less_within, line_inside, no_longer, start_low, whole_through}
+use Rattle.sedacts.proofs.BlockLemmas.{start_before, whole_first}
+use Rattle.sedacts.specs.Run.{RunState}
 use Rattle.sedengine.specs.declared.next_step.NextStep.TheVariants as p
 use Rattle.sedengine.proofs.Tasks.{placed}
 use Rattle.sedengine.proofs.machine.Machine.break_off.Goals as goal
@@ -41,7 +42,7 @@ returns g c =
     let n = c.line_length.result in
     let start = start_before ahead first c.args.done c.whole_lines-start.ensures.within in
     let size = add_less first n in
-    let line = ap (λ (s : Contents). s.bytes) c.in-Ok.ensures.ok ∙ ap (λ k. take k (drop first ahead)) size in
+    let line = ap (λ (s : SpaceView). s.bytes) c.in-Ok.ensures.ok ∙ ap (λ k. take k (drop first ahead)) size in
     breaks_off_seen c.args.lines.now c.take_lines.new.self c.args.self.now _ ahead first n c.args.done c.args.bytes same start c.requires.done c.requires.within c.requires.whole
     (whole_first ahead first c.args.done c.whole_lines-start.ensures.within c.whole_lines-start.ensures.whole) c.whole_lines-start.ensures.rest c.line_length.ensures.clear c.line_length.ensures.ends c.take_lines.ensures.taken
     (brought_is c.self.inside c.args.self.now c.set.new.self c.len.result (take n (drop first ahead)) c.self.view_is line c.len.ensures)
@@ -50,7 +51,7 @@ pub invariant_of-self : goal.invariant_of-self
 invariant_of-self g c =
     let w = c.in-Ok.ensures in
     let i = c.self.invariant in
-    placed c.self.inside c.set.new.self (p.Do c.len.result) i (ap (λ (s : Contents). s.limit) w.ok) (rw w.ok (rw i.pattern_limit at w.fits)) tt
+    placed c.self.inside c.set.new.self (p.Do c.len.result) i (ap (λ (s : SpaceView). s.limit) w.ok) (rw w.ok (rw i.pattern_limit at w.fits)) tt
 
 pub slice_bounds-whole_lines-end : goal.slice_bounds-whole_lines-end
 slice_bounds-whole_lines-end g c = done_taken c.ahead-ahead.result.now c.args.lines.now.ahead c.args.done c.args.bytes c.ahead-ahead.ensures.value c.requires.done c.requires.within

@@ -1,5 +1,5 @@
 use Rattle.std.proofs.Common.{◌*◌, ◌+◌, ap, arith}
-use Rattle.sedengine.specs.Run.{RunState}
+use Rattle.sedacts.specs.Run.{RunState}
 use Rattle.sedengine.specs.Passing.{counted_block}
 use Rattle.sedengine.proofs.Passes.{le_mul, turns_fit}
 use Rattle.sedengine.proofs.machine.Machine.count_block.Goals as goal

@@ -1,9 +1,10 @@
 use Rattle.std.proofs.Common.{rules, refl, ap, ◌∙◌}
 use Rattle.sedengine.proofs.Choices.{none_decides}
-use Rattle.sedengine.specs.Choose.{current_in, deciding}
-use Rattle.sedengine.specs.Move.{none_left}
-use Rattle.sedengine.specs.Run.{RunState}
-use Rattle.sedengine.proofs.Streams.{lines_same, names_ok, ReadsLines-unread}
+use Rattle.sedengine.specs.Judging.{current_in}
+use Rattle.sedacts.specs.Choose.{deciding}
+use Rattle.sedacts.specs.Move.{none_left}
+use Rattle.sedacts.specs.Run.{RunState}
+use Rattle.sedacts.proofs.Streams.{lines_same, names_ok, ReadsLines-unread}
 use Rattle.sedengine.proofs.machine.Machine.decide.Goals as goal
 
 pub returns-in-None : goal.returns-in-None

@@ -1,6 +1,6 @@
 use Rattle.std.proofs.Common.{◌≤◌, ◌∷◌, ◌∙◌, ap, refl, subst}
-use Rattle.sedengine.specs.State.{flush}
-use Rattle.sedengine.specs.Run.{RunState}
+use Rattle.sedacts.specs.State.{flush}
+use Rattle.sedacts.specs.Run.{RunState}
 use Rattle.sedengine.specs.Inside.{run_state_of, tasks_of}
 use Rattle.sedengine.proofs.Ending.{placed_ended, run_kept, tasks_kept, weight_ended}
 use Rattle.sedengine.proofs.Leaving.{leaves_seen}
@@ -19,7 +19,7 @@ returns g c =
     let run = run_kept e1 e' c.flush.result w.ok w.err in
     let L : RunState → Type 0 = λ e. e.state.turns ≤ e'.state.turns in
     record {
-      moves = λ files told ls. placed_ended a e e' next_step files ls (flush ∷ tasks_of next_step) _ _ c.flush.result c.self.view_is at (w.moves files told ls (tasks_of next_step));
+      moves = λ files shown ls. placed_ended a e e' next_step files ls (flush ∷ tasks_of next_step) _ _ c.flush.result c.self.view_is at (w.moves files shown ls (tasks_of next_step));
       falls = weight_ended e e' next_step (run.limits ∙ ap (λ (e : RunState). e.limits) c.self.view_is) (subst L c.self.view_is w.later) at;
       leaves = leaves_seen a e e1 c.self.view_is refl refl (record { devices = w.devices; same = run; kept = w.kept });
     }

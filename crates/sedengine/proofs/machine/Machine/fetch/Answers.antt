@@ -1,15 +1,15 @@
 use Rattle.std.proofs.Common.{refl, ap, Ok, Err, arith, ◌∙◌}
-use Rattle.sedspace.specs.Spaces.{Contents}
-use Rattle.sedengine.specs.Run.{RunState}
-use Rattle.sedengine.specs.Steps.{reaches}
+use Rattle.sedspace.specs.Spaces.{SpaceView}
+use Rattle.sedacts.specs.Run.{RunState}
+use Rattle.sedacts.specs.Steps.{reaches}
 use Rattle.std.proofs.lemmas.Result.{err_from_is_err_and}
 use Rattle.sedengine.proofs.NextLines.{fetches_next}
 use Rattle.sedengine.specs.Inside.{run_state_of}
 use Rattle.sedengine.proofs.Tasks.{brought_is_run}
-use Rattle.sedengine.proofs.Telling.{le_zero}
+use Rattle.sedacts.proofs.DecidingGroups.{le_zero}
 use Rattle.sedengine.proofs.Leaving.{falls_brought, falls_kept, same_brought}
 use Rattle.sedengine.proofs.Runs.{SameRun-then, same_seen}
-use Rattle.sedengine.proofs.Streams.{ReadsAlone-ended, ReadsAlone-told}
+use Rattle.sedacts.proofs.Streams.{ReadsAlone-ended, ReadsAlone-shown}
 use Rattle.sedengine.proofs.machine.Machine.fetch.Goals as goal
 
 pub returns : goal.returns
@@ -17,7 +17,7 @@ returns g c = record {
   steps = λ sound ls known files sinks.
       fetches_next g.R.ByteSource.remaining c.args.lines.now c.bring_line.new.lines ls files sinks c.self.inside c.args.self.now c.go_on.new.self c.self.view_is c.self.invariant c.bring_line.new.space (Ok c.in_ok-got.got)
       c.clear.new.self c.clear.ensures c.go_on.ensures (c.in_ok-got.ensures.brings sound ls known);
-  reads = ReadsAlone-told c.in_ok-got.got c.in_ok-got.ensures.reads;
+  reads = ReadsAlone-shown c.in_ok-got.got c.in_ok-got.ensures.reads;
   falls = let e = (run_state_of (record c.self.inside { pattern = c.bring_line.new.space })) in
       falls_kept c.self.inside c.args.self.now e c.go_on.new.self c.self.view_is refl (falls_brought e c.go_on.new.self c.in_ok-got.got c.go_on.ensures);
   same = let e = (run_state_of (record c.self.inside { pattern = c.bring_line.new.space })) in
@@ -40,12 +40,12 @@ returns-in_err-got g c =
 pub invariant_of-self : goal.invariant_of-self
 invariant_of-self g c =
     let w = c.in_err-got.ensures in
-    brought_is_run c.self.inside c.clear.new.self c.bring_line.new.space c.self.invariant (ap (λ (e : RunState). reaches e.state.tasks) c.self.view_is ∙ c.requires.at) (ap (λ (s : Contents). s.limit) c.clear.ensures) (rw c.clear.ensures le_zero) w.limit w.fits
+    brought_is_run c.self.inside c.clear.new.self c.bring_line.new.space c.self.invariant (ap (λ (e : RunState). reaches e.state.tasks) c.self.view_is ∙ c.requires.at) (ap (λ (s : SpaceView). s.limit) c.clear.ensures) (rw c.clear.ensures le_zero) w.limit w.fits
 
 pub invariant_of-self-2 : goal.invariant_of-self-2
 invariant_of-self-2 g c =
     let w = c.in_ok-got.ensures in
-    brought_is_run c.self.inside c.clear.new.self c.bring_line.new.space c.self.invariant (ap (λ (e : RunState). reaches e.state.tasks) c.self.view_is ∙ c.requires.at) (ap (λ (s : Contents). s.limit) c.clear.ensures) (rw c.clear.ensures le_zero) w.limit w.fits
+    brought_is_run c.self.inside c.clear.new.self c.bring_line.new.space c.self.invariant (ap (λ (e : RunState). reaches e.state.tasks) c.self.view_is ∙ c.requires.at) (ap (λ (s : SpaceView). s.limit) c.clear.ensures) (rw c.clear.ensures le_zero) w.limit w.fits
 
 pub go_on-requires : goal.go_on-requires
 go_on-requires g c = record {

@@ -1,8 +1,8 @@
 use Rattle.std.proofs.Common.{rules, Some, ap, refl}
-use Rattle.sedengine.specs.Run.{RunState}
-use Rattle.sedengine.specs.Choose.{with_used}
-use Rattle.sedengine.proofs.Fitting.{sought, sought_at}
-use Rattle.sedengine.proofs.Streams.{names_ok}
+use Rattle.sedacts.specs.Run.{RunState}
+use Rattle.sedengine.specs.Judging.{with_used}
+use Rattle.sedacts.proofs.Fitting.{sought, sought_at}
+use Rattle.sedacts.proofs.Streams.{names_ok}
 use Rattle.sedengine.proofs.Tried.{answered, tried_within, tried_short}
 use Rattle.sedengine.proofs.machine.Machine.finds.Goals as goal
 

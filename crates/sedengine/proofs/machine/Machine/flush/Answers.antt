@@ -1,6 +1,6 @@
 use Rattle.std.proofs.Common.{rules, ap, Ok, Err}
 use Rattle.std.proofs.lemmas.Result.{err_from_is_err_and}
-use Rattle.sedengine.specs.Run.{RunState, run_setting}
+use Rattle.sedacts.specs.Run.{RunState, run_setting}
 use Rattle.sedengine.specs.Inside.{run_state_of}
 use Rattle.sedengine.specs.Queueing.{flushed, with_turns}
 use Rattle.sedengine.proofs.Ending.{flush_moves}
@@ -9,10 +9,10 @@ use Rattle.sedengine.proofs.machine.Machine.flush.Goals as goal
 
 pub returns : goal.returns
 returns g c = record {
-  moves = λ files told ls rest.
+  moves = λ files shown ls rest.
       let w = c.flush_queue.new in
       flush_moves c.self.inside c.args.self.now (run_state_of (record c.self.inside { build = w.build; turns = w.turns; queue = c.clear.new.self })) (run_setting c.args.self.now files) ls rest w.turns
-      (g.O.MeteredSinks.tally c.args.outputs.now) (g.O.MeteredSinks.tally w.outputs) (Ok tt) c.self.view_is c.self.invariant (c.in_ok-flush_queue.ensures.moves (run_setting c.args.self.now files) told)
+      (g.O.MeteredSinks.tally c.args.outputs.now) (g.O.MeteredSinks.tally w.outputs) (Ok tt) c.self.view_is c.self.invariant (c.in_ok-flush_queue.ensures.moves (run_setting c.args.self.now files) shown)
       (rw c.clear.ensures (ap (λ (e : RunState). flushed e w.turns) c.self.view_is)) (tt {0});
   ok = rw c.clear.ensures (ap (λ (e : RunState). flushed e c.flush_queue.new.turns) c.self.view_is);
   err = tt;
@@ -23,11 +23,11 @@ returns g c = record {
 
 pub returns-in_err-flush_queue : goal.returns-in_err-flush_queue
 returns-in_err-flush_queue g c = record {
-  moves = λ files told ls rest.
+  moves = λ files shown ls rest.
       let w = c.flush_queue.new in
       let p = err_from_is_err_and c.from_residual.result c.from_residual.ensures.1 in
       rw (p.1, p.2) (flush_moves c.self.inside c.args.self.now (run_state_of (record c.self.inside { build = w.build; turns = w.turns })) (run_setting c.args.self.now files) ls rest w.turns
-      (g.O.MeteredSinks.tally c.args.outputs.now) (g.O.MeteredSinks.tally w.outputs) (Err c.in_err-flush_queue.field-0.0) c.self.view_is c.self.invariant (c.in_err-flush_queue.ensures.moves (run_setting c.args.self.now files) told)
+      (g.O.MeteredSinks.tally c.args.outputs.now) (g.O.MeteredSinks.tally w.outputs) (Err c.in_err-flush_queue.field-0.0) c.self.view_is c.self.invariant (c.in_err-flush_queue.ensures.moves (run_setting c.args.self.now files) shown)
       (tt {0}) (ap (λ (e : RunState). with_turns e w.turns) c.self.view_is));
   ok = let p = err_from_is_err_and c.from_residual.result c.from_residual.ensures.1 in
       rw p.1 tt;

@@ -1,5 +1,5 @@
 use Rattle.std.proofs.Common.{[], ap}
-use Rattle.sedengine.specs.Run.{RunState}
+use Rattle.sedacts.specs.Run.{RunState}
 use Rattle.sedengine.proofs.machine.Machine.go_on.Goals as goal
 
 pub returns-in-End : goal.returns-in-End

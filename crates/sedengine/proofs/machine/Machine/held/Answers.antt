@@ -1,6 +1,6 @@
 use Rattle.std.proofs.Common.{length, sym, ap, ◌∙◌}
-use Rattle.sedengine.specs.Run.{RunState}
-use Rattle.sedengine.proofs.Queueing.{length-entries_of}
+use Rattle.sedacts.specs.Run.{RunState}
+use Rattle.sedacts.proofs.Queueing.{length-entries_of}
 use Rattle.sedengine.proofs.machine.Machine.held.Goals as goal
 
 pub returns-clause-pattern : goal.returns-clause-pattern

@@ -1,13 +1,13 @@
 use Rattle.std.proofs.Common.{refl, ap, Ok, Err, arith, ◌∙◌}
-use Rattle.sedengine.specs.Run.{RunState}
-use Rattle.sedengine.specs.Steps.{reaches}
+use Rattle.sedacts.specs.Run.{RunState}
+use Rattle.sedacts.specs.Steps.{reaches}
 use Rattle.std.proofs.lemmas.Result.{err_from_is_err_and}
 use Rattle.sedengine.proofs.NextLines.{joins_next}
 use Rattle.sedengine.specs.Inside.{run_state_of}
 use Rattle.sedengine.proofs.Tasks.{brought_is_run}
 use Rattle.sedengine.proofs.Leaving.{falls_brought, falls_kept, same_brought}
 use Rattle.sedengine.proofs.Runs.{SameRun-then, same_seen}
-use Rattle.sedengine.proofs.Streams.{ReadsAlone-ended, ReadsAlone-told}
+use Rattle.sedacts.proofs.Streams.{ReadsAlone-ended, ReadsAlone-shown}
 use Rattle.sedengine.proofs.machine.Machine.join.Goals as goal
 
 pub returns : goal.returns
@@ -15,7 +15,7 @@ returns g c = record {
   steps = λ sound ls known files sinks.
       joins_next g.R.ByteSource.remaining c.args.lines.now c.join_line.new.lines ls files sinks c.self.inside c.args.self.now c.go_on.new.self c.self.view_is c.self.invariant c.join_line.new.space (Ok c.in_ok-got.got)
       c.go_on.ensures (c.in_ok-got.ensures.brings sound ls known);
-  reads = ReadsAlone-told c.in_ok-got.got c.in_ok-got.ensures.reads;
+  reads = ReadsAlone-shown c.in_ok-got.got c.in_ok-got.ensures.reads;
   falls = let e = (run_state_of (record c.self.inside { pattern = c.join_line.new.space })) in
       falls_kept c.self.inside c.args.self.now e c.go_on.new.self c.self.view_is refl (falls_brought e c.go_on.new.self c.in_ok-got.got c.go_on.ensures);
   same = let e = (run_state_of (record c.self.inside { pattern = c.join_line.new.space })) in

@@ -1,9 +1,9 @@
 use Rattle.std.proofs.Common.{rules, ◌≡◌, refl, ap, ◌∙◌}
 use Rattle.std.proofs.lemmas.Result.{err_from_is_err_and}
-use Rattle.sedengine.specs.Run.{RunState}
-use Rattle.sedengine.specs.Move.{none_left}
-use Rattle.sedengine.specs.Choose.{current_in}
-use Rattle.sedengine.proofs.Streams.{lines_same, names_ok, reads_on, ReadsAlone-ended, ReadsLines-unread}
+use Rattle.sedacts.specs.Run.{RunState}
+use Rattle.sedacts.specs.Move.{none_left}
+use Rattle.sedengine.specs.Judging.{current_in}
+use Rattle.sedacts.proofs.Streams.{lines_same, names_ok, reads_on, ReadsAlone-ended, ReadsLines-unread}
 use Rattle.sedengine.proofs.Choices.{judges_ok, judges_err, selects_by_number}
 use Rattle.sedengine.proofs.machine.Machine.judge.Goals as goal
 

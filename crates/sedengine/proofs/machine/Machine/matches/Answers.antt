@@ -1,10 +1,9 @@
 use Rattle.std.proofs.Common.{rules, refl}
 use Rattle.sedscript.specs.declared.types.Address.TheVariants.{Match}
-use Rattle.sedengine.specs.Move.{none_left}
-use Rattle.sedengine.specs.Choose.{current_in}
-use Rattle.sedengine.proofs.Streams.{lines_same, names_ok, ReadsLines-unread}
+use Rattle.sedacts.specs.Move.{none_left}
+use Rattle.sedengine.specs.Judging.{current_in}
+use Rattle.sedacts.proofs.Streams.{lines_same, names_ok, ReadsLines-unread}
 use Rattle.sedengine.proofs.Choices.{answers_at}
-use Rattle.std.proofs.Common.{refl}
 use Rattle.sedengine.proofs.machine.Machine.matches.Goals as goal
 
 pub returns-in-Line : goal.returns-in-Line

@@ -1,7 +1,7 @@
 use Rattle.std.proofs.Common.{ℕ, ◌≤◌, ◌-◌, ◌/◌, ◌+◌, subst, arith, ◌<◌, ◌≡◌, is_some, true, sym}
-use Rattle.sedengine.specs.Passing.{RangesIdle, need_at}
+use Rattle.sedacts.specs.Idle.{RangesIdle, need_at}
 use Rattle.sedengine.proofs.Passes.{allows}
-use Rattle.sedengine.specs.Run.{RunState}
+use Rattle.sedacts.specs.Run.{RunState}
 use Rattle.sedengine.proofs.machine.Machine.most_lines.Goals as goal
 
 pub overflow_add-idle : goal.overflow_add-idle

@@ -1,8 +1,8 @@
 use Rattle.std.proofs.Common.{rules, refl, List, ℕ, length-drop, subst, take, arith}
 use Rattle.sedspace.specs.Stream.{AreWholeLines}
-use Rattle.sedengine.proofs.Streams.{names_ok, ReadsLines-none}
-use Rattle.sedengine.proofs.Telling.{le_same}
-use Rattle.sedengine.proofs.Writing.{Delivers-none}
+use Rattle.sedacts.proofs.Streams.{names_ok, ReadsLines-none}
+use Rattle.sedacts.proofs.DecidingGroups.{le_same}
+use Rattle.sedacts.proofs.Writing.{Delivers-none}
 use Rattle.sedengine.proofs.Passes.{breaks_seen, brought_same, counted_falls, counted_same, nothing_passed, passes_seen, reads_ahead, reads_broken}
 use Rattle.sedengine.proofs.machine.Machine.pass_ahead.Goals as goal
 

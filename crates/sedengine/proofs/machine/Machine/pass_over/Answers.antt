@@ -1,8 +1,8 @@
 use Rattle.std.proofs.Common.{refl}
 use Rattle.sedengine.proofs.Passes.{nothing_passed}
-use Rattle.sedengine.proofs.Streams.{ReadsLines-none}
-use Rattle.sedengine.proofs.Telling.{le_same}
-use Rattle.sedengine.proofs.Writing.{Delivers-none}
+use Rattle.sedacts.proofs.Streams.{ReadsLines-none}
+use Rattle.sedacts.proofs.DecidingGroups.{le_same}
+use Rattle.sedacts.proofs.Writing.{Delivers-none}
 use Rattle.sedengine.proofs.machine.Machine.pass_over.Goals as goal
 
 pub returns-then-may_pass : goal.returns-then-may_pass

@@ -1,6 +1,6 @@
 use Rattle.std.proofs.Common.{[], ◌∷◌, ◌≤◌, ◌∙◌, ap, refl, subst}
-use Rattle.sedengine.specs.State.{flush, print_pattern}
-use Rattle.sedengine.specs.Run.{RunState}
+use Rattle.sedacts.specs.State.{flush, print_pattern}
+use Rattle.sedacts.specs.Run.{RunState}
 use Rattle.sedengine.specs.Inside.{run_state_of}
 use Rattle.sedengine.specs.declared.next_step.NextStep.TheVariants as p
 use Rattle.sedengine.proofs.Ending.{falls_ended, placed_ended, quits, run_kept, tasks_kept}
@@ -20,7 +20,7 @@ returns g c =
     let run = run_kept e1 e' r w.ok w.err in
     let L : RunState → Type 0 = λ e. e.state.turns ≤ e'.state.turns in
     record {
-      moves = λ files told ls. quits e e _ ls _ _ _ r c.requires.at (placed_ended a e e' p.Ended files ls (print_pattern ∷ flush ∷ []) _ _ r c.self.view_is at (w.moves files told ls []));
+      moves = λ files shown ls. quits e e _ ls _ _ _ r c.requires.at (placed_ended a e e' p.Ended files ls (print_pattern ∷ flush ∷ []) _ _ r c.self.view_is at (w.moves files shown ls []));
       falls = falls_ended e e' r c.requires.at (run.limits ∙ ap (λ (e : RunState). e.limits) c.self.view_is) (subst L c.self.view_is w.later) at;
       leaves = leaves_seen a e e1 c.self.view_is refl refl (record { devices = w.devices; same = run; kept = w.kept });
     }

@@ -1,9 +1,9 @@
 use Rattle.std.proofs.Common.{sym, ap, refl, ◌∙◌, ◌+◌, ◌∷◌, []}
-use Rattle.sedengine.specs.Run.{RunState}
-use Rattle.sedengine.specs.State.{do_at}
+use Rattle.sedacts.specs.Run.{RunState}
+use Rattle.sedacts.specs.State.{do_at}
 use Rattle.sedengine.proofs.Ending.{rebegins, rebegin_spent}
 use Rattle.sedengine.proofs.Runs.{same_seen}
-use Rattle.sedengine.proofs.Streams.{names_ok, names_spent}
+use Rattle.sedacts.proofs.Streams.{names_ok, names_spent}
 use Rattle.sedengine.proofs.Tasks.{rebegun_falls}
 use Rattle.sedengine.proofs.machine.Machine.rebegin.Goals as goal
 

@@ -1,9 +1,9 @@
 use Rattle.std.proofs.Common.{◌∙◌, Some, Ok, Err, ap, true, false, length, refl, rules, sym}
-use Rattle.sedspace.specs.Spaces.{Contents}
-use Rattle.sedengine.specs.Steps.{reaches}
-use Rattle.sedengine.specs.Run.{RunState, at_lines}
-use Rattle.sedengine.proofs.Fitting.{sought, sought_at}
-use Rattle.sedengine.proofs.Streams.{names_long, names_ok}
+use Rattle.sedspace.specs.Spaces.{SpaceView}
+use Rattle.sedacts.specs.Steps.{reaches}
+use Rattle.sedacts.specs.Run.{RunState, at_lines}
+use Rattle.sedacts.proofs.Fitting.{sought, sought_at}
+use Rattle.sedacts.proofs.Streams.{names_long, names_ok}
 use Rattle.sedengine.proofs.SubstituteMoves.{fits_build, fits_scratch, fits_seeking, limit_exchanged, made_by, made_exchanged, makes_full, makes_none, makes_some, one_sought, replaced_is_run, room_kept, some_substitution, stands}
 use Rattle.sedengine.proofs.Tried.{matchers_kept, replaces_by, within_by}
 use Rattle.sedengine.proofs.machine.Machine.replace_occurrences.Goals as goal
@@ -55,7 +55,7 @@ invariant_of-self c =
     let m = c.index_mut.result.now in
     replaced_is_run a _ _ _ _ _ _ c.in-Some.e true i (ap (λ (e : RunState). reaches e.state.tasks) c.self.view_is ∙ c.requires.at) inside
     (limit_exchanged a c.swap.new.self c.build_text-built.new.build i some c.swap.ensures.here w.limit) (rw c.swap.ensures.here c.is_within.ensures)
-    (ap (λ (s : Contents). s.limit) c.swap.ensures.there ∙ i.pattern_limit ∙ sym (i.build_limit some)) w.same.1
+    (ap (λ (s : SpaceView). s.limit) c.swap.ensures.there ∙ i.pattern_limit ∙ sym (i.build_limit some)) w.same.1
     (room_kept a c.in-Some.e m c.begin.new.self _ i (one_sought a c.in-Some.e m i inside c.index_mut.ensures.value) c.begin.ensures.room c.begin.ensures.number w.kept)
     (matchers_kept a.matchers.items c.in-Some.e m c.build_text-built.new.matcher c.index_mut.ensures.value w.same.0)
 

@@ -1,7 +1,7 @@
 use Rattle.std.proofs.Common.{ap}
 use Rattle.std.specs.Prelude.{slice_set}
-use Rattle.sedengine.specs.Run.{RunState}
-use Rattle.sedengine.specs.Choose.{reached_with}
+use Rattle.sedacts.specs.Run.{RunState}
+use Rattle.sedengine.specs.Judging.{reached_with}
 use Rattle.sedengine.proofs.machine.Machine.take_turn.Goals as goal
 
 pub returns : goal.returns

@@ -1,8 +1,8 @@
 use Rattle.std.proofs.Common.{◌≡◌, Bool, ℕ, List, Result, Ok, Err, false, rules}
-use Rattle.sedengine.specs.Meters.{SinkView}
-use Rattle.sedengine.specs.Calls.{PutsPart}
+use Rattle.sedacts.specs.Meters.{SinkView}
+use Rattle.sedacts.specs.Calls.{PutsPart}
 use Rattle.sedengine.specs.Passing.{PutsLines}
-use Rattle.sedengine.specs.declared.meter.CutShort.{CutShort}
+use Rattle.sedacts.specs.declared.meter.CutShort.{CutShort}
 use Rattle.sedengine.proofs.machine.Machine.write_lines.Goals as goal
 
 -- lines are written where default output isn't suppressed

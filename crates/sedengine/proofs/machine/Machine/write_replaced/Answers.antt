@@ -1,8 +1,8 @@
 use Rattle.std.proofs.Common.{append-nil}
 use Rattle.std.proofs.lemmas.Result.{err_from_is_err_and}
-use Rattle.sedengine.specs.Move.{line_to}
+use Rattle.sedacts.specs.Move.{line_to}
 use Rattle.sedengine.proofs.SubstituteMoves.{of_one}
-use Rattle.sedengine.proofs.Writing.{writes_first, writes_none, writes_then}
+use Rattle.sedacts.proofs.Writing.{writes_first, writes_none, writes_then}
 use Rattle.sedengine.proofs.machine.Machine.write_replaced.Goals as goal
 
 pub returns-in-false-None : goal.returns-in-false-None

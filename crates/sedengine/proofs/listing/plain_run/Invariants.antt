@@ -1,6 +1,0 @@
-use Rattle.std.proofs.Common.{take}
-use Rattle.sedengine.specs.ListingParts.{AreListedPlain}
-use Rattle.sedengine.proofs.listing.plain_run.Given as goal
-
-abbrev pub invariant-bytes : goal.invariant-bytes
-invariant-bytes l = AreListedPlain (take l.i l.bytes)

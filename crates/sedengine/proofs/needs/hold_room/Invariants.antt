@@ -1,7 +1,0 @@
-use Rattle.std.proofs.Common.{◌<◌, ℕ}
-use Rattle.std.specs.Prelude.{slice_get}
-use Rattle.sedengine.specs.Inside.{CommandHolds}
-use Rattle.sedengine.proofs.needs.hold_room.Given as goal
-
-abbrev pub invariant-loop-k : goal.invariant-loop-k
-invariant-loop-k l = (i : ℕ) → i < l.k → CommandHolds (slice_get l.script.commands i) → ⊥
