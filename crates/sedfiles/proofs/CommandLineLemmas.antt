@@ -8,7 +8,7 @@ use Rattle.clap.specs.declared.error.Error.{Error}
 use Rattle.clap.specs.declared.error.kind.ErrorKind.TheVariants.{OutOfMemory}
 use Rattle.clap.specs.declared.parser.matches.ArgMatches.{ArgMatches}
 use Rattle.clap.proofs.WalkLemmas.{raw_values-rows}
-use Rattle.sedfiles.specs.CommandLine.{Asks, given_to, sed_command}
+use Rattle.sedfiles.specs.CommandLine.{AsksParts, given_to, sed_command}
 use Rattle.sedfiles.specs.Refusals.{IsRefusal}
 use Rattle.sedfiles.specs.Types.{NoMemory, Part, Refused, Words}
 
@@ -60,6 +60,6 @@ given_to-matches m id None none words is empty e = rw (e, empty) (ap (λ t. unwr
 given_to-matches m id (Some given) none words is empty e = rw e (ap (λ t. unwrap_or t []) (is ∙ raw_values-rows (found_of m) id))
 
 -- what is asked for by the same words
-pub Asks-same : (scripts files operands scripts' files' operands' : List Text) (parts : List Part) (names : List Text) → scripts ≡ scripts' → files ≡ files' → operands ≡ operands' →
-    Asks scripts files operands parts names → Asks scripts' files' operands' parts names
-Asks-same scripts files operands scripts' files' operands' parts names s f o asks = rw (← s, ← f, ← o) asks
+pub AsksParts-same : (scripts files operands scripts' files' operands' : List Text) (parts : List Part) (names : List Text) → scripts ≡ scripts' → files ≡ files' → operands ≡ operands' →
+    AsksParts scripts files operands parts names → AsksParts scripts' files' operands' parts names
+AsksParts-same scripts files operands scripts' files' operands' parts names s f o asks = rw (← s, ← f, ← o) asks

@@ -10,7 +10,7 @@ use Rattle.std.specs.Fmt.{option_append}
 use Rattle.std.specs.Io.KnownBytes.{Consumes, IsAtEnd, Keeps, ReadConsumes}
 use Rattle.sedfiles.specs.Files.{FilesAhead, KeepsFiles, StillGives, due_after, concatenated, with_newline}
 use Rattle.sedfiles.specs.Joining.{Joining, left_joined, left_of_current}
-use Rattle.sedfiles.specs.Opening.{Opens, NotesMissed, OnlyLastGives, OpensFirstFiles, OpensNext}
+use Rattle.sedfiles.specs.Opening.{OpensKnown, NotesMissed, OnlyLastGives, OpensFirstFiles, OpensNext}
 
 due_after-append : (due : Bool) (a b : List ℕ) → due_after due (a ++ b) ≡ due_after (due_after due a) b
 due_after-append due [] b = refl
@@ -38,8 +38,8 @@ with_newline-read due after (Some x) (Some y) bytes e p = ap (with_newline due) 
 
 -- a read of the file gave some of its bytes
 pub file_read : {I : Type 0} (current : I → Option (List ℕ)) (old before : Joining I) (after : Option (List ℕ)) (buf : List ℕ) (n : ℕ) →
-    before ≡ old → before.reading ≡ true → 0 < n → n ≤ length buf → Consumes (current before.inputs) after (take n buf) →
-    Consumes (left_of_current current old) (if before.reading then option_map (with_newline (not (eqb (get_or buf (n - 1) 0) 10))) after else Some []) (take n buf)
+    before ≡ old → before.is_reading ≡ true → 0 < n → n ≤ length buf → Consumes (current before.inputs) after (take n buf) →
+    Consumes (left_of_current current old) (if before.is_reading then option_map (with_newline (not (eqb (get_or buf (n - 1) 0) 10))) after else Some []) (take n buf)
 file_read current old before after buf n is reading some within p =
     let e : not (eqb (get_or buf (n - 1) 0) 10) ≡ due_after before.due (take n buf) = sym (due_after-take before.due buf n some within) in
     rw (← is, reading) (with_newline-read before.due _ (current before.inputs) after (take n buf) e p)
@@ -52,7 +52,7 @@ newline_given (Some x) (Some y) (c ∷ buf) some p end = ap (with_newline true) 
 
 -- a read of the file found its end, and the newline was due
 pub file_closed : {I : Type 0} (current : I → Option (List ℕ)) (old before : Joining I) (after : Option (List ℕ)) (buf : List ℕ) (n : ℕ) →
-    before ≡ old → before.reading ≡ true → before.due ≡ true → 0 < length buf → n ≡ 0 → Consumes (current before.inputs) after (take n buf) → IsAtEnd after →
+    before ≡ old → before.is_reading ≡ true → before.due ≡ true → 0 < length buf → n ≡ 0 → Consumes (current before.inputs) after (take n buf) → IsAtEnd after →
     Consumes (left_of_current current old) (Some []) (take 1 (slice_set buf 0 10))
 file_closed current old before after buf n is reading due some none p end =
     let p' = rw none at p in
@@ -66,14 +66,14 @@ name_at items next text name is bytes = rw bytes (get_or-map string_bytes items 
 pub next_opened : {I : Type 0} (current : I → Option (List ℕ)) (ahead : I → FilesAhead) (old before new : Joining I)
     (all : List (List ℕ)) (missed : List Bool) (next : ℕ) (name : List ℕ) (answer : Bool) →
     before ≡ old → before.names ≡ drop next all → before.missed ≡ take next missed → next < length all → length missed ≡ length all → get_or all next name ≡ name →
-    new.names ≡ drop (next + 1) all → new.missed ≡ take (next + 1) (slice_set missed next (not answer)) → new.reading ≡ true → new.due ≡ false →
-    ((names : List (List ℕ)) → Opens (ahead before.inputs (name ∷ names)) answer (current new.inputs) (ahead new.inputs names)) →
+    new.names ≡ drop (next + 1) all → new.missed ≡ take (next + 1) (slice_set missed next (not answer)) → new.is_reading ≡ true → new.due ≡ false →
+    ((names : List (List ℕ)) → OpensKnown (ahead before.inputs (name ∷ names)) answer (current new.inputs) (ahead new.inputs names)) →
     OpensNext current ahead old new
 next_opened current ahead old before new all missed next name answer is names-are missed-are inside same at more noted reading due opens =
     let split : before.names ≡ name ∷ new.names = names-are ∙ drop_more all next name inside ∙ ap (λ x. x ∷ drop (next + 1) all) at ∙ ap (λ xs. name ∷ xs) (sym more) in
     let within : next < length missed = omega arith in
     let added : new.missed ≡ before.missed ++ not answer ∷ [] = noted ∙ take_more_set missed next (not answer) within ∙ ap (λ x. x ++ not answer ∷ []) (sym missed-are) in
-    rw (← is) record { name = name; names = split; answer = answer; missed = added; opens = rw split (opens new.names); reading = reading; due = due }
+    rw (← is) record { name = name; names = split; answer = answer; missed = added; opens = rw split (opens new.names); is_reading = reading; due = due }
 
 -- ---- what is left of the file, and of those after it
 
@@ -88,7 +88,7 @@ left_read (Some u) b None y bytes p q = tt
 left_read (Some u) None (Some x) y bytes p q = absurd p
 left_read (Some u) (Some v) (Some x) y bytes p q = rw q (ap (λ z. z ++ concatenated (map (λ file. unwrap_or file []) x)) p ∙ append_assoc bytes v (concatenated (map (λ file. unwrap_or file []) x)))
 
-left_opened : (x : Option (List (Option (List ℕ)))) (answer : Bool) (c : Option (List ℕ)) (y : Option (List (Option (List ℕ)))) → Opens x answer c y →
+left_opened : (x : Option (List (Option (List ℕ)))) (answer : Bool) (c : Option (List ℕ)) (y : Option (List (Option (List ℕ)))) → OpensKnown x answer c y →
     Consumes (option_append (Some []) (all_joined x)) (option_append (option_map (with_newline false) c) (all_joined y)) []
 left_opened None answer c y o = tt
 left_opened (Some []) answer c y o = absurd o
@@ -111,7 +111,7 @@ fails_unread a b (Err e) buf failed k = k
 -- what is left of them is what their inputs have still to give
 pub left-StillGives : {I : Type 0} (current : I → Option (List ℕ)) (ahead : I → FilesAhead) (j : Joining I) (inputs : I) (more : Option (List ℕ)) →
     j.inputs ≡ inputs → more ≡ left_joined current ahead j → StillGives current ahead inputs more
-left-StillGives current ahead j inputs more same is = (j.reading, j.due, j.names, rw (← same) is)
+left-StillGives current ahead j inputs more same is = (j.is_reading, j.due, j.names, rw (← same) is)
 
 -- ---- what was opened
 
@@ -162,7 +162,7 @@ notes_missed None y left a b h = tt
 notes_missed (Some files) y left a b h = (h.0, h.1, h.2, h.3, h.4, h.5)
 
 notes_one : (files first rest : List (Option (List ℕ))) (z : Option (List (Option (List ℕ)))) (a b : List Bool) (answer : Bool) (c : Option (List ℕ)) →
-    files ≡ first ++ rest → b ≡ a ++ map is_none first → AllGiveNone first → Opens (Some rest) answer c z → Notes (Some files) z (option_map (with_newline false) c) a (b ++ not answer ∷ [])
+    files ≡ first ++ rest → b ≡ a ++ map is_none first → AllGiveNone first → OpensKnown (Some rest) answer c z → Notes (Some files) z (option_map (with_newline false) c) a (b ++ not answer ∷ [])
 notes_one files first [] z a b answer c e m none o = absurd o
 notes_one files first (file ∷ rest) z a b answer c e m none o =
     let noted : not answer ≡ is_none file = ap not o.0 in
@@ -177,13 +177,13 @@ notes_one files first (file ∷ rest) z a b answer c e m none o =
     )
 
 notes_opened : (x y z w : Option (List (Option (List ℕ)))) (left : Option (List ℕ)) (a b : List Bool) (answer : Bool) (c : Option (List ℕ)) →
-    Notes x y left a b → KeepsFiles y w → Consumes left (Some []) [] → Opens w answer c z → Notes x z (option_map (with_newline false) c) a (b ++ not answer ∷ [])
+    Notes x y left a b → KeepsFiles y w → Consumes left (Some []) [] → OpensKnown w answer c z → Notes x z (option_map (with_newline false) c) a (b ++ not answer ∷ [])
 notes_opened None y z w left a b answer c h k p o = tt
 notes_opened (Some files) y z w left a b answer c h k p o =
     let rest = h.1 in
     let same : y ≡ Some rest = h.3 in
     let kept : w ≡ Some rest = rw same at k in
-    let o' : Opens (Some rest) answer c z = rw kept at o in
+    let o' : OpensKnown (Some rest) answer c z = rw kept at o in
     notes_one files h.0 rest z a b answer c h.2 h.4 (all_give_none h.0 left h.5 h.6 p) o'
 
 notes_kept : (x y z : Option (List (Option (List ℕ)))) (a b : List Bool) → NotesMissed x y a b → KeepsFiles y z → NotesMissed x z a b
@@ -211,18 +211,18 @@ module _ {I : Type 0} (current : I → Option (List ℕ)) (ahead : I → FilesAh
 
   -- a read of the file changes nothing of those after it
   pub record Reads (now new : Joining I) : Type 0 where
-    pub rest : new ≡ record now { inputs = new.inputs; reading = new.reading; due = new.due }
+    pub rest : new ≡ record now { inputs = new.inputs; is_reading = new.is_reading; due = new.due }
     pub kept : (names : List (List ℕ)) → KeepsFiles (ahead now.inputs names) (ahead new.inputs names)
 
   pub start_kept : (now new : Joining I) → Reads now new → new.start ≡ now.start
   start_kept now new r = ap (λ j. j.start) r.rest
 
-  waits_on : (old now mid : Joining I) → (now ≡ old) ⊎ IsAtEnd (left_of_current current old) → Consumes (left_of_current current now) (left_of_current current mid) [] → mid.reading ≡ false → IsAtEnd (left_of_current current old)
+  waits_on : (old now mid : Joining I) → (now ≡ old) ⊎ IsAtEnd (left_of_current current old) → Consumes (left_of_current current now) (left_of_current current mid) [] → mid.is_reading ≡ false → IsAtEnd (left_of_current current old)
   waits_on old now mid (inl same) p idle = let p' = rw same at p in at_end _ _ p' (rw idle refl)
   waits_on old now mid (inr end) p idle = end
 
   -- the file being read had no byte left, and the next one was opened
-  pub passed_next : (old now mid new : Joining I) → Passed old now → Reads now mid → Consumes (left_of_current current now) (left_of_current current mid) [] → mid.reading ≡ false →
+  pub passed_next : (old now mid new : Joining I) → Passed old now → Reads now mid → Consumes (left_of_current current now) (left_of_current current mid) [] → mid.is_reading ≡ false →
       OpensNext current ahead mid new → Passed old new
   passed_next old now mid new p r c idle o =
       let first = p.opened.0.0 in
@@ -236,11 +236,11 @@ module _ {I : Type 0} (current : I → Option (List ℕ)) (ahead : I → FilesAh
       let size : length new.missed ≡ length old.missed + length (first ++ name ∷ []) = omega (arith, p.opened.0.2, ap length added, length-append now.missed noted, length-append first (name ∷ [])) in
       let kept : KeepsFiles (ahead now.inputs now.names) (ahead mid.inputs mid.names) = rw names (r.kept now.names) in
       let read : Consumes (left_joined current ahead now) (left_joined current ahead mid) [] = left_read _ _ _ _ [] c kept in
-      let opening : Consumes (left_joined current ahead mid) (left_joined current ahead new) [] = rw (idle, o.reading, o.due) (left_opened _ o.answer _ _ o.opens) in
+      let opening : Consumes (left_joined current ahead mid) (left_joined current ahead new) [] = rw (idle, o.is_reading, o.due) (left_opened _ o.answer _ _ o.opens) in
       let nothing : left_of_current current mid ≡ Some [] = rw idle refl in
       let spent : Consumes (left_of_current current now) (Some []) [] = rw nothing at c in
       let notes : Notes (ahead old.inputs old.names) (ahead new.inputs new.names) (left_of_current current new) old.missed new.missed =
-      rw (added, o.reading, o.due) (notes_opened _ _ _ _ _ old.missed now.missed o.answer _ p.notes kept spent o.opens) in
+      rw (added, o.is_reading, o.due) (notes_opened _ _ _ _ _ old.missed now.missed o.answer _ p.notes kept spent o.opens) in
       record {
         none = Consumes-trans _ _ _ [] [] p.none (Consumes-trans _ _ _ [] [] read opening);
         opened = ((first ++ name ∷ [], more, size), notes_missed _ _ _ _ _ notes);

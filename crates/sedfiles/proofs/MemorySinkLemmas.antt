@@ -33,10 +33,10 @@ empty_at [] k inside is = absurd (omega (arith, inside))
 empty_at (sink ∷ held) zero inside is = ap Some is
 empty_at (sink ∷ held) (suc k) inside is = empty_at held k (omega (arith, inside)) is
 
-told_at : (held : List Sink) (k : ℕ) → k < length held → (bytes : List ℕ) × (option_map (λ sink. sink.bytes) (slice_get held k) ≡ Some bytes)
-told_at [] k inside = absurd (omega (arith, inside))
-told_at (sink ∷ held) zero inside = (sink.bytes, refl)
-told_at (sink ∷ held) (suc k) inside = told_at held k (omega (arith, inside))
+shown_at : (held : List Sink) (k : ℕ) → k < length held → (bytes : List ℕ) × (option_map (λ sink. sink.bytes) (slice_get held k) ≡ Some bytes)
+shown_at [] k inside = absurd (omega (arith, inside))
+shown_at (sink ∷ held) zero inside = (sink.bytes, refl)
+shown_at (sink ∷ held) (suc k) inside = shown_at held k (omega (arith, inside))
 
 none_of_none : (n : ℕ) → take {A = ℕ} n [] ≡ []
 none_of_none zero = refl
@@ -53,7 +53,7 @@ pub kept_by_none : (old new : HeldSinks) (sink n k : ℕ) → sink < length old.
 kept_by_none old new sink n k inside h others = by (eqb_tells k sink)
   where
     by : ((eqb k sink ≡ true) × (k ≡ sink)) ⊎ ((eqb k sink ≡ false) × (k ≢ sink)) → sink_bytes new k ≡ sink_bytes old k
-    by (inl (e, here)) = let told = told_at old.held sink inside in rw here (same_appended (sink_bytes old sink) (sink_bytes new sink) told.0 n told.1 h)
+    by (inl (e, here)) = let shown = shown_at old.held sink inside in rw here (same_appended (sink_bytes old sink) (sink_bytes new sink) shown.0 n shown.1 h)
     by (inr (e, there)) = ap (λ s. option_map (λ x. x.bytes) s) (others k there)
 
 -- and the numbers of failures, where it doesn't fail

@@ -50,13 +50,13 @@ AreParts parts scripts files = (filter_map script_in parts ≡ scripts) × (filt
 
 -- The parts of the script, and the operands that are files: the scripts of -e and the files of -f, each in their order; without
 -- them, the first operand is the script (XCU sed, "Operands"). As no contract of clap says how these mingle, any order is taken here.
-abbrev pub Asks : List Text → List Text → List Text → List Part → List Text → Type 0
-Asks [] [] (operand ∷ operands) parts names = AreParts parts (operand ∷ []) [] × (names ≡ operands)
-Asks scripts files operands parts names = AreParts parts scripts files × (names ≡ operands)
+abbrev pub AsksParts : List Text → List Text → List Text → List Part → List Text → Type 0
+AsksParts [] [] (operand ∷ operands) parts names = AreParts parts (operand ∷ []) [] × (names ≡ operands)
+AsksParts scripts files operands parts names = AreParts parts scripts files × (names ≡ operands)
 
 -- what the matches of the words say of a line
 pub record IsLine (rows : List Row) (l : Line) : Type 0 where
   pub quiet : l.quiet ≡ is_given (codes "quiet") rows
   pub extended : l.extended ≡ is_given (codes "extended") rows
-  pub asks : Asks (given_to (codes "expression") rows) (given_to (codes "file") rows) (given_to (codes "operand") rows)
+  pub asks : AsksParts (given_to (codes "expression") rows) (given_to (codes "file") rows) (given_to (codes "operand") rows)
       l.parts.items (map string_bytes l.operands.items)

@@ -22,7 +22,7 @@ KeepsFiles old new = IfSome old (λ files. new ≡ Some files)
 
 -- a file that is read whole gives its bytes, or nothing where it can't be read
 abbrev pub GivesWhole : Option (Option (List ℕ)) → Option (List ℕ) → Type 0
-GivesWhole told given = IfSome told (λ file. given ≡ file)
+GivesWhole shown given = IfSome shown (λ file. given ≡ file)
 
 -- whether a newline is due after these bytes: the last of them is none, or there are no bytes and one was due before
 abbrev pub due_after : Bool → List ℕ → Bool

@@ -9,14 +9,14 @@ use Rattle.sedfiles.specs.Files.{FilesAhead, joined_files, with_newline}
 pub record Joining (I : Type 0) : Type 0 where
   pub inputs : I
   pub names : List (List ℕ)
-  pub reading : Bool
+  pub is_reading : Bool
   pub due : Bool
   pub missed : List Bool
   pub start : ℕ
 
 -- what is left of the file being read, and its newline where one is due
 abbrev pub left_of_current : {I : Type 0} → (I → Option (List ℕ)) → Joining I → Option (List ℕ)
-left_of_current current j = if j.reading then option_map (with_newline j.due) (current j.inputs) else Some []
+left_of_current current j = if j.is_reading then option_map (with_newline j.due) (current j.inputs) else Some []
 
 -- the bytes still to come: what is left of the file being read, and what the files still to open give, joined
 abbrev pub left_joined : {I : Type 0} → (I → Option (List ℕ)) → (I → FilesAhead) → Joining I → Option (List ℕ)

@@ -8,10 +8,10 @@ use Rattle.sedfiles.specs.Joining.{Joining}
 
 -- An opening, where the file and those after it are known: whether it can be opened is answered, it is the one being
 -- read, and those after it are still ahead. One that can't be opened gives nothing.
-abbrev pub Opens : Option (List (Option (List ℕ))) → Bool → Option (List ℕ) → Option (List (Option (List ℕ))) → Type 0
-Opens None answer current ahead = ⊤
-Opens (Some []) answer current ahead = ⊥
-Opens (Some (file ∷ files)) answer current ahead =
+abbrev pub OpensKnown : Option (List (Option (List ℕ))) → Bool → Option (List ℕ) → Option (List (Option (List ℕ))) → Type 0
+OpensKnown None answer current ahead = ⊤
+OpensKnown (Some []) answer current ahead = ⊥
+OpensKnown (Some (file ∷ files)) answer current ahead =
     (answer ≡ is_some file) × (current ≡ Some (unwrap_or file [])) × (ahead ≡ Some files)
 
 -- the number of openings that were refused rises with each that is
@@ -50,6 +50,6 @@ pub record OpensNext {I : Type 0} (current : I → Option (List ℕ)) (ahead : I
   pub names : old.names ≡ name ∷ new.names
   pub answer : Bool
   pub missed : new.missed ≡ old.missed ++ not answer ∷ []
-  pub opens : Opens (ahead old.inputs old.names) answer (current new.inputs) (ahead new.inputs new.names)
-  pub reading : new.reading ≡ true
+  pub opens : OpensKnown (ahead old.inputs old.names) answer (current new.inputs) (ahead new.inputs new.names)
+  pub is_reading : new.is_reading ≡ true
   pub due : new.due ≡ false

@@ -5,7 +5,7 @@ ghost use Rattle.std.specs.Borrow.{GName};
 ghost use Rattle.std.specs.Io.{ReadsAtMost};
 ghost use Rattle.std.specs.Io.KnownBytes.{Keeps, ReadConsumes};
 ghost use Rattle.sedspace.specs.FailureCounts.{FailsAtErr};
-ghost use Rattle.sedfiles.specs.Opening.{CountsRefusal, Opens};
+ghost use Rattle.sedfiles.specs.Opening.{CountsRefusal, OpensKnown};
 ghost use Rattle.sedfiles.specs.Files.{KeepsFiles, GivesWhole};
 
 use sedspace::Broken;
@@ -41,7 +41,7 @@ pub trait Inputs {
     /// Makes the file of this name the current one, and answers whether it could be opened: a file that couldn't gives
     /// nothing. What wasn't read of the file before it can't be read any more.
     fn open(&mut self, name: &str) -> bool
-        ensures opens { (names : List (List ℕ)) → Opens (ahead self.old (name.now ∷ names)) result
+        ensures opens { (names : List (List ℕ)) → OpensKnown (ahead self.old (name.now ∷ names)) result
             (current self.new) (ahead self.new names) }
         ensures refused { CountsRefusal result (refusals self.old) (refusals self.new) }
         ensures failed { failures self.new ≡ failures self.old }

@@ -38,7 +38,7 @@ impl<'a, I: Inputs> Model for Joined<'a, I> {
     ghost view = { λ s. record {
       inputs = s.inputs;
       names = drop s.next (map string_bytes s.names.now);
-      reading = s.is_reading;
+      is_reading = s.is_reading;
       due = s.is_due;
       missed = take s.next s.missed.items;
       start = s.start;
@@ -61,7 +61,7 @@ impl<'a, I: Inputs> Joined<'a, I> {
         ensures value { IfOk result (λ j. j ≡ record {
           inputs = inputs;
           names = map string_bytes names.now;
-          reading = false;
+          is_reading = false;
           due = false;
           missed = [];
           start = I.refusals inputs;
@@ -79,7 +79,7 @@ impl<'a, I: Inputs> Joined<'a, I> {
         ensures value { result ≡ record {
           inputs = inputs;
           names = map string_bytes names.now;
-          reading = false;
+          is_reading = false;
           due = false;
           missed = [];
           start = I.refusals inputs;
@@ -142,13 +142,13 @@ impl<'a, I: Inputs> Joined<'a, I> {
         requires { 0 < length buf.old }
         ensures bound { ReadsAtMost result buf.new }
         ensures bytes { ReadConsumes (left_of_current I.current self.old) (left_of_current I.current self.new) result buf.new }
-        ensures ended { result ≡ Ok 0 → self.new.reading ≡ false }
+        ensures ended { result ≡ Ok 0 → self.new.is_reading ≡ false }
         ensures ahead { (names : List (List ℕ)) →
             KeepsFiles (I.ahead self.old.inputs names) (I.ahead self.new.inputs names) }
         ensures failed { FailsAtErr result (I.failures self.old.inputs) (I.failures self.new.inputs) }
         ensures same_reference { I.reference self.new.inputs ≡ I.reference self.old.inputs }
         ensures rest { self.new
-            ≡ record self.old { inputs = self.new.inputs; reading = self.new.reading; due = self.new.due } }
+            ≡ record self.old { inputs = self.new.inputs; is_reading = self.new.is_reading; due = self.new.due } }
     {
         if !self.is_reading {
             return Ok(0);
@@ -168,7 +168,7 @@ impl<'a, I: Inputs> Joined<'a, I> {
 
     // Opens the next file, where one is left, and notes whether it was missed.
     fn open_next(&mut self) -> bool
-        requires { self.old.reading ≡ false }
+        requires { self.old.is_reading ≡ false }
         ensures none { result ≡ false → (self.new ≡ self.old) × (self.old.names ≡ []) }
         ensures opened { result ≡ true → OpensNext I.current I.ahead self.old self.new }
         ensures failed { I.failures self.new.inputs ≡ I.failures self.old.inputs }

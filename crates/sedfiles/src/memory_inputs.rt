@@ -5,7 +5,7 @@ ghost use Rattle.std.specs.Str.{bytes_eq};
 ghost use Rattle.std.specs.Io.{ReadsAtMost};
 ghost use Rattle.std.specs.Io.KnownBytes.{ReadConsumes};
 ghost use Rattle.sedspace.specs.FailureCounts.{FailsAtErr, raised};
-ghost use Rattle.sedfiles.specs.Opening.{CountsRefusal, Opens};
+ghost use Rattle.sedfiles.specs.Opening.{CountsRefusal, OpensKnown};
 ghost use Rattle.sedfiles.specs.Files.{GivesWhole};
 ghost use Rattle.sedfiles.specs.MemoryFiles.{all_of, bytes_at, file_of, files_of};
 
@@ -35,9 +35,9 @@ pub struct MemoryFile {
 impl Model for MemoryFile {
     ghost use Rattle.std.specs.Prelude.{string_bytes};
     ghost use Rattle.sedfiles.specs.Opening.{CountsRefusal};
-    ghost use Rattle.sedfiles.specs.MemoryFiles.{File};
+    ghost use Rattle.sedfiles.specs.MemoryFiles.{NamedFile};
 
-    ghost Value = { File };
+    ghost Value = { NamedFile };
 
     ghost view = { λ f. record { name = string_bytes f.name; bytes = f.bytes.items } };
 }
@@ -236,7 +236,7 @@ impl Inputs for MemoryInputs {
 
     fn open(&mut self, name: &str) -> bool
         ensures opens { (names : List (List ℕ)) →
-            Opens (Some (files_of self.old.files self.old.standard (name.now ∷ names))) result
+            OpensKnown (Some (files_of self.old.files self.old.standard (name.now ∷ names))) result
             (Some self.new.current) (Some (files_of self.new.files self.new.standard names)) }
         ensures refused { CountsRefusal result self.old.refusals self.new.refusals }
         ensures rest { self.new ≡ record self.old {
@@ -258,7 +258,7 @@ impl Inputs for MemoryInputs {
         ensures failed { FailsAtErr result self.old.failures self.new.failures }
         ensures calls { self.new.calls ≡ raised self.old.calls }
         ensures count { IfOk result (λ n. n ≡ min (length self.old.current) (min (length buf.new) self.old.most)) }
-        ensures told { IsErr result ↔ (self.old.fails_at ≡ Some self.new.calls) }
+        ensures answered { IsErr result ↔ (self.old.fails_at ≡ Some self.new.calls) }
         ensures rest { self.new
             ≡ record self.old { current = self.new.current; calls = self.new.calls; failures = self.new.failures } }
     {

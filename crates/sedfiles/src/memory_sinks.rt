@@ -69,7 +69,7 @@ impl MemorySinks {
     /// after it work again.
     pub fn fail_at(&mut self, sink: usize, write: u64)
         requires { sink < length self.old.outputs.held }
-        ensures told { IfSome (slice_get self.old.outputs.held sink) (λ s. self.new ≡ record self.old {
+        ensures answered { IfSome (slice_get self.old.outputs.held sink) (λ s. self.new ≡ record self.old {
           outputs = record self.old.outputs {
             held = slice_set self.old.outputs.held sink (record s { fails_at = Some write });
           };
@@ -124,7 +124,7 @@ fn flush_first(outputs: &mut MemoryOutputs, count: usize) -> Result<(), usize>
     ensures kept { (k : ℕ) → sink_bytes outputs.new k ≡ sink_bytes outputs.old k }
     ensures failed { FailsFlush result (sink_failures outputs.old) (sink_failures outputs.new) }
     ensures sinks { length outputs.new.held ≡ length outputs.old.held }
-    ensures told { FlushesFirst outputs.old count result }
+    ensures answered { FlushesFirst outputs.old count result }
 {
     for sink in 0..count {
         match outputs.write(sink, b"") {
@@ -156,7 +156,7 @@ impl Sinks for MemorySinks {
     fn flush(&mut self) -> Result<(), usize>
         ensures contents { (k : ℕ) → contents_of self.new k ≡ contents_of self.old k }
         ensures failed { FailsFlush result (sink_failures self.old.outputs) (sink_failures self.new.outputs) }
-        ensures told { FlushesFirst self.old.outputs (self.old.created + 1) result }
+        ensures answered { FlushesFirst self.old.outputs (self.old.created + 1) result }
         ensures rest { self.new ≡ record self.old { outputs = self.new.outputs } }
     {
         // The loop is over the outputs alone, so that the invariant is shown here and not in each round.

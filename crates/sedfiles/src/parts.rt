@@ -1,6 +1,6 @@
 //! The parts of a script and the operands, in the order of the words.
 ghost use Rattle.std.specs.Prelude.{[], ◌≡◌, ◌<◌, Some, drop, length, map, slice_get, string_bytes, take, IfOk};
-ghost use Rattle.sedfiles.specs.CommandLine.{AreParts, Asks};
+ghost use Rattle.sedfiles.specs.CommandLine.{AreParts, AsksParts};
 ghost use Rattle.sedfiles.specs.CommandLineParts.{precedes, given, in_order, word_place, texts_in};
 
 use crate::asked::Part;
@@ -58,15 +58,15 @@ fn parts_in_order(
         ≡ in_order (texts_in scripts.entry) scripts.entry.places.now (texts_in files.entry) files.entry.places.now) }
     ensures all { IfOk result (λ parts. AreParts parts.items (texts_in scripts.entry) (texts_in files.entry)) }
 {
-    let mut parts = Vec::new(alloc);
+    let mut parts = Vec::with_capacity(alloc, scripts.words.len() + files.words.len())?;
     let mut scripted = 0;
     let mut filed = 0;
     while scripted < scripts.words.len() || filed < files.words.len() {
         if scripts.comes_first(scripted, &files, filed) {
-            parts.push(Part::Script(String::from_str(alloc, scripts.word(scripted))?))?;
+            parts.push_reserved(Part::Script(String::from_str(alloc, scripts.word(scripted))?));
             scripted += 1;
         } else {
-            parts.push(Part::File(String::from_str(alloc, files.word(filed))?))?;
+            parts.push_reserved(Part::File(String::from_str(alloc, files.word(filed))?));
             filed += 1;
         }
     }
@@ -79,7 +79,7 @@ fn strings(alloc: Global, words: &[&str]) -> Result<Vec<String>, AllocError>
 {
     let mut strings = Vec::with_capacity(alloc, words.len())?;
     for word in words {
-        strings.push(String::from_str(alloc, word)?)?;
+        strings.push_reserved(String::from_str(alloc, word)?);
     }
     Ok(strings)
 }
@@ -109,7 +109,7 @@ pub(crate) fn asked_of(
     files: Uses<'_, '_>,
     operands: &[&str],
 ) -> Result<Asked, AllocError>
-    ensures { IfOk result (λ a. Asks (texts_in scripts.entry) (texts_in files.entry) (map (λ s. s.now) operands.now)
+    ensures { IfOk result (λ a. AsksParts (texts_in scripts.entry) (texts_in files.entry) (map (λ s. s.now) operands.now)
         a.parts.items (map string_bytes a.operands.items)) }
 {
     if scripts.words.is_empty() && files.words.is_empty() {

@@ -18,5 +18,5 @@ loop-sink-preserved c =
           (NextFails-same old c.args.outputs.now c.loop-sink.sink (sym (h.ahead c.loop-sink.sink (omega arith))) fails));
     }
 
-pub returns-clause-told : goal.returns-clause-told
-returns-clause-told c = λ k before. c.loop-sink.invariant.passed k (omega (arith, before, c.loop-sink-test.false))
+pub returns-clause-answered : goal.returns-clause-answered
+returns-clause-answered c = λ k before. c.loop-sink.invariant.passed k (omega (arith, before, c.loop-sink-test.false))

@@ -8,18 +8,22 @@ pub loop-scripted-preserved-then-comes_first : goal.loop-scripted-preserved-then
 loop-scripted-preserved-then-comes_first c =
     let h = c.loop-scripted.invariant in
     record {
-      all = rw c.in_ok-push.ensures.items (script_added _ _ _ _ c.loop-scripted.scripted c.loop-scripted.filed _ _ _ _ c.word.ensures (sym c.comes_first.ensures ∙ c.if-comes_first.true) (search rules) h.all);
+      all = rw c.push_reserved.ensures.items (script_added _ _ _ _ c.loop-scripted.scripted c.loop-scripted.filed _ _ _ _ c.word.ensures (sym c.comes_first.ensures ∙ c.if-comes_first.true) (search rules) h.all);
       scripts = omega (arith, some_below (texts_in c.args.scripts) c.loop-scripted.scripted _ c.word.ensures, length-map c.args.scripts.words.now (λ s. s.now));
       files = h.files;
+      count = omega (arith, h.count, c.push_reserved.ensures.len);
+      room = omega (arith, h.room, c.push_reserved.ensures.capacity);
     }
 
 pub loop-scripted-preserved : goal.loop-scripted-preserved
 loop-scripted-preserved c =
     let h = c.loop-scripted.invariant in
     record {
-      all = rw c.in_ok-push-2.ensures.items (file_added _ _ _ _ c.loop-scripted.scripted c.loop-scripted.filed _ _ _ _ c.word-else-comes_first.ensures (sym c.comes_first.ensures ∙ c.if-comes_first.false) (search rules) h.all);
+      all = rw c.push_reserved-else-comes_first.ensures.items (file_added _ _ _ _ c.loop-scripted.scripted c.loop-scripted.filed _ _ _ _ c.word-else-comes_first.ensures (sym c.comes_first.ensures ∙ c.if-comes_first.false) (search rules) h.all);
       scripts = h.scripts;
       files = omega (arith, some_below (texts_in c.args.files) c.loop-scripted.filed _ c.word-else-comes_first.ensures, length-map c.args.files.words.now (λ s. s.now));
+      count = omega (arith, h.count, c.push_reserved-else-comes_first.ensures.len);
+      room = omega (arith, h.room, c.push_reserved-else-comes_first.ensures.capacity);
     }
 
 pub returns-clause-all : goal.returns-clause-all
@@ -30,3 +34,13 @@ returns-clause-all c =
     all_made _ (texts_in scripts) scripts.places.now (texts_in files) files.places.now c.loop-scripted.scripted c.loop-scripted.filed
     (omega (arith, length-map scripts.words.now (λ s. s.now))) (omega (arith, length-map files.words.now (λ s. s.now))) c.loop-scripted.invariant.all in
     are_parts _ (texts_in scripts) scripts.places.now (texts_in files) files.places.now made
+
+pub push_reserved-requires : goal.push_reserved-requires
+push_reserved-requires c =
+    let h = c.loop-scripted.invariant in
+    omega (arith, h.count, h.room, h.files, some_below (texts_in c.args.scripts) c.loop-scripted.scripted _ c.word.ensures, length-map c.args.scripts.words.now (λ s. s.now))
+
+pub push_reserved-requires-else-comes_first : goal.push_reserved-requires-else-comes_first
+push_reserved-requires-else-comes_first c =
+    let h = c.loop-scripted.invariant in
+    omega (arith, h.count, h.room, h.scripts, some_below (texts_in c.args.files) c.loop-scripted.filed _ c.word-else-comes_first.ensures, length-map c.args.files.words.now (λ s. s.now))

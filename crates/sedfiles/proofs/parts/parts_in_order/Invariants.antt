@@ -1,4 +1,5 @@
 use Rattle.std.proofs.Common.{◌≡◌, ◌≤◌, ◌++◌, ◌+◌, ◌-◌, drop, length, map}
+use Rattle.std.specs.Prelude.{vec_len, vec_capacity}
 use Rattle.sedfiles.specs.CommandLineParts.{given, in_order, texts_in}
 use Rattle.sedfiles.proofs.parts.parts_in_order.Given as goal
 
@@ -10,6 +11,8 @@ invariant-loop-scripted l = record {
       ≡ in_order (texts_in l.scripts) l.scripts.places.now (texts_in l.files) l.files.places.now;
   scripts : l.scripted ≤ length l.scripts.words.now;
   files : l.filed ≤ length l.files.words.now;
+  count : vec_len l.parts ≡ l.scripted + l.filed;
+  room : length l.scripts.words.now + length l.files.words.now ≤ vec_capacity l.parts;
 }
 
 abbrev pub decreases-loop-scripted : goal.decreases-loop-scripted
