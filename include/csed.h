@@ -1,5 +1,5 @@
 /*
- * csed.h: the stream editor sed (POSIX.1-2024, in the profile that docs/USING.md tells) as a C library.
+ * csed.h: the stream editor sed (POSIX.1-2024, in the profile of docs/USING.md) as a C library.
  *
  * A script is run over bytes in memory, within limits that the caller sets. Nothing else is read or written: no file,
  * no stream, no environment, no locale, no clock. A byte is a character.
@@ -60,11 +60,11 @@ struct sed_limits {
 };
 
 /*
- * What a call tells besides. Every call sets every field, and one that doesn't apply is 0.
+ * What a call reports besides. Every call sets every field, and one that doesn't apply is 0.
  */
 struct sed_report {
     size_t written;      /* bytes of the output that were written, from its front; at most room */
-    size_t place;        /* SED_REFUSED: the byte of the script at which the fault is told, counted from 0 */
+    size_t place;        /* SED_REFUSED: the byte of the script where the fault is, counted from 0 */
     uint64_t line;       /* SED_STOPPED: the line of the input, counted from 1, where the cause has one */
     uint32_t fault;      /* SED_REFUSED: one of SED_FAULT_.. */
     uint32_t expression; /* SED_REFUSED with SED_FAULT_EXPRESSION: one of SED_EXPRESSION_.. */
@@ -73,7 +73,7 @@ struct sed_report {
 };
 
 /*
- * Why a script is refused: its first fault from left to right. docs/USING.md tells each with its place, as S1 to S21 and
+ * Why a script is refused: its first fault from left to right. docs/USING.md has each with its place, as S1 to S21 and
  * S23. The last is this library's own, with the place 0: a host's files aren't the script's to write, so a script with
  * `w FILE` or the flag `w FILE` is refused, unless FILE is /dev/stdout.
  */
@@ -121,7 +121,7 @@ enum {
 };
 
 /*
- * Why a run stopped: F1 to F5 and F8 of docs/USING.md. F6 and F7, which tell of devices that fail, don't come from memory.
+ * Why a run stopped: F1 to F5 and F8 of docs/USING.md. F6 and F7, the ends by devices that fail, don't come from memory.
  */
 enum {
     SED_CAUSE_PATTERN_FULL = 1, /* a line, or what a command makes of it, is longer than space; at report->line */
@@ -138,7 +138,7 @@ enum {
  * script, script_len  the script's bytes, which need not end with a newline or a zero byte
  * flags               SED_EXTENDED and SED_QUIET, or 0
  * limits              of which nodes is heeded; all must be in their ranges
- * report              what is told
+ * report              what is reported
  *
  * SED_DONE        the script may run: sed_edit with these flags and limits doesn't answer SED_REFUSED or SED_BAD_LIMITS
  * SED_REFUSED, SED_BAD_LIMITS, SED_NO_MEMORY  as sed_edit does
@@ -154,7 +154,7 @@ int32_t sed_check(const uint8_t *script, size_t script_len, uint32_t flags, cons
  * input, input_len    the input's bytes; a newline is taken to follow them where they don't end with one
  * output, room        where to write, and how many bytes at most
  * limits              what the run may hold and do
- * report              what is told
+ * report              what is reported
  *
  * SED_DONE        the first report->written bytes of the output are all that the script writes
  * SED_STOPPED     they are a beginning of it, and report->cause is true; with SED_CAUSE_OUTPUT_FULL they are exactly room

@@ -3,9 +3,8 @@ use Rattle.std.proofs.Common.{◌≡◌, ◌≢◌, ◌≤◌, ◌+◌, ◌==◌
 use Rattle.sedscript.specs.Program.{Program}
 use Rattle.sedengine.specs.State.{Limits, Setting, State, setting_of}
 use Rattle.sedengine.specs.Move.{to_sink}
-use Rattle.sedengine.specs.Ends.{bytes_of_sink, Gained, GainedWithin, SourceAtEnd, IsCause}
-use Rattle.sedengine.specs.declared.ends.Ended.{Ended}
-use Rattle.sedengine.specs.declared.ends.Ended.TheVariants.{Done, PatternFull, HoldFull, QueueFull, TurnsSpent, NoPrevious, InputBroken, OutputBroken, OutputFull}
+use Rattle.sedengine.specs.Ends.{bytes_of_sink, SinksGain, GainedWithin, SourceAtEnd, IsCause}
+use Rattle.sedengine.specs.Types.{Ended, Done, PatternFull, HoldFull, QueueFull, TurnsSpent, NoPrevious, InputBroken, OutputBroken, OutputFull}
 use Rattle.sededit.specs.EditEnds.{EditEnds}
 use Rattle.sededit.specs.Editing.{IsOutput, nothing_before, start_over}
 use Rattle.csed.specs.Reports.{cause_of}
@@ -33,17 +32,17 @@ only_first ((suc m, byte) ∷ out) none = let e = rw (nat_eq_self (suc m)) at (n
 
 -- what a sink holds that held nothing is what was written
 module _ (held held' : Option (List ℕ)) (bytes : List ℕ) (before : held ≡ Some []) (after : Some bytes ≡ held') where
-  first_part : (out : List (ℕ × ℕ)) → Gained (of_one held) (of_one held') out → bytes ≡ bytes_of_sink 0 out
+  first_part : (out : List (ℕ × ℕ)) → SinksGain (of_one held) (of_one held') out → bytes ≡ bytes_of_sink 0 out
   first_part out h = let e = rw (before, ← after) at (h.each 0) in e
 
-  other_parts : (out : List (ℕ × ℕ)) → Gained (of_one held) (of_one held') out → (k : ℕ) → bytes_of_sink (suc k) out ≡ []
+  other_parts : (out : List (ℕ × ℕ)) → SinksGain (of_one held) (of_one held') out → (k : ℕ) → bytes_of_sink (suc k) out ≡ []
   other_parts out h k = let e = rw (is_not_zero k) at (h.each (suc k)) in sym e
 
-  all_written : (out : List (ℕ × ℕ)) → Gained (of_one held) (of_one held') out → out ≡ to_sink 0 bytes
+  all_written : (out : List (ℕ × ℕ)) → SinksGain (of_one held) (of_one held') out → out ≡ to_sink 0 bytes
   all_written out h = rw (first_part out h) (only_first out (other_parts out h))
 
   -- an edit that came to the ordinary end has written all
-  pub IsOutput-written : (g : Setting) (s : State) → (out : List (ℕ × ℕ)) × Gained (of_one held) (of_one held') out × IsOutput g s out → IsOutput g s (to_sink 0 bytes)
+  pub IsOutput-written : (g : Setting) (s : State) → (out : List (ℕ × ℕ)) × SinksGain (of_one held) (of_one held') out × IsOutput g s out → IsOutput g s (to_sink 0 bytes)
   IsOutput-written g s (out, gained, ends) = subst (λ (w : List (ℕ × ℕ)). IsOutput g s w) (all_written out gained) ends
 
 -- a source that counts no failure is no cause
@@ -100,19 +99,19 @@ module _ (room : ℕ) (held held' : Option (List ℕ)) (bytes : List ℕ) (befor
       }
 
 -- what a run comes to whose bytes are at the front of the output
-pub Runs-to : (l : Limits) (p : Program) (input output bytes : List ℕ) (end : Ended) (n : ℕ) → take n output ≡ bytes →
+pub RunsAs-to : (l : Limits) (p : Program) (input output bytes : List ℕ) (end : Ended) (n : ℕ) → take n output ≡ bytes →
     (end ≡ Done → IsOutput (setting_of p no_files) (start_over p input) (to_sink 0 bytes)) →
     (end ≢ Done → RunStops (record l { output = Some (length output) }) (setting_of p no_files) (start_over p input) (length output) bytes end) →
     CallRunsTo l p input output (outcome_of end n)
-Runs-to l p input output bytes Done n same whole stops = rw same (whole refl)
-Runs-to l p input output bytes (PatternFull k) n same whole stops = rw same (stops (λ e. cc))
-Runs-to l p input output bytes (HoldFull k) n same whole stops = rw same (stops (λ e. cc))
-Runs-to l p input output bytes (QueueFull k) n same whole stops = rw same (stops (λ e. cc))
-Runs-to l p input output bytes TurnsSpent n same whole stops = rw same (stops (λ e. cc))
-Runs-to l p input output bytes (NoPrevious k) n same whole stops = rw same (stops (λ e. cc))
-Runs-to l p input output bytes InputBroken n same whole stops = rw same (stops (λ e. cc))
-Runs-to l p input output bytes (OutputBroken k) n same whole stops = rw same (stops (λ e. cc))
-Runs-to l p input output bytes (OutputFull k) n same whole stops = rw same (stops (λ e. cc))
+RunsAs-to l p input output bytes Done n same whole stops = rw same (whole refl)
+RunsAs-to l p input output bytes (PatternFull k) n same whole stops = rw same (stops (λ e. cc))
+RunsAs-to l p input output bytes (HoldFull k) n same whole stops = rw same (stops (λ e. cc))
+RunsAs-to l p input output bytes (QueueFull k) n same whole stops = rw same (stops (λ e. cc))
+RunsAs-to l p input output bytes TurnsSpent n same whole stops = rw same (stops (λ e. cc))
+RunsAs-to l p input output bytes (NoPrevious k) n same whole stops = rw same (stops (λ e. cc))
+RunsAs-to l p input output bytes InputBroken n same whole stops = rw same (stops (λ e. cc))
+RunsAs-to l p input output bytes (OutputBroken k) n same whole stops = rw same (stops (λ e. cc))
+RunsAs-to l p input output bytes (OutputFull k) n same whole stops = rw same (stops (λ e. cc))
 
 -- the limits with the output's length as room
 pub RunStops-as : (l l' : Limits) (g : Setting) (s : State) (room room' : ℕ) (bytes : List ℕ) (end : Ended) → l' ≡ record l { output = Some room } → room' ≡ room →

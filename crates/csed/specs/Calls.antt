@@ -8,8 +8,7 @@ use Rattle.sedengine.specs.State.{Limits, Setting, State, setting_of}
 use Rattle.sedengine.specs.LimitRanges.{AreLimits, limits_of}
 use Rattle.sedengine.specs.Move.{to_sink}
 use Rattle.sedengine.specs.Ends.{IsCause}
-use Rattle.sedengine.specs.declared.ends.Ended.{Ended}
-use Rattle.sedengine.specs.declared.ends.Ended.TheVariants.{Done, InputBroken, OutputBroken}
+use Rattle.sedengine.specs.Types.{Ended, Done, InputBroken, OutputBroken}
 use Rattle.sededit.specs.Editing.{BeginsOutput, IsOutput, start_over}
 use Rattle.sededit.specs.Program.{kind_with}
 use Rattle.csed.specs.declared.asked.Request.{Request}
@@ -22,22 +21,22 @@ abbrev pub has_flag : ℕ → ℕ → Bool
 has_flag flags flag = not (bit_and flags flag == 0)
 
 -- the limits that are given
-abbrev pub limits_told : SedLimits → Limits
-limits_told l = limits_of l.space l.queue l.look l.turns l.nodes
+abbrev pub limits_given : SedLimits → Limits
+limits_given l = limits_of l.space l.queue l.look l.turns l.nodes
 
 -- what flags and limits ask for: flag 1 chooses extended expressions, as -E does, and flag 2 suppresses default output, as
 -- -n does (XCU sed, "Options")
 abbrev pub asked_by : ℕ → SedLimits → Request
-asked_by flags l = record { kind = kind_with (has_flag flags 1); quiet = has_flag flags 2; limits = limits_told l }
+asked_by flags l = record { kind = kind_with (has_flag flags 1); quiet = has_flag flags 2; limits = limits_given l }
 
 -- no flag is set but the two, and each limit is in its range
 pub record MayAsk (flags : ℕ) (l : SedLimits) : Type 0 where
   pub known : flags ≤ 3
-  pub within : AreLimits (limits_told l)
+  pub within : AreLimits (limits_given l)
 
 -- a flag is set that isn't known, or a limit is out of its range
 abbrev pub MayNotAsk : ℕ → SedLimits → Type 0
-MayNotAsk flags l = (3 < flags) ⊎ (AreLimits (limits_told l) → ⊥)
+MayNotAsk flags l = (3 < flags) ⊎ (AreLimits (limits_given l) → ⊥)
 
 -- The text means a script that names no file to write, and that is p, but that default output is suppressed where this
 -- is asked for, too.

@@ -5,8 +5,8 @@ use Rattle.sedscript.specs.FirstFault.{Faulty}
 use Rattle.sedscript.specs.Program.{Program}
 use Rattle.sedengine.specs.State.{Limits, setting_of}
 use Rattle.sedengine.specs.Move.{to_sink}
-use Rattle.sedengine.specs.declared.ends.Ended.{Ended}
-use Rattle.sedengine.specs.declared.ends.Ended.TheVariants as ends
+use Rattle.sedengine.specs.Types.{Ended}
+use Rattle.sedengine.specs.Types as ends
 use Rattle.sededit.specs.Editing.{IsOutput, start_over}
 use Rattle.csed.specs.declared.asked.Request.{Request}
 use Rattle.csed.specs.declared.asked.SedLimits.{SedLimits}

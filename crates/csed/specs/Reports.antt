@@ -5,8 +5,7 @@ use Rattle.sedscript.specs.declared.types.Reason.{Reason}
 use Rattle.sedscript.specs.declared.types.Reason.TheVariants.{Expression}
 use Rattle.sedscript.specs.declared.types.ScriptFault.{ScriptFault}
 use Rattle.sedscript.specs.Faults.{number_of}
-use Rattle.sedengine.specs.declared.ends.Ended.{Ended}
-use Rattle.sedengine.specs.declared.ends.Ended.TheVariants.{Done, PatternFull, HoldFull, QueueFull, TurnsSpent, NoPrevious, InputBroken, OutputBroken, OutputFull}
+use Rattle.sedengine.specs.Types.{Ended, Done, PatternFull, HoldFull, QueueFull, TurnsSpent, NoPrevious, InputBroken, OutputBroken, OutputFull}
 use Rattle.csed.specs.declared.outcome.SedReport.{SedReport}
 
 -- the number of an end, as 4 of F4

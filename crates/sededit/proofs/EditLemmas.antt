@@ -8,7 +8,7 @@ use Rattle.sedscript.specs.Program.{Program}
 use Rattle.sedengine.specs.State.{Limits, State, Setting, setting_of}
 use Rattle.sedengine.specs.Move.{start, written}
 use Rattle.sedengine.specs.Ends.{bytes_of_sink, FillsSink, GainedWithin}
-use Rattle.sedengine.specs.Run.{RunState, Ending, Input, Sends, at_lines, run_setting}
+use Rattle.sedengine.specs.Run.{RunState, CameToEnd, InputLeft, Sends, at_lines, run_setting}
 use Rattle.sededit.specs.Types.{Done, Ended, OutputFull}
 use Rattle.sededit.specs.Editing.{BeginsOutput, IsOutput, nothing_before, start_over}
 use Rattle.sededit.specs.EditEnds.{EditEnds}
@@ -42,9 +42,9 @@ from_start l p e' old new r out h = record {
 }
 
 -- a run of an opened engine over all lines is an edit, which leaves ahead what is ahead of the lines
-pub Edits-run : (l : Limits) (p : Program) (files : ℕ → List ℕ) (e e' : RunState) (x : List ℕ) (sinks sinks' : ℕ → Option (List ℕ)) (old new : Option (List ℕ)) (before after : Input) (now : State) (end : Ended) (bytes : List ℕ) (count : ℕ) →
+pub Edits-run : (l : Limits) (p : Program) (files : ℕ → List ℕ) (e e' : RunState) (x : List ℕ) (sinks sinks' : ℕ → Option (List ℕ)) (old new : Option (List ℕ)) (before after : InputLeft) (now : State) (end : Ended) (bytes : List ℕ) (count : ℕ) →
     e ≡ opened l p → before.source ≡ old → before.all ≡ old → after.source ≡ new → after.all ≡ prepend_known bytes after.source → count ≡ length bytes →
-    (out : List (ℕ × ℕ)) × Sends e e' sinks sinks' (Err end) out × Ending e.limits (run_setting e files) (at_lines e (split_lines x)) out before after now end →
+    (out : List (ℕ × ℕ)) × Sends e e' sinks sinks' (Err end) out × CameToEnd e.limits (run_setting e files) (at_lines e (split_lines x)) out before after now end →
     EditEnded l (setting_of p files) (start_over p x) old new sinks sinks' count end
 Edits-run l p files e e' x sinks sinks' old new before after now end bytes count is same_old none_ahead same_new is_ahead counted (out, sent, h) =
     let sent' = rw is at sent in
@@ -55,17 +55,17 @@ Edits-run l p files e e' x sinks sinks' old new before after now end bytes count
       ends = record {
         t = h'.t;
         cause = h'.cause;
-        takes = (let input = h'.takes.input in rw (same_old, same_new) at input);
+        lines_taken = (let input = h'.lines_taken.input in rw (same_old, same_new) at input);
         broken = λ is. (let part = h'.broken is in rw (none_ahead, same_new) at part);
       };
       left = record {
         t = h'.t;
         over = λ done. (let w = rw done at h'.cause in w.cause);
-        lines = h'.takes.input.lines;
-        are = h'.takes.input.are;
+        lines = h'.lines_taken.input.lines;
+        are = h'.lines_taken.input.are;
         ahead = bytes;
         counts = counted;
-        gone = (let part = h'.takes.all in rw (none_ahead, is_ahead, same_new) at part);
+        gone = (let part = h'.lines_taken.all in rw (none_ahead, is_ahead, same_new) at part);
       };
     }
 

@@ -3,9 +3,9 @@ use Rattle.std.proofs.Common.{◌≡◌, ◌≢◌, ◌∙◌, ◌≤◌, ◌⊎
 use Rattle.std.specs.Option.{ForSome}
 use Rattle.sedspace.specs.Failures.{Rose}
 use Rattle.sedscript.specs.Program.{Program}
-use Rattle.sedengine.specs.State.{Limits, Setting, State, TellsFiles, setting_of}
+use Rattle.sedengine.specs.State.{Limits, Setting, State, GivesFiles, setting_of}
 use Rattle.sedengine.specs.DevicesAfter.{OthersStay, SinksAtEnd}
-use Rattle.sedengine.specs.Ends.{Gained, GainedWithin, SourceAtEnd, BreaksInLine, SinkAtEnd}
+use Rattle.sedengine.specs.Ends.{SinksGain, GainedWithin, SourceAtEnd, BreaksInLine, SinkAtEnd}
 use Rattle.sededit.specs.Types.{Done, Ended, InputBroken, OutputBroken, OutputFull}
 use Rattle.sededit.specs.Editing.{BeginsOutput, IsOutput, nothing_before, start_over}
 use Rattle.sedfiles.specs.Files.{KeepsFiles}
@@ -13,20 +13,20 @@ use Rattle.sedfiles.specs.Opening.{WereRefused}
 use Rattle.sedfiles.specs.AddedSinks.{FailsFlush}
 use Rattle.sededit.specs.Ahead.{EditEnded}
 use Rattle.sededit.specs.RunStatus.{Finishes, HasRun}
-use Rattle.sededit.specs.Program.{Observed, Run, SinkFailed, StopsEarly, WhereTold}
+use Rattle.sededit.specs.Program.{Observed, KnownRun, SinkFailed, StopsEarly, WhereKnown}
 use Rattle.sededit.proofs.EditLemmas.{BeginsOutput-at, IsOutput-at}
 use Rattle.sedfiles.proofs.JoinLemmas.{all_joined}
 
 -- what sinks that held this and hold that have gained is so of the run's output
-abbrev Writes : (Setting → State → List (ℕ × ℕ) → Type 0) → Run → (old new : ℕ → Option (List ℕ)) → Type 0
-Writes P run old new = WhereTold run (λ g s. (out : List (ℕ × ℕ)) × Gained old new out × P g s out)
+abbrev Writes : (Setting → State → List (ℕ × ℕ) → Type 0) → KnownRun → (old new : ℕ → Option (List ℕ)) → Type 0
+Writes P run old new = WhereKnown run (λ g s. (out : List (ℕ × ℕ)) × SinksGain old new out × P g s out)
 
 -- what sinks gained stays so where they hold the same afterwards
-pub Gained-same : (old mid new : ℕ → Option (List ℕ)) (out : List (ℕ × ℕ)) → ((k : ℕ) → new k ≡ mid k) → Gained old mid out → Gained old new out
-Gained-same old mid new out same h = record { each = λ k. rw (same k) (h.each k) }
+pub SinksGain-same : (old mid new : ℕ → Option (List ℕ)) (out : List (ℕ × ℕ)) → ((k : ℕ) → new k ≡ mid k) → SinksGain old mid out → SinksGain old new out
+SinksGain-same old mid new out same h = record { each = λ k. rw (same k) (h.each k) }
 
 pub GainedWithin-same : (l : Limits) (old mid new : ℕ → Option (List ℕ)) (end : Ended) (out : List (ℕ × ℕ)) → ((k : ℕ) → new k ≡ mid k) → GainedWithin l.output nothing_before old mid (Err end) out → GainedWithin l.output nothing_before old new (Err end) out
-GainedWithin-same l old mid new end out same h = record { gained = Gained-same old mid new out same h.gained; within = h.within; full = h.full }
+GainedWithin-same l old mid new end out same h = record { gained = SinksGain-same old mid new out same h.gained; within = h.within; full = h.full }
 
 Rose-more : (a b c : ℕ) → Rose a b → b ≤ c → Rose a c
 Rose-more a b c h more = omega (arith, h, more)
@@ -70,9 +70,9 @@ some_refused false old new is h = absurd cc
 
 -- an edit, and the flush behind it, as they are observed
 module _ (l : Limits) (p : Program) (input more : Option (List ℕ)) (texts c0 c1 c2 : ℕ → Option (List ℕ)) (n0 n1 n2 : ℕ → ℕ) (r0 r1 i0 i1 ahead : ℕ) (end : Ended) (rest : Option (List ℕ) → Type 0)
-    (edits : ForSome input (λ bytes. (files : ℕ → List ℕ) → TellsFiles texts files → EditEnded l (setting_of p files) (start_over p bytes) input more c0 c1 ahead end))
+    (edits : ForSome input (λ bytes. (files : ℕ → List ℕ) → GivesFiles texts files → EditEnded l (setting_of p files) (start_over p bytes) input more c0 c1 ahead end))
     (same : (k : ℕ) → c2 k ≡ c1 k) (source : SourceAtEnd i0 i1 end) (sinks : SinksAtEnd l.output n0 n1 (Err end)) (stays : rest more) where
-  abbrev run : Run
+  abbrev run : KnownRun
   run = record { script = p; input = input; texts = texts }
 
   abbrev before : Observed
@@ -82,23 +82,23 @@ module _ (l : Limits) (p : Program) (input more : Option (List ℕ)) (texts c0 c
   now = record { refusals = r1; reads = i1; contents = c2; failures = n2 }
 
   begun : Writes BeginsOutput run c0 c2
-  begun = λ bytes known files told. let e = edits bytes known files told in (e.out, Gained-same c0 c1 c2 e.out same e.gained.gained, BeginsOutput-at _ _ _ _ _ _ _ e.ends.cause)
+  begun = λ bytes known files shown. let e = edits bytes known files shown in (e.out, SinksGain-same c0 c1 c2 e.out same e.gained.gained, BeginsOutput-at _ _ _ _ _ _ _ e.ends.cause)
 
   whole : end ≡ Done → Writes IsOutput run c0 c2
-  whole is = λ bytes known files told. let e = edits bytes known files told in (e.out, Gained-same c0 c1 c2 e.out same e.gained.gained, IsOutput-at _ _ _ _ _ _ _ is e.ends)
+  whole is = λ bytes known files shown. let e = edits bytes known files shown in (e.out, SinksGain-same c0 c1 c2 e.out same e.gained.gained, IsOutput-at _ _ _ _ _ _ _ is e.ends)
 
   stops : end ≢ Done → ((k : ℕ) → n1 k ≤ n2 k) → StopsEarly l before now rest run
   stops early rose = (
     end,
     early,
     (source, sink_flushed l.output n0 n1 n2 end sinks rose),
-    λ bytes known files told. let e = edits bytes known files told in (e.out, GainedWithin-same l c0 c1 c2 end e.out same e.gained, e.ends.t, e.ends.cause, λ is. (more, stays, e.ends.broken is)),
+    λ bytes known files shown. let e = edits bytes known files shown in (e.out, GainedWithin-same l c0 c1 c2 end e.out same e.gained, e.ends.t, e.ends.cause, λ is. (more, stays, e.ends.broken is)),
   )
 
   pub Ran-finished : (missed : Bool) (status : ℕ) → Finishes n1 n2 missed end status → WereRefused missed r0 r1 → HasRun l before now rest run status
   Ran-finished missed status (inl (done, kept, inl (none, is))) refused = record {
     is_one = inl is;
-    means = record {
+    meaning = record {
       whole = λ _. (whole done, none_refused missed r0 r1 none refused, source_kept i0 i1 end done source);
       missed = λ two. absurd (cc);
       stopped = λ four. absurd (cc);
@@ -108,7 +108,7 @@ module _ (l : Limits) (p : Program) (input more : Option (List ℕ)) (texts c0 c
   }
   Ran-finished missed status (inl (done, kept, inr (some, is))) refused = record {
     is_one = inr (inl is);
-    means = record {
+    meaning = record {
       whole = λ zero. absurd (cc);
       missed = λ _. (whole done, some_refused missed r0 r1 some refused, source_kept i0 i1 end done source);
       stopped = λ four. absurd (cc);
@@ -118,7 +118,7 @@ module _ (l : Limits) (p : Program) (input more : Option (List ℕ)) (texts c0 c
   }
   Ran-finished missed status (inr (is, rose, why)) refused = record {
     is_one = inr (inr is);
-    means = record {
+    meaning = record {
       whole = λ zero. absurd (cc);
       missed = λ two. absurd (cc);
       stopped = λ _. begun;
@@ -143,24 +143,24 @@ pub record Ready (files0 files1 : Option (List (Option (List ℕ)))) (texts0 tex
   pub same_texts : (k : ℕ) → texts1 k ≡ texts0 k
   pub same_sinks : (k : ℕ) → sinks1 k ≡ sinks0 k
 
-told : (a b : Option (List (Option (List ℕ)))) (bytes : List ℕ) → KeepsFiles a b → all_joined a ≡ Some bytes → all_joined b ≡ Some bytes
-told None b bytes k e = cc
-told (Some x) b bytes k e = rw k e
+shown : (a b : Option (List (Option (List ℕ)))) (bytes : List ℕ) → KeepsFiles a b → all_joined a ≡ Some bytes → all_joined b ≡ Some bytes
+shown None b bytes k e = cc
+shown (Some x) b bytes k e = rw k e
 
-Gained-from : (a b new : ℕ → Option (List ℕ)) (out : List (ℕ × ℕ)) → ((k : ℕ) → b k ≡ a k) → Gained b new out → Gained a new out
-Gained-from a b new out same h = record { each = λ k. rw (← same k) (h.each k) }
+SinksGain-from : (a b new : ℕ → Option (List ℕ)) (out : List (ℕ × ℕ)) → ((k : ℕ) → b k ≡ a k) → SinksGain b new out → SinksGain a new out
+SinksGain-from a b new out same h = record { each = λ k. rw (← same k) (h.each k) }
 
-abbrev over_files : Program → Option (List (Option (List ℕ))) → (ℕ → Option (List ℕ)) → Run
+abbrev over_files : Program → Option (List (Option (List ℕ))) → (ℕ → Option (List ℕ)) → KnownRun
 over_files p files texts = record { script = p; input = all_joined files; texts = texts }
 
-pub Writes-from : (P : Setting → State → List (ℕ × ℕ) → Type 0) (p : Program) (f0 f1 : Option (List (Option (List ℕ)))) (t0 t1 s0 s1 new : ℕ → Option (List ℕ)) → Ready f0 f1 t0 t1 s0 s1 →
+pub WritesAs-from : (P : Setting → State → List (ℕ × ℕ) → Type 0) (p : Program) (f0 f1 : Option (List (Option (List ℕ)))) (t0 t1 s0 s1 new : ℕ → Option (List ℕ)) → Ready f0 f1 t0 t1 s0 s1 →
     Writes P (over_files p f1 t1) s1 new → Writes P (over_files p f0 t0) s0 new
-Writes-from P p f0 f1 t0 t1 s0 s1 new r h = λ bytes known files tells.
-    let w = h bytes (told f0 f1 bytes r.kept known) files (λ k. r.same_texts k ∙ tells k) in
-    (w.0, Gained-from s0 s1 new _ r.same_sinks w.1, w.2)
+WritesAs-from P p f0 f1 t0 t1 s0 s1 new r h = λ bytes known files shows.
+    let w = h bytes (shown f0 f1 bytes r.kept known) files (λ k. r.same_texts k ∙ shows k) in
+    (w.0, SinksGain-from s0 s1 new _ r.same_sinks w.1, w.2)
 
 GainedWithin-from : (l : Limits) (a b new : ℕ → Option (List ℕ)) (end : Ended) (out : List (ℕ × ℕ)) → ((k : ℕ) → b k ≡ a k) → GainedWithin l.output nothing_before b new (Err end) out → GainedWithin l.output nothing_before a new (Err end) out
-GainedWithin-from l a b new end out same h = record { gained = Gained-from a b new out same h.gained; within = h.within; full = h.full }
+GainedWithin-from l a b new end out same h = record { gained = SinksGain-from a b new out same h.gained; within = h.within; full = h.full }
 
 sink-from : (most : Option ℕ) (n0 n1 n : ℕ → ℕ) (end : Ended) → ((k : ℕ) → n1 k ≡ n0 k) → SinkAtEnd most n1 n end → SinkAtEnd most n0 n end
 sink-from most n0 n1 n (OutputBroken k) same h = rw (← same k) h
@@ -188,20 +188,20 @@ module _ (l : Limits) (p : Program) (q : Option (List ℕ) → Type 0) (f0 f1 : 
     h.0,
     h.1,
     devices-from h.0 h.2,
-    λ bytes known files tells.
-        let (out, gained, t, cause, breaks) = h.3 bytes (told f0 f1 bytes ready.kept known) files (λ k. ready.same_texts k ∙ tells k) in
+    λ bytes known files shows.
+        let (out, gained, t, cause, breaks) = h.3 bytes (shown f0 f1 bytes ready.kept known) files (λ k. ready.same_texts k ∙ shows k) in
         let P : Option (List ℕ) → Type 0 = λ input. h.0 ≡ InputBroken → (more : Option (List ℕ)) × q more × BreaksInLine (setting_of p files) (start_over p bytes) input more l.space t in
-        (out, GainedWithin-from l s0 s1 new h.0 out ready.same_sinks gained, t, cause, subst P (told f0 f1 bytes ready.kept known ∙ sym known) breaks),
+        (out, GainedWithin-from l s0 s1 new h.0 out ready.same_sinks gained, t, cause, subst P (shown f0 f1 bytes ready.kept known ∙ sym known) breaks),
   )
-  cause-from (inr h) = inr (Writes-from IsOutput p f0 f1 t0 t1 s0 s1 new ready h.0, sink_failed n0 n1 n same h.1, h.2 ∙ read)
+  cause-from (inr h) = inr (WritesAs-from IsOutput p f0 f1 t0 t1 s0 s1 new ready h.0, sink_failed n0 n1 n same h.1, h.2 ∙ read)
 
   pub Ran-from : (status : ℕ) → HasRun l made last q (over_files p f1 t1) status → HasRun l first last q (over_files p f0 t0) status
-  Ran-from status ran = let h = ran.means in record {
+  Ran-from status ran = let h = ran.meaning in record {
     is_one = ran.is_one;
-    means = record {
-      whole = λ is. let w = h.whole is in (Writes-from IsOutput p f0 f1 t0 t1 s0 s1 new ready w.0, w.1 ∙ refused, w.2 ∙ read);
-      missed = λ is. let w = h.missed is in (Writes-from IsOutput p f0 f1 t0 t1 s0 s1 new ready w.0, rw (← refused) w.1, w.2 ∙ read);
-      stopped = λ is. Writes-from BeginsOutput p f0 f1 t0 t1 s0 s1 new ready (h.stopped is);
+    meaning = record {
+      whole = λ is. let w = h.whole is in (WritesAs-from IsOutput p f0 f1 t0 t1 s0 s1 new ready w.0, w.1 ∙ refused, w.2 ∙ read);
+      missed = λ is. let w = h.missed is in (WritesAs-from IsOutput p f0 f1 t0 t1 s0 s1 new ready w.0, rw (← refused) w.1, w.2 ∙ read);
+      stopped = λ is. WritesAs-from BeginsOutput p f0 f1 t0 t1 s0 s1 new ready (h.stopped is);
       cause = λ is. cause-from (h.cause is);
     };
     no_sink = λ other k. ran.no_sink other k ∙ same k;

@@ -12,5 +12,5 @@ pub record EditEnds (l : Limits) (g : Setting) (s : State) (out : List (ℕ × �
     Type 0 where
   pub t : ℕ
   pub cause : IsCause l g s out end t
-  pub takes : TakesInput g s old new (more_at l end) t
+  pub lines_taken : TakesInput g s old new (more_at l end) t
   pub broken : end ≡ InputBroken → BreaksInLine g s old new l.space t

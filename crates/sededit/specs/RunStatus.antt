@@ -3,7 +3,7 @@
 use Rattle.std.specs.Prelude.{◌≡◌, ◌≢◌, ◌⊎◌, ◌≤◌, ℕ, Bool, true, false, Option, List}
 use Rattle.sedengine.specs.State.{Limits}
 use Rattle.sededit.specs.Types.{Done, Ended}
-use Rattle.sededit.specs.Program.{HelpMeans, Observed, Run, SinkFailed, StatusMeans}
+use Rattle.sededit.specs.Program.{HelpMeans, Observed, KnownRun, SinkFailed, StatusMeans}
 
 -- The status of an end, once the sinks were flushed, which led from these numbers of failures to those: at the ordinary end 0, or
 -- 2 where a file was missed, and else 4.
@@ -13,9 +13,9 @@ Finishes old new missed end status =
     ⊎ ((status ≡ 4) × ((k : ℕ) → old k ≤ new k) × ((end ≢ Done) ⊎ ((end ≡ Done) × SinkFailed old new)))
 
 -- There was a run, and this is its status.
-pub record HasRun (limits : Limits) (old new : Observed) (rest : Option (List ℕ) → Type 0) (run : Run) (status : ℕ) : Type 0 where
+pub record HasRun (limits : Limits) (old new : Observed) (rest : Option (List ℕ) → Type 0) (run : KnownRun) (status : ℕ) : Type 0 where
   pub is_one : (status ≡ 0) ⊎ ((status ≡ 2) ⊎ (status ≡ 4))
-  pub means : StatusMeans limits old new rest status run
+  pub meaning : StatusMeans limits old new rest status run
   pub no_sink : status ≢ 4 → (k : ℕ) → new.failures k ≡ old.failures k
 
 -- There was no run: the status is 1, the sinks have what they had, of the inputs only scripts were read, and of the files that
@@ -30,6 +30,6 @@ pub record Refuses (old new : Observed) (status : ℕ) (Unread Created : Type 0)
 -- Help was written: a sink failed at status 4, and at no other.
 pub record Helps (old new : ℕ → Option (List ℕ)) (failures_old failures_new : ℕ → ℕ) (names_old names_new : List (List ℕ))
     (status : ℕ) : Type 0 where
-  pub means : HelpMeans old new failures_old failures_new status
+  pub meaning : HelpMeans old new failures_old failures_new status
   pub no_sink : status ≢ 4 → (k : ℕ) → failures_new k ≡ failures_old k
   pub names : names_new ≡ names_old

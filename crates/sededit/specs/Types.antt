@@ -2,8 +2,7 @@
 pub use Rattle.clap.specs.declared.error.kind.ErrorKind.TheVariants.{DisplayHelp}
 pub use Rattle.sedre.specs.declared.types.Kind.{Kind}
 pub use Rattle.sedre.specs.declared.types.Kind.TheVariants.{Basic, Extended}
-pub use Rattle.sedengine.specs.declared.ends.Ended.{Ended}
-pub use Rattle.sedengine.specs.declared.ends.Ended.TheVariants.{Done, InputBroken, OutputBroken, OutputFull}
+pub use Rattle.sedengine.specs.Types.{Ended, Done, InputBroken, OutputBroken, OutputFull}
 pub use Rattle.sedfiles.specs.declared.asked.Line.{Line}
 pub use Rattle.sedfiles.specs.declared.asked.Part.{Part}
 pub use Rattle.sedfiles.specs.declared.asked.Part.TheVariants.{File, Script}

@@ -5,9 +5,9 @@ ghost use Rattle.std.specs.Io.KnownBytes.{Keeps};
 ghost use Rattle.sedscript.specs.Script.{Means};
 ghost use Rattle.sedscript.specs.FirstFault.{Faulty};
 ghost use Rattle.sedscript.specs.declared.types.ScriptFault.{ScriptFault};
-ghost use Rattle.sedengine.specs.Ends.{Gained, GainedWithin, SourceAtEnd};
+ghost use Rattle.sedengine.specs.Ends.{SinksGain, GainedWithin, SourceAtEnd};
 ghost use Rattle.sedengine.specs.DevicesAfter.{SameSinks, SinksAtEnd};
-ghost use Rattle.sedengine.specs.State.{TellsFiles, setting_of};
+ghost use Rattle.sedengine.specs.State.{GivesFiles, setting_of};
 ghost use Rattle.sededit.specs.Editing.{BeginsOutput, IsOutput, nothing_before, start_over};
 ghost use Rattle.sededit.specs.EditEnds.{EditEnds};
 ghost use Rattle.sededit.specs.Ahead.{EditEnded};
@@ -67,19 +67,19 @@ pub fn edit<R: ByteSource, O: Outputs, T: Texts>(
     // set; and no more is read than the lines taken and what is read ahead. Where the source failed, what it gave after
     // the last line taken contains no newline.
     ensures ending { IfOk result (λ end. ForSome (R.remaining source.old) (λ bytes.
-        (files : ℕ → List ℕ) → TellsFiles (T.text texts.old) files →
+        (files : ℕ → List ℕ) → GivesFiles (T.text texts.old) files →
         (out : List (ℕ × ℕ))
         × GainedWithin limits.output nothing_before (O.contents outputs.old) (O.contents outputs.new) (Err end) out
         × EditEnds limits (setting_of script files) (start_over script bytes) out
         (R.remaining source.old) (R.remaining source.new) end)) }
     // What was written is a beginning of what the script writes, and at the ordinary end the whole.
     ensures output { OnOk result (ForSome (R.remaining source.old) (λ bytes.
-        (files : ℕ → List ℕ) → TellsFiles (T.text texts.old) files →
-        (out : List (ℕ × ℕ)) × Gained (O.contents outputs.old) (O.contents outputs.new) out
+        (files : ℕ → List ℕ) → GivesFiles (T.text texts.old) files →
+        (out : List (ℕ × ℕ)) × SinksGain (O.contents outputs.old) (O.contents outputs.new) out
         × BeginsOutput (setting_of script files) (start_over script bytes) out)) }
     ensures whole { result ≡ Ok Ended.Done → ForSome (R.remaining source.old) (λ bytes.
-        (files : ℕ → List ℕ) → TellsFiles (T.text texts.old) files →
-        (out : List (ℕ × ℕ)) × Gained (O.contents outputs.old) (O.contents outputs.new) out
+        (files : ℕ → List ℕ) → GivesFiles (T.text texts.old) files →
+        (out : List (ℕ × ℕ)) × SinksGain (O.contents outputs.old) (O.contents outputs.new) out
         × IsOutput (setting_of script files) (start_over script bytes) out) }
     // A device that the end names has failed, whether its bytes are known or not, and no other source or sink has; and a sink
     // is full only where the limits have one on the output.
@@ -120,7 +120,7 @@ pub(crate) fn edit_ahead<R: ByteSource, O: Outputs, T: Texts>(
     requires nodes { script.max_nodes ≤ limits.nodes }
     // So many bytes were left ahead, and with them still to come only the lines that were taken are gone.
     ensures edits { IfOk result (λ edited. ForSome (R.remaining source.old) (λ bytes.
-        (files : ℕ → List ℕ) → TellsFiles (T.text texts.old) files →
+        (files : ℕ → List ℕ) → GivesFiles (T.text texts.old) files →
         EditEnded limits (setting_of script files) (start_over script bytes) (R.remaining source.old) (R.remaining source.new)
         (O.contents outputs.old) (O.contents outputs.new) edited.ahead edited.end)) }
     ensures ahead { IfOk result (λ edited. edited.ahead ≤ limits.look) }

@@ -3,7 +3,7 @@ ghost use Rattle.std.specs.Prelude.{◌≡◌, ◌≢◌, ◌<◌, ◌⊎◌, �
 ghost use Rattle.clap.specs.Words.{kind_of};
 ghost use Rattle.sedfiles.specs.Files.{StillGives, OnlyReadsScripts, Creates, CreatesFirst};
 ghost use Rattle.sedscript.specs.Program.{Program};
-ghost use Rattle.sededit.specs.Program.{AsksHelp, GivesScript, HelpMeans, Runs, StatusMeans, observe, run_of, texts_by_name};
+ghost use Rattle.sededit.specs.Program.{AsksHelp, GivesScript, HelpMeans, RunsAs, StatusMeans, observe, run_of, texts_by_name};
 ghost use Rattle.sededit.specs.RunStatus.{Helps, HasRun, Refuses};
 
 use crate::messages::{say_cannot_open, say_fault, say_no_script, say_refused};
@@ -52,7 +52,7 @@ pub fn command<S: AsStr, I: Inputs, O: Sinks, N: Names, E: Write>(
     // Another status than 1 says what became of the run of the script; or help was asked for, a text was written to the
     // standard output alone, and no input was touched.
     ensures means { result ≢ REFUSED →
-        Runs (record {
+        RunsAs (record {
           scripts = I.text inputs.old;
           inputs = I.ahead inputs.old;
           named = N.file names.old;
@@ -72,7 +72,7 @@ pub fn command<S: AsStr, I: Inputs, O: Sinks, N: Names, E: Write>(
     ensures unread { result ≡ REFUSED →
         OnlyReadsScripts I.current I.ahead I.text I.refusals I.failures I.reference inputs.old inputs.new }
     ensures created { result ≡ REFUSED → (O.names sinks.new ≡ O.names sinks.old)
-        ⊎ Runs (record {
+        ⊎ RunsAs (record {
           scripts = I.text inputs.old;
           inputs = I.ahead inputs.old;
           named = N.file names.old;

@@ -12,7 +12,7 @@ returns-in-Ok-clause-status g c = elim c.run_line.ensures [
 pub returns-in-Ok-clause-means : goal.returns-in-Ok-clause-means
 returns-in-Ok-clause-means g c = λ runs. elim c.run_line.ensures [
   | inl refused ↦ absurd (runs refused.is_refused)
-  | inr ran ↦ inl (c.in-Ok.ensures.sound, (c.in-Ok.line, c.in-Ok.ensures.line, (ran.0, ran.1, (ran.2.0, ran.2.1.means))))
+  | inr ran ↦ inl (c.in-Ok.ensures.sound, (c.in-Ok.line, c.in-Ok.ensures.line, (ran.0, ran.1, (ran.2.0, ran.2.1.meaning))))
 ]
 
 pub returns-in-Ok-clause-no_sink : goal.returns-in-Ok-clause-no_sink
@@ -57,7 +57,7 @@ returns-in-Err-NoMemory-clause-created g c = λ _. inl refl
 pub returns-in-Err-Words-clause-status : goal.returns-in-Err-Words-clause-status
 returns-in-Err-Words-clause-status g c = elim c.answer_words.ensures [
   | inl refused ↦ inr (inl refused.0)
-  | inr helps ↦ elim helps.1.means.either [ inl well ↦ inl well | inr ill ↦ inr (inr (inr ill)) ]
+  | inr helps ↦ elim helps.1.meaning.either [ inl well ↦ inl well | inr ill ↦ inr (inr (inr ill)) ]
 ]
 
 pub returns-in-Err-Words-clause-no_sink : goal.returns-in-Err-Words-clause-no_sink
