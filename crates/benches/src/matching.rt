@@ -9,7 +9,7 @@
 
 ghost use Rattle.std.specs.Prelude.{◌≡◌, ◌<◌, ◌≤◌, ◌^◌, ◌∷◌, [], None, IfOk, IfSome, length};
 ghost use Rattle.sedre.specs.Tree.{expression_tree};
-ghost use Rattle.sedmatch.specs.Following.{Occurs};
+ghost use Rattle.sedmatch.specs.Following.{OccursAfter};
 ghost use Rattle.sedmatch.specs.Occurrences.{RoomFor};
 ghost use Rattle.benches.specs.Ready.{CanSeek};
 
@@ -167,7 +167,7 @@ impl Searcher {
         requires ready { CanSeek expr.now self.old }
         ensures ready { CanSeek expr.now self.new }
         ensures size { self.new.size ≡ self.old.size }
-        ensures occurs { IfSome result (Occurs (expression_tree expr.now) text.now None) }
+        ensures occurs { IfSome result (OccursAfter (expression_tree expr.now) text.now None) }
     {
         self.seeking.begin(0);
         let scratch = &mut self.scratch;
@@ -175,7 +175,7 @@ impl Searcher {
             .next_occurrence(text, None, &mut self.seeking, scratch, &mut Steps::new())
     }
 
-    /// Tells the groups of the first occurrence, and whether there is one.
+    /// Finds the groups of the first occurrence, and whether there is one.
     fn finds(&mut self, expr: &Expr, text: &Text) -> bool
         requires text { length text.now ≤ self.old.size }
         requires ready { CanSeek expr.now self.old }

@@ -52,7 +52,7 @@ fn run_way(row: &SheetRow, way: Behaviour, report: &mut Report) {
     if report.is_empty() {
         match limits_of(row.options(4), way.look) {
             Ok(limits) => run_limited(row, way, limits, report),
-            Err(message) => report.tell(message),
+            Err(message) => report.say(message),
         }
         way.note(report);
     }
@@ -61,11 +61,11 @@ fn run_way(row: &SheetRow, way: Behaviour, report: &mut Report) {
 /// Runs it so within these limits.
 fn run_limited(row: &SheetRow, way: Behaviour, limits: Limits, report: &mut Report) {
     let Some(words) = words_of(row.alloc, row.field(0)) else {
-        return report.tell("a word is no text");
+        return report.say("a word is no text");
     };
     match devices_of(row, way) {
         Some(mut devices) => run_words(row, words.as_slice(), limits, &mut devices, report),
-        None => report.tell(NO_MEMORY),
+        None => report.say(NO_MEMORY),
     }
 }
 
@@ -96,7 +96,7 @@ fn run_words(
     let begun = options.value(b"errors_begin");
     compare_stream("the errors", errors.as_slice(), wanted, begun, report);
     if status == 1 && inputs.calls() > 0 {
-        report.tell("an input is read");
+        report.say("an input is read");
     }
 }
 

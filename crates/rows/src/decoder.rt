@@ -13,19 +13,20 @@
 use crate::options::parted;
 use crate::shape::number_in;
 use crate::sheet::Sheet;
-use anyhow::{Result, ensure};
 use std::alloc::Global;
 
 /// The most copies of one part, so that a mistake in a table doesn't take all memory.
 const MAX_COPIES: usize = 10_000_000;
 
-/// The bytes that a field stands for.
-pub(crate) fn decoded(alloc: Global, written: &[u8]) -> Result<Vec<u8>> {
+/// The bytes that a field stands for. None where an escape means nothing, or isn't closed, and for want of memory.
+pub(crate) fn decoded(alloc: Global, written: &[u8]) -> Option<Vec<u8>> {
     let mut sheet = Sheet::new(alloc);
-    let is_sound = put_field(&mut sheet, written).is_some();
-    ensure!(is_sound, "an escape means nothing, or isn't closed");
-    ensure!(sheet.is_whole, "no memory");
-    Ok(sheet.bytes)
+    put_field(&mut sheet, written)?;
+    if sheet.is_whole {
+        Some(sheet.bytes)
+    } else {
+        None
+    }
 }
 
 /// Writes what a field stands for. None where an escape means nothing, or isn't closed.

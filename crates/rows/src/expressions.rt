@@ -78,7 +78,7 @@ pub(crate) fn run_list(row: &SheetRow, report: &mut Report) {
     let text = row.field(0);
     let end = row.number(1);
     if end > text.len() {
-        return report.tell("the place is past the text");
+        return report.say("the place is past the text");
     }
     for kind in [Kind::Basic, Kind::Extended] {
         compare_list(row, kind, &text[..end], true, report);
@@ -89,25 +89,25 @@ pub(crate) fn run_list(row: &SheetRow, report: &mut Report) {
 /// Whether the list that the text begins with, and is where `is_alone`, has the wanted bytes.
 fn compare_list(row: &SheetRow, kind: Kind, text: &[u8], is_alone: bool, report: &mut Report) {
     let Ok(expr) = read(row.alloc, kind, text, row.options(4).delimiter(), 100) else {
-        return report.tell("the text is no expression");
+        return report.say("the text is no expression");
     };
     if expr.nodes() > 0 && (expr.nodes() == 1) == is_alone {
         compare_set(row, expr.look(expr.id(0), &mut Steps::new()), report);
     } else {
-        report.tell("the list ends at another place");
+        report.say("the list ends at another place");
     }
 }
 
 /// Whether the set has the bytes that are listed, or those that are not.
 fn compare_set(row: &SheetRow, node: Node, report: &mut Report) {
     let Node::Set(set) = node else {
-        return report.tell("the expression doesn't begin with a set");
+        return report.say("the expression doesn't begin with a set");
     };
     for b in 0..=255u8 {
         let came = set.has(b);
         let wanted = row.field(3).contains(&b) != (row.field(2) == b"not".as_slice());
         if came != wanted {
-            report.tell(format_args!("whether it has the byte {b}: came {came}"));
+            report.say(format_args!("whether it has the byte {b}: came {came}"));
         }
     }
 }

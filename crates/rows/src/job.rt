@@ -66,7 +66,7 @@ pub(crate) fn check_script(row: &SheetRow, report: &mut Report) {
             report.compare_numbers("files read", named(read, b"r:", options), read_count);
             script.close();
         }
-        Err(fault) => report.tell(fault.reason.name()),
+        Err(fault) => report.say(fault.reason.name()),
     }
 }
 

@@ -18,6 +18,9 @@ use sedre::{Expr, Steps, read};
 use std::alloc::{AllocError, Global};
 use std::slice;
 
+/// The most states of the tables by which a text is searched.
+const STATES: [usize; 4] = [513, 64, 2, 0];
+
 /// What going over occurrences comes to.
 #[derive(Clone, Copy)]
 struct Occurred {
@@ -31,7 +34,7 @@ pub(crate) fn run(row: &SheetRow, from: Option<usize>, report: &mut Report) {
     let kind = kind_named(row.field(0));
     match read(row.alloc, kind, row.field(1), None, 65536) {
         Ok(expr) => run_over(row, &expr, row.field(2), from, report),
-        Err(_) => report.tell("the expression has a fault"),
+        Err(_) => report.say("the expression has a fault"),
     }
 }
 
@@ -40,18 +43,15 @@ fn run_over(row: &SheetRow, expr: &Expr, text: &[u8], from: Option<usize>, repor
     let nodes = expr.nodes();
     let place = from.unwrap_or(0);
     if nodes < 1 || nodes > 65536 || text.len() > 1 << 20 || place > text.len() {
-        return report.tell("the text is too long, or the search begins past it");
+        return report.say("the text is too long, or the search begins past it");
     }
     let Ok(mut scratch) = Scratch::new(row.alloc, text.len(), nodes) else {
-        return report.tell(NO_MEMORY);
+        return report.say(NO_MEMORY);
     };
     if from.is_some() {
         run_once(row, expr, &Text::new(text), place, &mut scratch, report);
     }
-    run_table(row, expr, 513, text, from, &mut scratch, report);
-    run_table(row, expr, 64, text, from, &mut scratch, report);
-    run_table(row, expr, 2, text, from, &mut scratch, report);
-    run_table(row, expr, 0, text, from, &mut scratch, report);
+    run_tables(row, expr, text, from, &mut scratch, report);
     scratch.close();
 }
 
@@ -79,6 +79,25 @@ fn run_once(
     report.compare_sheet("the match", &came, row.field(4));
 }
 
+/// Searches by tables of each size.
+fn run_tables(
+    row: &SheetRow,
+    expr: &Expr,
+    text: &[u8],
+    from: Option<usize>,
+    scratch: &mut Scratch,
+    report: &mut Report,
+)
+    requires from { IfSome from (λ place. place ≤ length text.now) }
+    requires fits { FitInto (length text.now) (length expr.now.nodes) scratch.old }
+    requires text { length text.now ≤ 2 ^ 20 }
+    requires some { 1 ≤ length expr.now.nodes }
+{
+    'sizes: for states in STATES {
+        run_table(row, expr, states, text, from, scratch, report);
+    }
+}
+
 /// Searches by tables of at most so many states, where no difference was found before.
 fn run_table(
     row: &SheetRow,
@@ -102,12 +121,12 @@ fn run_table(
     let room = TableRoom { states, bytes };
     let made = TableMatcher::new(row.alloc, expr, room, &mut Steps::new());
     let Ok(mut matcher) = made else {
-        return report.tell(NO_MEMORY);
+        return report.say(NO_MEMORY);
     };
     if let Some(place) = from {
         let is_match = matcher.is_match(&Text::new(text), place, scratch, &mut Steps::new());
         if is_match == (row.field(4) == b"none".as_slice()) {
-            report.tell("is_match answers otherwise");
+            report.say("is_match answers otherwise");
         }
     }
     if from.unwrap_or(0) == 0 {
@@ -165,7 +184,7 @@ fn seek(
             compare(row, from, came, &all, report);
             seeking.close();
         }
-        Err(_) => report.tell(NO_MEMORY),
+        Err(_) => report.say(NO_MEMORY),
     }
 }
 
@@ -245,7 +264,7 @@ fn compare_steps(most: &str, least: &str, steps: u128, options: Options<'_>, rep
     let least = options.number_or(least.as_bytes(), 0);
     let most = options.number_or(most.as_bytes(), usize::MAX);
     if steps < least as u128 || (most as u128) < steps {
-        report.tell(format_args!("steps: came {steps}"));
+        report.say(format_args!("steps: came {steps}"));
     }
 }
 

@@ -19,14 +19,14 @@ pub(crate) fn run(row: &SheetRow, report: &mut Report) {
             compare(row, &script, report);
             script.close();
         }
-        Err(_) => report.tell("the script isn't accepted"),
+        Err(_) => report.say("the script isn't accepted"),
     }
 }
 
 /// Whether the script is read as the row says.
 fn compare(row: &SheetRow, script: &Script, report: &mut Report) {
     if script.quiet() != row.options(2).has(b"-n") {
-        report.tell("-n isn't as expected");
+        report.say("-n isn't as expected");
     }
     compare_files(row, script, report);
     let mut came = Sheet::new(row.alloc);

@@ -33,7 +33,7 @@ impl Report {
     }
 
     /// Writes this difference, where there was none before.
-    pub(crate) fn tell<D: Display + Drop>(&mut self, text: D) {
+    pub(crate) fn say<D: Display + Drop>(&mut self, text: D) {
         if self.is_empty() {
             self.put_text(text);
         }
@@ -53,14 +53,14 @@ impl Report {
     pub(crate) fn compare_sheet(&mut self, what: &str, came: &Sheet, wanted: &[u8]) {
         self.compare(what, came.bytes.as_slice(), wanted);
         if !came.is_whole {
-            self.tell(NO_MEMORY);
+            self.say(NO_MEMORY);
         }
     }
 
     /// Notes where a number isn't the one that the row says.
     pub(crate) fn compare_numbers(&mut self, what: &str, came: u128, wanted: usize) {
         if came != wanted as u128 {
-            self.tell(format_args!("{what}: came {came}, expected {wanted}"));
+            self.say(format_args!("{what}: came {came}, expected {wanted}"));
         }
     }
 

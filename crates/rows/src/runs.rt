@@ -115,7 +115,7 @@ fn fail_device(row: &SheetRow, sink: Option<usize>, report: &mut Report) {
             return;
         }
     }
-    report.tell("there are more calls than are tried");
+    report.say("there are more calls than are tried");
 }
 
 /// Whether the run came to its end, and the sinks have what they should; or where a device may fail, whether it ended by the
@@ -124,7 +124,7 @@ fn compare(row: &SheetRow, came: Made<RunOutcome>, may_fail: bool, report: &mut 
     let outcome = match came {
         Ok(outcome) => outcome,
         Err(message) => {
-            report.tell(message);
+            report.say(message);
             return false;
         }
     };
@@ -139,7 +139,7 @@ fn compare(row: &SheetRow, came: Made<RunOutcome>, may_fail: bool, report: &mut 
 /// Whether the engine stayed at its end.
 fn compare_stays(outcome: &RunOutcome, report: &mut Report) {
     if !outcome.stays {
-        report.tell("the engine goes on after its end");
+        report.say("the engine goes on after its end");
     }
 }
 
@@ -183,7 +183,7 @@ pub(crate) fn run_cycle(row: &SheetRow, report: &mut Report) {
     check_script(row, report);
     match runner::run(row, Behaviour::of(row.options(3)), true) {
         Ok(outcome) => compare_cycle(row, &outcome, report),
-        Err(message) => report.tell(message),
+        Err(message) => report.say(message),
     }
 }
 

@@ -20,22 +20,21 @@ runs * * *;-n -E cuts F* r:* w:* space=# queue=# look=# turns=# nodes=+ output=#
 failing * * *;-n -E F* r:* w:* space=# queue=# look=# turns=# nodes=+ output=#
 cycles * * *;-n -E lines taken=# calls=# all=# held=# r:* w:* space=# queue=# look=# turns=# nodes=+ output=# fails=# read=# room=# refuses=#
 limits # # # # # accepted|refused;
-calls * * * #;errors=* errors_begin=* output_begins=* f:* w:* space=# queue=# turns=# nodes=+ output=# fails=# room=# refuses=# write=#";
+calls * * * #;errors=* errors_begin=* output_begins=* f:* w:* space=# queue=# turns=# nodes=+ output=# fails=# room=# refuses=# write=#
+own_limits * * * *;
+by_cycles * * * *;";
 
-/// Whether the fields of a row of the subject keep to one of its shapes. None where there is no such subject.
-pub(crate) fn have_shape(fields: &[Vec<u8>], subject: &str) -> Option<bool> {
-    let mut is_known = None;
+/// Whether the fields of a row of the subject keep to one of its shapes.
+pub(crate) fn have_shape(fields: &[Vec<u8>], subject: &str) -> bool {
     for line in SHAPES.lines() {
         if let Some((name, shape)) = line.split_once(' ')
             && name == subject
+            && keep_to(fields, shape)
         {
-            if keep_to(fields, shape) {
-                return Some(true);
-            }
-            is_known = Some(false);
+            return true;
         }
     }
-    is_known
+    false
 }
 
 /// Whether fields keep to the rules of a shape for them, and those that follow to the rules of options.

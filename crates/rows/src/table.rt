@@ -7,8 +7,8 @@
 use crate::decoder::decoded;
 use crate::options::Options;
 use crate::shape::number_in;
-use anyhow::{Context, Result};
 use std::alloc::Global;
+use std::str;
 
 /// A row of a table.
 #[derive(Drop)]
@@ -29,6 +29,11 @@ impl SheetRow {
         }
     }
 
+    /// The field of a number as a text, empty where it is none.
+    pub(crate) fn text(&self, k: usize) -> &str {
+        str::from_utf8(self.field(k)).unwrap_or("")
+    }
+
     /// The field of a number as a number.
     pub(crate) fn number(&self, k: usize) -> usize {
         number_in(self.field(k)).unwrap_or(0)
@@ -42,34 +47,42 @@ impl SheetRow {
     }
 }
 
-/// The rows of a table's text.
-pub(crate) fn rows_of(alloc: Global, text: &str) -> Result<Vec<SheetRow>> {
+/// The rows of a table's text, or the line of one that can't be read: an escape means nothing or isn't closed, or there is no
+/// memory.
+pub(crate) fn rows_of(alloc: Global, text: &str) -> Result<Vec<SheetRow>, usize> {
     let mut rows = Vec::new(alloc);
     let mut line = 0usize;
     for content in text.lines() {
         line = line.saturating_add(1);
         if !content.is_empty() && content != "#" && !content.starts_with("# ") {
-            let fields = fields_of(alloc, content).context(format_args!("line {line}"))?;
-            rows.push(SheetRow {
-                line,
-                alloc,
-                fields,
-            })?;
+            add_row(&mut rows, line, content).ok_or(line)?;
         }
     }
     Ok(rows)
 }
 
+/// Adds the row of a line.
+fn add_row(rows: &mut Vec<SheetRow>, line: usize, content: &str) -> Option<()> {
+    let alloc = *rows.allocator();
+    let fields = fields_of(alloc, content)?;
+    rows.push(SheetRow {
+        line,
+        alloc,
+        fields,
+    })
+    .ok()
+}
+
 /// The fields of a row.
-fn fields_of(alloc: Global, line: &str) -> Result<Vec<Vec<u8>>> {
+fn fields_of(alloc: Global, line: &str) -> Option<Vec<Vec<u8>>> {
     let mut fields = Vec::new(alloc);
     for part in line.split("  ") {
         let written = part.trim_matches(' ');
         if !written.is_empty() {
-            fields.push(decoded(alloc, written.as_bytes())?)?;
+            fields.push(decoded(alloc, written.as_bytes())?).ok()?;
         }
     }
-    Ok(fields)
+    Some(fields)
 }
 
 /// Adds a copy of the bytes. None for want of memory.

@@ -123,7 +123,7 @@ fn run_over(rt: &HostRuntime, script: &str, devices: &mut CallDevices) -> Result
     write_call(rt, status, devices)
 }
 
-/// Tells what came of a call of the program.
+/// Writes what came of a call of the program.
 fn write_call(rt: &HostRuntime, status: u8, devices: &CallDevices) -> Result<()> {
     let written = str::from_utf8(devices.sinks.bytes(0)).unwrap_or("no text");
     let message = str::from_utf8(devices.errors.as_slice()).unwrap_or("no text");
