@@ -72,8 +72,8 @@ pub none_before : (may_end : Bool) (byte : ℕ) (text : List ℕ) (from to : ℕ
 none_before may_end byte text from to r = λ at low high u.
     r.none (at - from) (omega (arith, low, high, r.place)) (free_between byte text from at (at - from) (omega (arith, low)) u)
 
-pub stands_last : (may_end : Bool) (byte : ℕ) (text : List ℕ) (from to : ℕ) → Reaches may_end byte 0 (drop from text) from to → ((may_end ≡ true) × (length (drop from text) + from ≡ to)) ⊎ IsUnescaped byte text from to
-stands_last may_end byte text from to r = by_last r.last
+pub nested_last : (may_end : Bool) (byte : ℕ) (text : List ℕ) (from to : ℕ) → Reaches may_end byte 0 (drop from text) from to → ((may_end ≡ true) × (length (drop from text) + from ≡ to)) ⊎ IsUnescaped byte text from to
+nested_last may_end byte text from to r = by_last r.last
   where
     by_last : ((may_end ≡ true) × (r.k ≡ length (drop from text))) ⊎ Free byte 0 (drop from text) r.k → ((may_end ≡ true) × (length (drop from text) + from ≡ to)) ⊎ IsUnescaped byte text from to
     by_last (inl e) = inl (e.0, omega (arith, e.1, r.place))

@@ -9,7 +9,7 @@ use Rattle.clap.specs.Words.{Text, fault_of, matches_of}
 use Rattle.clap.specs.Walk.{bundle_met, walked as word_walked}
 use Rattle.clap.specs.Faults.{defaults_fault, flags_fault, walk_fault}
 use Rattle.clap.specs.declared.error.kind.ErrorKind.TheVariants.{DisplayHelp, InvalidValue, UnknownArgument}
-use Rattle.sedfiles.specs.CommandLine.{Asks, IsCommandLine, given_to, is_given, sed_command}
+use Rattle.sedfiles.specs.CommandLine.{AsksParts, IsCommandLine, given_to, is_given, sed_command}
 use Rattle.sedfiles.specs.declared.asked.Part.{Part}
 use Rattle.sedre.specs.Brackets.{delimiter_at}
 use Rattle.sedre.specs.Tree.{tree_at, tree_within}
@@ -38,7 +38,7 @@ record AsksFor (words : List Text) (quiet extended : Bool) (parts : List Part) (
   taken : IsCommandLine words
   is_quiet : is_given (codes "quiet") (matches_of sed_command words) ≡ quiet
   is_extended : is_given (codes "extended") (matches_of sed_command words) ≡ extended
-  asks : Asks (given_to (codes "expression") (matches_of sed_command words)) (given_to (codes "file") (matches_of sed_command words))
+  asks : AsksParts (given_to (codes "expression") (matches_of sed_command words)) (given_to (codes "file") (matches_of sed_command words))
       (given_to (codes "operand") (matches_of sed_command words)) parts operands
 
 -- The letters of options in a word are its bytes.

@@ -9,9 +9,8 @@ use Rattle.examples.proofs.ComputedScript.{Script}
 use Rattle.sedspace.specs.Lines.{split_lines}
 use Rattle.sedengine.specs.State.{Limits, State, Task, Move, Setting, setting_of}
 use Rattle.sedengine.specs.Move.{next_move, after, start, to_sink}
-use Rattle.sedengine.specs.Ends.{WithinLimits, Within, StopsAt, IsCause, Whole, BrokenOff, named_sink, reads}
-use Rattle.sedengine.specs.declared.ends.Ended.{Ended}
-use Rattle.sedengine.specs.declared.ends.Ended.TheVariants.{Done, PatternFull, HoldFull, QueueFull, TurnsSpent, NoPrevious, InputBroken}
+use Rattle.sedengine.specs.Ends.{WithinLimits, StaysWithin, StopsAt, IsCause, RanWhole, BrokenOff, named_sink, reads}
+use Rattle.sedengine.specs.Types.{Ended, Done, PatternFull, HoldFull, QueueFull, TurnsSpent, NoPrevious, InputBroken}
 use Rattle.examples.proofs.ComputedRun.{course, course_so, stays, after_first, written_first}
 use Rattle.sedengine.specs.Steps.{WholeOrBrokenOff}
 
@@ -60,8 +59,8 @@ module _ (l : Limits) (g : Setting) where
   each_fits (suc n) s e k below =
       let two = both _ _ e in later_fit n s (next_move g s) refl two.0 two.1 (each_fits n) k below
 
-  pub within_so : (n : ℕ) (s : State) → all_fit l g n s ≡ true → Within l g s n
-  unfolding Within
+  pub within_so : (n : ℕ) (s : State) → all_fit l g n s ≡ true → StaysWithin l g s n
+  unfolding StaysWithin
   within_so n s e = each_fits n s e
 
 -- whether there is a move that takes no turn too many, and leads to line n and to a state of which this is so
@@ -141,7 +140,7 @@ pub record Stops (l : Limits) (g : Setting) (s : State) (end : Ended) (out : Lis
   pub cause : IsCause l g s out end moves
 
 pub whole_or_cut : (l : Limits) (g : Setting) (s : State) (end : Ended) (out : List (ℕ × ℕ)) (t : ℕ) (o : Option ℕ) → o ≡ None →
-    Whole l g s out end t → WholeOrBrokenOff l g s out end t o
+    RanWhole l g s out end t → WholeOrBrokenOff l g s out end t o
 whole_or_cut l g s end out t None e h = h
 whole_or_cut l g s end out t (Some k) e h = absurd cc
 
@@ -152,7 +151,7 @@ cut_there l g s end out t k (Some j) e h = subst (λ (o : Option ℕ). WholeOrBr
 
 -- an end is whole where its moves, computed, say so
 pub whole_after : {l : Limits} {g : Setting} {s : State} {end : Ended} {out : List (ℕ × ℕ)} (n : ℕ) →
-    (course g n s).writes ≡ out → is_cause l g (course g n s).last end ≡ true → all_fit l g n s ≡ true → Whole l g s out end n
+    (course g n s).writes ≡ out → is_cause l g (course g n s).last end ≡ true → all_fit l g n s ≡ true → RanWhole l g s out end n
 whole_after {l = l} {g = g} {s = s} {end = end} n w c f = record {
   within = within_so l g n s f;
   wrote = (course_so g n s).0 ∙ w;
@@ -167,15 +166,15 @@ within_first l g s m t e fits on zero below = fits
 within_first l g s m t e fits on (suc k) below = subst (WithinLimits l) (sym (after_first g s m k e)) (on k (omega arith))
 
 pub whole_first : {l : Limits} {g : Setting} {s : State} {m : Move} {end : Ended} {rest : List (ℕ × ℕ)} {t : ℕ} → next_move g s ≡ Some m →
-    WithinLimits l s → Whole l g m.next rest end t → Whole l g s (m.writes ++ rest) end (suc t)
-unfolding Within
+    WithinLimits l s → RanWhole l g m.next rest end t → RanWhole l g s (m.writes ++ rest) end (suc t)
+unfolding StaysWithin
 whole_first {l = l} {g = g} {s = s} {m = m} {end = end} {t = t} e fits h = record {
   within = within_first l g s m t e fits h.within;
   wrote = written_first g s m t e ∙ ap (λ (bytes : List (ℕ × ℕ)). m.writes ++ bytes) h.wrote;
   cause = subst (λ (x : State). StopsAt l g x end) (sym (after_first g s m t e)) h.cause;
 }
 
-abbrev pub stops_whole : {l : Limits} {g : Setting} {s : State} {end : Ended} {out : List (ℕ × ℕ)} {t : ℕ} → Whole l g s out end t →
+abbrev pub stops_whole : {l : Limits} {g : Setting} {s : State} {end : Ended} {out : List (ℕ × ℕ)} {t : ℕ} → RanWhole l g s out end t →
     named_sink end ≡ None → Stops l g s end out
 stops_whole {l = l} {g = g} {s = s} {end = end} {out = out} {t = t} h sink =
     record { moves = t; cause = whole_or_cut l g s end out t (named_sink end) sink h }

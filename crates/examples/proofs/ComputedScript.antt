@@ -13,7 +13,7 @@ use Rattle.sedscript.specs.declared.items.ItemOrEnd.TheVariants.{Is, Ends}
 use Rattle.sedscript.specs.declared.types.FileUse.TheVariants.{Read, Write}
 use Rattle.sedscript.specs.declared.bytes.Sort.TheVariants.{Separator}
 use Rattle.sedscript.specs.Bytes.{bytes_between, past}
-use Rattle.sedscript.specs.Items.{Pattern, Reading, plainly, expression, item_at}
+use Rattle.sedscript.specs.Items.{PatternExtent, Reading, plainly, expression, item_at}
 use Rattle.sedscript.specs.Script.{IsRead, Gives, value, after_expression, CutScript, done, IsEnd, texts_of, substitutions_of, tables_of, commands_of, is_quiet, Means, target_fault, files_in}
 use Rattle.sedscript.specs.FirstFault.{in_script, Fails, own, no_expression, later, Faulty, early, afterwards}
 use Rattle.sedscript.specs.Program.{Program}
@@ -32,7 +32,7 @@ with_expression e (failed f) = failed f
 with_expression e unsettled = unsettled
 
 -- what is found from an expression on, by what its text comes to
-abbrev pub found_after : {A : Type 0} → Pattern → (ℕ → Found A) → Outcome → Found A
+abbrev pub found_after : {A : Type 0} → PatternExtent → (ℕ → Found A) → Outcome → Found A
 found_after p rest (reads t groups) = with_expression (written t groups) (rest groups)
 found_after p rest (bad_expression place reason) = failed (in_script p.from (record { place = place; reason = reason }))
 found_after p rest unfinished = unsettled
@@ -106,7 +106,7 @@ module _ (text : List ℕ) (kind : Kind) (max_nodes : ℕ) where
   Says r (failed f) = Fails text kind max_nodes r f
   Says r unsettled = Unit {0}
 
-  read_so : (p : Pattern) (t : Tree) (groups : ℕ) →
+  read_so : (p : PatternExtent) (t : Tree) (groups : ℕ) →
       Holds kind p.folded (Some p.delimiter) (bytes_between text p.from p.to) max_nodes (reads t groups) →
       IsRead text kind max_nodes p (written t groups)
   read_so p t groups h = record {
@@ -116,13 +116,13 @@ module _ (text : List ℕ) (kind : Kind) (max_nodes : ℕ) where
     fits = subst (λ (n : ℕ). n ≤ max_nodes) (sym (nodes_of_written t)) h.2;
   }
 
-  after_expression_says : {A : Type 0} (p : Pattern) (k : ℕ → Reading A) (e : WrittenExpression) → IsRead text kind max_nodes p e →
+  after_expression_says : {A : Type 0} (p : PatternExtent) (k : ℕ → Reading A) (e : WrittenExpression) → IsRead text kind max_nodes p e →
       (rest : Found A) → Says (k e.groups) rest → Says (expression p k) (with_expression e rest)
   after_expression_says p k e is (found es x) h = after_expression e is h
   after_expression_says p k e is (failed f) h = later e is h
   after_expression_says p k e is unsettled h = tt
 
-  after_says : {A : Type 0} (p : Pattern) (k : ℕ → Reading A) (rest : ℕ → Found A) (o : Outcome) →
+  after_says : {A : Type 0} (p : PatternExtent) (k : ℕ → Reading A) (rest : ℕ → Found A) (o : Outcome) →
       Holds kind p.folded (Some p.delimiter) (bytes_between text p.from p.to) max_nodes o →
       ((groups : ℕ) → Says (k groups) (rest groups)) → Says (expression p k) (found_after p rest o)
   after_says p k rest (reads t groups) h on =

@@ -11,12 +11,12 @@ use Rattle.sedre.specs.Grammar.{ReadsAs}
 use Rattle.examples.proofs.ComputedReading.{Outcome, reads, faulty, unfinished, outcome, rest_of, outcome_holds, Holds}
 use Rattle.sedmatch.specs.Spans.{IsLeftmostLongest, NotFound}
 use Rattle.sedmatch.specs.Caps.{IsReport}
-use Rattle.sedmatch.specs.Groups.{Groups}
+use Rattle.sedmatch.specs.Groups.{SpansOfGroups}
 use Rattle.sedmatch.specs.Matching.{any, greatest, copies, spans, longest, found_from, leftmost_longest, greatest_cut, first_copy, last_start, groups_after, reported_groups}
 use Rattle.sedmatch.proofs.MatchingLemmas.{found-iff, not_found-iff, report-iff}
 
 -- the whole match and the first groups, as they are reported; the other groups have no span
-abbrev pub spans_are : ℕ × ℕ → List (Option (ℕ × ℕ)) → Groups
+abbrev pub spans_are : ℕ × ℕ → List (Option (ℕ × ℕ)) → SpansOfGroups
 spans_are whole groups = Some whole ∷ groups ++ replicate (9 - length groups) None
 
 -- the expression, sought in w from place p on, matches the whole first, and its groups have these spans
@@ -36,7 +36,7 @@ pub record FindsNothing (kind : Kind) (expression w : List ℕ) (p : ℕ) : Type
 
 -- what a search comes to; no_answer where the expression has a fault, or the place is after the text's end
 pub data Answer : Type 0 where
-  matched : (i j : ℕ) → Groups → Answer
+  matched : (i j : ℕ) → SpansOfGroups → Answer
   nothing : Answer
   no_answer : Answer
 

@@ -12,10 +12,10 @@ use Rattle.sedengine.specs.Ends.{IsCause, reads, BreaksInLine, LosesPartAfter, s
 use Rattle.sedengine.specs.State.{Limits, setting_of, Setting, State}
 use Rattle.sedengine.specs.LimitRanges.{limits_of}
 use Rattle.sedengine.specs.Move.{next_move, after, start, to_sink, written}
-use Rattle.sedengine.specs.Run.{Cycled, Ending}
+use Rattle.sedengine.specs.Run.{Cycled, CameToEnd}
 use Rattle.sedengine.specs.DevicesAfter.{TakesInput}
 use Rattle.sedengine.specs.Select.{selects}
-use Rattle.sedengine.specs.declared.ends.Ended.TheVariants.{InputBroken}
+use Rattle.sedengine.specs.Types.{InputBroken}
 use Rattle.examples.proofs.ComputedEnds.{all_fit, within_so}
 use Rattle.examples.proofs.ComputedRun.{no_files}
 use Rattle.examples.proofs.ComputedScript.{verdict, cutting, walked, Script, is_script}
@@ -77,7 +77,7 @@ first_cycle = is_script {text = codes "p"} {kind = Basic} {Fits = IsFirst} (reco
     one = between _ refl refl refl refl refl;
     within = within_so one_ahead _ 6 _ refl;
     wrote = refl;
-    takes = record {
+    lines_taken = record {
       input = record { lines = codes "a" ∷ []; are = refl; bytes = (codes "a\nb", refl, omega arith) };
       all = (codes "a\n", refl, (λ k d inside. absurd (omega (arith, inside))), omega arith);
     };
@@ -124,7 +124,7 @@ dropped_at l g s xs ys line (suc (suc n)) quiet writes is cause part = writes (f
 -- An engine that takes the first line and throws it away, since the read after it fails, is none that the contracts allow:
 -- the failure comes with the line gone and nothing written.
 abbrev KeepsItsLine : Program → Type 0
-KeepsItsLine p = (now : State) → Ending one_ahead (setting_of p no_files) (start p.commands (split_lines input)) []
+KeepsItsLine p = (now : State) → CameToEnd one_ahead (setting_of p no_files) (start p.commands (split_lines input)) []
     (record { source = Some input; all = Some input }) (record { source = Some (codes "b\nc\n"); all = Some (codes "b\nc\n") }) now InputBroken → ⊥
 
 line_kept : Script (codes "p") Basic KeepsItsLine

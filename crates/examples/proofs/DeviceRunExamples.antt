@@ -15,7 +15,7 @@ use Rattle.sedengine.specs.Ends.{bytes_of_sink, GainedWithin}
 use Rattle.sedengine.specs.State.{Limits}
 use Rattle.sedengine.specs.Move.{next_move, to_sink}
 use Rattle.sedengine.specs.Select.{selects}
-use Rattle.sedengine.specs.declared.ends.Ended.TheVariants.{Done, InputBroken, OutputBroken, OutputFull}
+use Rattle.sedengine.specs.Types.{Done, InputBroken, OutputBroken, OutputFull}
 use Rattle.sededit.specs.Editing.{nothing_before}
 use Rattle.examples.proofs.ComputedEnds.{both, all_fit, stops_after, stops_within, StopsBy, EndsBy}
 use Rattle.examples.proofs.ComputedRun.{course, plain, quiet, no_files}

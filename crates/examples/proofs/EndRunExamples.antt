@@ -20,7 +20,7 @@ use Rattle.sedengine.specs.Substitute.{occurrences_from}
 use Rattle.examples.proofs.ComputedRun.{course, course, plain, no_files}
 use Rattle.sedengine.specs.State.{Limits}
 use Rattle.sedengine.specs.LimitRanges.{limits_of}
-use Rattle.sedengine.specs.declared.ends.Ended.TheVariants.{Done, PatternFull, HoldFull, QueueFull, TurnsSpent, NoPrevious}
+use Rattle.sedengine.specs.Types.{Done, PatternFull, HoldFull, QueueFull, TurnsSpent, NoPrevious}
 use Rattle.examples.proofs.ComputedEnds.{all_fit, stops_after, EndsBy}
 use Rattle.examples.proofs.LimitWords.{turns}
 

@@ -12,8 +12,8 @@ use Rattle.sedre.specs.Reasons.{number, name}
 use Rattle.examples.proofs.ComputedReading.{Outcome, outcome, rest_of, reads, faulty, unfinished, outcome_holds, Holds, no_fault_within}
 use Rattle.sedre.proofs.OneFault.{one_fault}
 
-told_at_0 : NO_MEMORY ≡ record { place = 0; reason = NoMemory }
-told_at_0 = refl
+shown_at_0 : NO_MEMORY ≡ record { place = 0; reason = NoMemory }
+shown_at_0 = refl
 
 number_14 : number NO_MEMORY.reason ≡ 14
 number_14 = refl

@@ -13,7 +13,7 @@ use Rattle.sedscript.specs.Strings.{is_among}
 use Rattle.examples.specs.Numbers.{decimal_from, WritesNumber, NumberAmong}
 
 -- the flags after some bytes, by those before
-pub record Told (f g : Flags) (bs : List ℕ) : Type 0 where
+pub record ReadsFlags (f g : Flags) (bs : List ℕ) : Type 0 where
   pub global : g.global ≡ (f.global || is_among bs 103)
   pub print : g.print ≡ (f.print || is_among bs 112)
   pub folded : g.folded ≡ (f.folded || is_among bs 73)
@@ -33,11 +33,11 @@ or_none : (y z : Bool) → (y || false) ≡ false → z ≡ false → (y || z) �
 or_none true z e f = e
 or_none false z e f = f
 
-told_none : (f : Flags) → Told f f []
-told_none f = record { global = or_false f.global; print = or_false f.print; folded = or_false f.folded; file = refl; none_named = refl }
+shown_none : (f : Flags) → ReadsFlags f f []
+shown_none f = record { global = or_false f.global; print = or_false f.print; folded = or_false f.folded; file = refl; none_named = refl }
 
-told_then : (f h g : Flags) (b : ℕ) (bs : List ℕ) → Told f h (b ∷ []) → Told h g bs → Told f g (b ∷ bs)
-told_then f h g b bs t u = record {
+shown_then : (f h g : Flags) (b : ℕ) (bs : List ℕ) → ReadsFlags f h (b ∷ []) → ReadsFlags h g bs → ReadsFlags f g (b ∷ bs)
+shown_then f h g b bs t u = record {
   global = or_three f.global (b == 103) (is_among bs 103) h.global g.global t.global u.global;
   print = or_three f.print (b == 112) (is_among bs 112) h.print g.print t.print u.print;
   folded = or_three f.folded (b == 73) (is_among bs 73) h.folded g.folded t.folded u.folded;
@@ -60,8 +60,8 @@ digit_low b h = by_tests (nat_le 48 b) h
     by_tests true h = leb-true b 57 h
     by_tests false h = absurd (cc)
 
-told_digit : (f h : Flags) (b : ℕ) → b ≤ 57 → h.global ≡ f.global → h.print ≡ f.print → h.folded ≡ f.folded → h.file ≡ f.file → Told f h (b ∷ [])
-told_digit f h b low e p i n = record {
+shown_digit : (f h : Flags) (b : ℕ) → b ≤ 57 → h.global ≡ f.global → h.print ≡ f.print → h.folded ≡ f.folded → h.file ≡ f.file → ReadsFlags f h (b ∷ [])
+shown_digit f h b low e p i n = record {
   global = rw (ne_eqb b 103 (λ x. omega (arith, x, low))) (e ∙ or_false f.global);
   print = rw (ne_eqb b 112 (λ x. omega (arith, x, low))) (p ∙ or_false f.print);
   folded = rw (ne_eqb b 73 (λ x. omega (arith, x, low))) (i ∙ or_false f.folded);
@@ -75,14 +75,14 @@ record Numbered (f h : Flags) (b : ℕ) (digits : List ℕ) : Type 0 where
   none : f.number ≡ None
   read : with_digits (Some 0) digits ≡ Some n
   is : h.number ≡ Some n
-  told : Told f h (b ∷ [])
+  shown : ReadsFlags f h (b ∷ [])
 
 none_is : (o : Option ℕ) → is_some o ≡ false → o ≡ None
 none_is None e = refl
 none_is (Some n) e = absurd (cc)
 
-told_number : (f h : Flags) (at b : ℕ) (digits : List ℕ) → b ≤ 57 → with_number f at digits ≡ Ok h → Numbered f h b digits
-told_number f h at b digits low e = by_first (is_some f.number) refl e
+shown_number : (f h : Flags) (at b : ℕ) (digits : List ℕ) → b ≤ 57 → with_number f at digits ≡ Ok h → Numbered f h b digits
+shown_number f h at b digits low e = by_first (is_some f.number) refl e
   where
     by_number : (o : Option ℕ) → with_digits (Some 0) digits ≡ o → f.number ≡ None → with_flag_number f at o ≡ Ok h → Numbered f h b digits
     by_number None d none e = no_ok (record { place = at; reason = BadNumber }) h (Numbered f h b digits) e
@@ -94,7 +94,7 @@ told_number f h at b digits low e = by_first (is_some f.number) refl e
           none = none;
           read = d;
           is = ap (λ (x : Flags). x.number) (sym same);
-          told = told_digit f h b low (ap (λ (x : Flags). x.global) (sym same)) (ap (λ (x : Flags). x.print) (sym same)) (ap (λ (x : Flags). x.folded) (sym same)) (ap (λ (x : Flags). x.file) (sym same));
+          shown = shown_digit f h b low (ap (λ (x : Flags). x.global) (sym same)) (ap (λ (x : Flags). x.print) (sym same)) (ap (λ (x : Flags). x.folded) (sym same)) (ap (λ (x : Flags). x.file) (sym same));
         }
 
     by_first : (t : Bool) → is_some f.number ≡ t → (if t then fault RepeatedFlag at else with_flag_number f at (with_digits (Some 0) digits)) ≡ Ok h → Numbered f h b digits
@@ -106,10 +106,10 @@ told_number f h at b digits low e = by_first (is_some f.number) refl e
 -- the flags after a letter
 record Lettered (f h : Flags) (b : ℕ) : Type 0 where
   number : h.number ≡ f.number
-  told : Told f h (b ∷ [])
+  shown : ReadsFlags f h (b ∷ [])
 
-told_global : (f h : Flags) (at : ℕ) → (if f.global then fault RepeatedFlag at else Ok (record f { global = true })) ≡ Ok h → Lettered f h 103
-told_global f h at e = by_flag f.global refl e
+shown_global : (f h : Flags) (at : ℕ) → (if f.global then fault RepeatedFlag at else Ok (record f { global = true })) ≡ Ok h → Lettered f h 103
+shown_global f h at e = by_flag f.global refl e
   where
     by_flag : (t : Bool) → f.global ≡ t → (if t then fault RepeatedFlag at else Ok (record f { global = true })) ≡ Ok h → Lettered f h 103
     by_flag true is e = no_ok (record { place = at; reason = RepeatedFlag }) h (Lettered f h 103) e
@@ -117,7 +117,7 @@ told_global f h at e = by_flag f.global refl e
         let same : ◌≡◌ {A = Flags} (record f { global = true }) h = same_ok {A = Flags} (record f { global = true }) h e in
         record {
           number = ap (λ (x : Flags). x.number) (sym same);
-          told = record {
+          shown = record {
             global = rw is (ap (λ (x : Flags). x.global) (sym same));
             print = ap (λ (x : Flags). x.print) (sym same) ∙ or_false f.print;
             folded = ap (λ (x : Flags). x.folded) (sym same) ∙ or_false f.folded;
@@ -126,8 +126,8 @@ told_global f h at e = by_flag f.global refl e
           };
         }
 
-told_print : (f h : Flags) (at : ℕ) → (if f.print then fault RepeatedFlag at else Ok (record f { print = true })) ≡ Ok h → Lettered f h 112
-told_print f h at e = by_flag f.print refl e
+shown_print : (f h : Flags) (at : ℕ) → (if f.print then fault RepeatedFlag at else Ok (record f { print = true })) ≡ Ok h → Lettered f h 112
+shown_print f h at e = by_flag f.print refl e
   where
     by_flag : (t : Bool) → f.print ≡ t → (if t then fault RepeatedFlag at else Ok (record f { print = true })) ≡ Ok h → Lettered f h 112
     by_flag true is e = no_ok (record { place = at; reason = RepeatedFlag }) h (Lettered f h 112) e
@@ -135,7 +135,7 @@ told_print f h at e = by_flag f.print refl e
         let same : ◌≡◌ {A = Flags} (record f { print = true }) h = same_ok {A = Flags} (record f { print = true }) h e in
         record {
           number = ap (λ (x : Flags). x.number) (sym same);
-          told = record {
+          shown = record {
             global = ap (λ (x : Flags). x.global) (sym same) ∙ or_false f.global;
             print = rw is (ap (λ (x : Flags). x.print) (sym same));
             folded = ap (λ (x : Flags). x.folded) (sym same) ∙ or_false f.folded;
@@ -144,9 +144,9 @@ told_print f h at e = by_flag f.print refl e
           };
         }
 
-told_folded : (empty : Bool) (f h : Flags) (at : ℕ) → (if empty then fault FlagOnEmpty at else if f.folded then fault RepeatedFlag at else Ok (record f { folded = true })) ≡ Ok h → Lettered f h 73
-told_folded true f h at e = no_ok (record { place = at; reason = FlagOnEmpty }) h (Lettered f h 73) e
-told_folded false f h at e = by_flag f.folded refl e
+shown_folded : (empty : Bool) (f h : Flags) (at : ℕ) → (if empty then fault FlagOnEmpty at else if f.folded then fault RepeatedFlag at else Ok (record f { folded = true })) ≡ Ok h → Lettered f h 73
+shown_folded true f h at e = no_ok (record { place = at; reason = FlagOnEmpty }) h (Lettered f h 73) e
+shown_folded false f h at e = by_flag f.folded refl e
   where
     by_flag : (t : Bool) → f.folded ≡ t → (if t then fault RepeatedFlag at else Ok (record f { folded = true })) ≡ Ok h → Lettered f h 73
     by_flag true is e = no_ok (record { place = at; reason = RepeatedFlag }) h (Lettered f h 73) e
@@ -154,7 +154,7 @@ told_folded false f h at e = by_flag f.folded refl e
         let same : ◌≡◌ {A = Flags} (record f { folded = true }) h = same_ok {A = Flags} (record f { folded = true }) h e in
         record {
           number = ap (λ (x : Flags). x.number) (sym same);
-          told = record {
+          shown = record {
             global = ap (λ (x : Flags). x.global) (sym same) ∙ or_false f.global;
             print = ap (λ (x : Flags). x.print) (sym same) ∙ or_false f.print;
             folded = rw is (ap (λ (x : Flags). x.folded) (sym same));
@@ -163,17 +163,17 @@ told_folded false f h at e = by_flag f.folded refl e
           };
         }
 
-told_letter : (empty : Bool) (f h : Flags) (at b : ℕ) → with_flag empty f at b ≡ Ok h → Lettered f h b
-told_letter empty f h at b e = by_tests (b == 103) (b == 112) (b == 73) refl refl refl e
+shown_letter : (empty : Bool) (f h : Flags) (at b : ℕ) → with_flag empty f at b ≡ Ok h → Lettered f h b
+shown_letter empty f h at b e = by_tests (b == 103) (b == 112) (b == 73) refl refl refl e
   where
     by_tests : (r s t : Bool) → (b == 103) ≡ r → (b == 112) ≡ s → (b == 73) ≡ t →
         (if r then (if f.global then fault RepeatedFlag at else Ok (record f { global = true }))
         else if s then (if f.print then fault RepeatedFlag at else Ok (record f { print = true }))
         else if t then (if empty then fault FlagOnEmpty at else if f.folded then fault RepeatedFlag at else Ok (record f { folded = true }))
         else fault UnknownFlag at) ≡ Ok h → Lettered f h b
-    by_tests true s t x y z e = rw (eqb-true b 103 x) (told_global f h at e)
-    by_tests false true t x y z e = rw (eqb-true b 112 y) (told_print f h at e)
-    by_tests false false true x y z e = rw (eqb-true b 73 z) (told_folded empty f h at e)
+    by_tests true s t x y z e = rw (eqb-true b 103 x) (shown_global f h at e)
+    by_tests false true t x y z e = rw (eqb-true b 112 y) (shown_print f h at e)
+    by_tests false false true x y z e = rw (eqb-true b 73 z) (shown_folded empty f h at e)
     by_tests false false false x y z e = no_ok (record { place = at; reason = UnknownFlag }) h (Lettered f h b) e
 
 -- ---- the digits of a number
@@ -294,7 +294,7 @@ pub record Read (text : List ℕ) (f g : Flags) (skip at to : ℕ) (bs : List �
   pub k : ℕ
   pub least : skip ≤ k
   pub before : Flags
-  pub told : Told f before (take k bs)
+  pub shown : ReadsFlags f before (take k bs)
   pub number : NumberAfter f.number skip before.number (take k bs)
   pub ending : Ending text before g (at + k) to (drop k bs)
 
@@ -303,7 +303,7 @@ read_none text f g at to bs e =
     let same = same_ok {A = Flags × ℕ} (f, at) (g, to) e in
     let flags : f ≡ g = ap (λ (p : Flags × ℕ). p.0) same in
     let place : at ≡ to = ap (λ (p : Flags × ℕ). p.1) same in
-    record { k = 0; least = omega arith; before = f; told = told_none f; number = number_none f.number; ending = inl (flags, omega (arith, place)) }
+    record { k = 0; least = omega arith; before = f; shown = shown_none f; number = number_none f.number; ending = inl (flags, omega (arith, place)) }
 
 read_file : (text : List ℕ) (f g : Flags) (at to b : ℕ) (bs : List ℕ) (o : Option (ℕ × ℕ)) → (b == 119) ≡ true → name_from text (at + 1) ≡ o → with_file f at o ≡ Ok (g, to) →
     Read text f g 0 at to (b ∷ bs)
@@ -315,7 +315,7 @@ read_file text f g at to b bs (Some name) is found e =
       k = 0;
       least = omega arith;
       before = f;
-      told = told_none f;
+      shown = shown_none f;
       number = number_none f.number;
       ending = inr (
         name,
@@ -334,7 +334,7 @@ read_skip text f g skip at to b bs low s r = record {
   k = suc r.k;
   least = (let e = r.least in omega (arith, e));
   before = r.before;
-  told = told_then f f r.before b (take r.k bs) (told_digit f f b low refl refl refl refl) r.told;
+  shown = shown_then f f r.before b (take r.k bs) (shown_digit f f b low refl refl refl refl) r.shown;
   number = number_skips f.number r.before.number skip b (take r.k bs) s r.number;
   ending = on text r.before g at to r.k (drop r.k bs) r.ending;
 }
@@ -344,7 +344,7 @@ read_letter text f h g at to b bs other l r = record {
   k = suc r.k;
   least = omega arith;
   before = r.before;
-  told = told_then f h r.before b (take r.k bs) l.told r.told;
+  shown = shown_then f h r.before b (take r.k bs) l.shown r.shown;
   number = number_letter f.number r.before.number b (take r.k bs) other (subst (λ (o : Option ℕ). NumberAfter o 0 r.before.number (take r.k bs)) l.number r.number);
   ending = on text r.before g at to r.k (drop r.k bs) r.ending;
 }
@@ -355,7 +355,7 @@ read_number text f h g at to b bs digit d r = record {
   k = suc r.k;
   least = omega arith;
   before = r.before;
-  told = told_then f h r.before b (take r.k bs) d.told r.told;
+  shown = shown_then f h r.before b (take r.k bs) d.shown r.shown;
   number =
       subst (λ (o : Option ℕ). NumberAfter o 0 r.before.number (b ∷ take r.k bs)) (sym d.none)
       (number_first d.n b r.before.number bs r.k digit d.read r.least
@@ -392,11 +392,11 @@ flags_read text empty f g zero at to (b ∷ bs) d s e =
     by_kind (is_digit b) (ends_flags b) (b == 119) (with_number f at (b ∷ take_while is_digit bs)) (with_flag empty f at b) (name_from text (at + 1))
     (λ h. flags_from text empty h (prefix_len is_digit bs) (suc at) bs) (λ h. flags_from text empty h zero (suc at) bs) text f g at to b bs e refl refl refl
     (λ digit h is x.
-    let d : Numbered f h b (b ∷ take_while is_digit bs) = told_number f h at b (b ∷ take_while is_digit bs) (digit_low b digit) is in
+    let d : Numbered f h b (b ∷ take_while is_digit bs) = shown_number f h at b (b ∷ take_while is_digit bs) (digit_low b digit) is in
     read_number text f h g at to b bs digit d
     (flags_read text empty h g (prefix_len is_digit bs) (suc at) to bs (run_digits bs) (subst (λ (o : Option ℕ). Skips o (run bs)) (sym d.is) tt) x))
     (λ other h is x.
-    read_letter text f h g at to b bs other (told_letter empty f h at b is) (flags_read text empty h g zero (suc at) to bs tt (skips_none h.number) x))
+    read_letter text f h g at to b bs other (shown_letter empty f h at b is) (flags_read text empty h g zero (suc at) to bs tt (skips_none h.number) x))
 
 -- what the flags say of bytes
 abbrev Says : Flags → List ℕ → Type 0
@@ -420,7 +420,7 @@ without : (script : List ℕ) (flags : Flags) (from to : ℕ) → Read script no
 without script flags from to r none = elim r.ending [
   | inl e ↦
       let k : r.k ≡ to - from = (let place = e.1 in omega (arith, place)) in
-      let t = r.told in
+      let t = r.shown in
       subst (λ (g : Flags). Without script g from to) e.0
       (subst (λ (n : ℕ). Says r.before (take n (drop from script)) × NumberAmong (take n (drop from script)) r.before.number → Without script r.before from to) (sym k)
       (λ (h : Says r.before (bytes_between script from to) × NumberAmong (bytes_between script from to) r.before.number). record { says = h.0; number = h.1 })
@@ -428,13 +428,13 @@ without script flags from to r none = elim r.ending [
   | inr e ↦ no_name e.0 (Without script flags from to) (ap (λ (x : Flags). x.file) e.1 ∙ none)
 ]
 
-pub flags_told : (script : List ℕ) (empty : Bool) (flags : Flags) (from to : ℕ) → flags_from script empty no_flags 0 from (drop from script) ≡ Ok (flags, to) → flags.file ≡ None →
+pub flags_shown : (script : List ℕ) (empty : Bool) (flags : Flags) (from to : ℕ) → flags_from script empty no_flags 0 from (drop from script) ≡ Ok (flags, to) → flags.file ≡ None →
     (flags.global ≡ is_among (bytes_between script from to) 103) × (flags.print ≡ is_among (bytes_between script from to) 112) × (flags.folded ≡ is_among (bytes_between script from to) 73)
-flags_told script empty flags from to e none = (without script flags from to (all_read script empty flags from to e) none).says
+flags_shown script empty flags from to e none = (without script flags from to (all_read script empty flags from to e) none).says
 
-pub number_told : (script : List ℕ) (empty : Bool) (flags : Flags) (from to : ℕ) → flags_from script empty no_flags 0 from (drop from script) ≡ Ok (flags, to) → flags.file ≡ None →
+pub number_shown : (script : List ℕ) (empty : Bool) (flags : Flags) (from to : ℕ) → flags_from script empty no_flags 0 from (drop from script) ≡ Ok (flags, to) → flags.file ≡ None →
     NumberAmong (bytes_between script from to) flags.number
-number_told script empty flags from to e none = (without script flags from to (all_read script empty flags from to e) none).number
+number_shown script empty flags from to e none = (without script flags from to (all_read script empty flags from to e) none).number
 
 -- ---- with a file
 
@@ -450,7 +450,7 @@ pub before_file : (script : List ℕ) (empty : Bool) (flags : Flags) (from to : 
     × NumberAmong (bytes_between script from w) flags.number
 before_file script empty flags from to name e some =
     let r = all_read script empty flags from to e in
-    let t = r.told in
+    let t = r.shown in
     elim r.ending [
       | inl h ↦ absurd (
           let file : flags.file ≡ None = ap (λ (x : Flags). x.file) (sym h.0) ∙ t.file in

@@ -28,7 +28,7 @@ deepest_stars : Counts Extended (codes "a" ++ times 600 (codes "*")) 601 0
 unfolding outcome rest_of token_at
 deepest_stars = counted refl
 
-stars_too_deep : ExprFaulty Extended None (codes "a" ++ times 2000 (codes "*")) 65536 2001 TooDeep
+stars_too_deep : ExprFaulty Extended None (codes "a" ++ times 620 (codes "*")) 65536 621 TooDeep
 unfolding outcome rest_of token_at
 stars_too_deep = faulty_with refl
 

@@ -14,11 +14,11 @@ use Rattle.sedscript.specs.Bytes.{past}
 use Rattle.sedscript.specs.Arguments.{name_from, text_from}
 use Rattle.sedscript.specs.Program.{Program}
 use Rattle.sedspace.specs.Lines.{is_newline, split_lines}
-use Rattle.sedengine.specs.Ends.{Whole, WithinLimits}
+use Rattle.sedengine.specs.Ends.{RanWhole, WithinLimits}
 use Rattle.sedengine.specs.Move.{line_to, next_move, start, to_sink}
 use Rattle.sedengine.specs.State.{setting_of, begin, do_at, flush, join, rebegin, Setting, State, Task}
 use Rattle.sedengine.specs.Select.{selects}
-use Rattle.sedengine.specs.declared.ends.Ended.TheVariants.{Done}
+use Rattle.sedengine.specs.Types.{Done}
 use Rattle.sedengine.proofs.Gains.{to_sink-append}
 use Rattle.examples.proofs.ComputedEnds.{all_fit, whole_after, whole_first, stops_whole, Stops, StopsBy}
 use Rattle.examples.proofs.ComputedRun.{course, plain, no_files}
@@ -140,12 +140,12 @@ fits small few = record { pattern = small; hold = omega arith; queue = omega ari
 
 -- a run comes to its end after some moves
 abbrev Comes : State → List (ℕ × ℕ) → Type 0
-Comes s out = (t : ℕ) × Whole own setting s out Done t
+Comes s out = (t : ℕ) × RanWhole own setting s out Done t
 
 first : {s next : State} {bytes out : List (ℕ × ℕ)} → Goes s next bytes → WithinLimits own s → Comes next out → Comes s (bytes ++ out)
 first go within rest = (suc rest.0, whole_first go within rest.1)
 
-ended : (number turns : ℕ) → turns ≤ 18446744073709551615 → Whole own setting (state [] number [] [] turns) [] Done 0
+ended : (number turns : ℕ) → turns ≤ 18446744073709551615 → RanWhole own setting (state [] number [] [] turns) [] Done 0
 unfolding course all_fit
 ended number turns few = whole_after 0 refl refl (rw (le-leb turns 18446744073709551615 few) refl)
 

@@ -7,12 +7,11 @@ use Rattle.sedre.specs.declared.types.Kind.TheVariants.{Basic}
 use Rattle.sedscript.specs.declared.types.Action.TheVariants.{Block}
 use Rattle.sedscript.specs.declared.types.Command.{Command}
 use Rattle.sedspace.specs.Lines.{split_lines}
-use Rattle.sedengine.specs.Ends.{Whole, WithinLimits}
+use Rattle.sedengine.specs.Ends.{RanWhole, WithinLimits}
 use Rattle.sedengine.specs.Move.{after, next_move, start, to_sink, written}
 use Rattle.sedengine.specs.State.{setting_of, do_at, State, Move, Setting}
 use Rattle.sedengine.specs.Select.{selects}
-use Rattle.sedengine.specs.declared.ends.Ended.{Ended}
-use Rattle.sedengine.specs.declared.ends.Ended.TheVariants.{Done, TurnsSpent}
+use Rattle.sedengine.specs.Types.{Ended, Done, TurnsSpent}
 use Rattle.examples.proofs.ComputedEnds.{all_fit, whole_after, whole_first, stops_whole, within_so, StopsBy}
 use Rattle.examples.proofs.ComputedRun.{course, plain, no_files}
 use Rattle.examples.proofs.ManyBlocks.{blocks, program, means}
@@ -62,7 +61,7 @@ enters n k taken ranges below = rw (command_there n k (always (Block n)) below) 
 
 -- a run comes to an end, after some moves
 abbrev Comes : (most n : ℕ) → State → Ended → List (ℕ × ℕ) → Type 0
-Comes most n s end out = (t : ℕ) × Whole (turns most) (setting n) s out end t
+Comes most n s end out = (t : ℕ) × RanWhole (turns most) (setting n) s out end t
 
 -- so many blocks are entered
 through : (most n j k taken to later : ℕ) (ranges : List Bool) (end : Ended) (out : List (ℕ × ℕ)) → k + j ≡ to → taken + j ≡ later → to ≤ n → later ≤ most →
@@ -76,7 +75,7 @@ through most n (suc j) k taken to later ranges end out e f within few on =
     (suc rest.0, whole_first (enters n k taken ranges (omega (arith, e, within))) (fits ranges k taken most (omega (arith, f, few))) rest.1)
 
 -- after the last of them the line is written
-finishes : (most n taken : ℕ) (ranges : List Bool) → taken ≤ most → Whole (turns most) (setting n) (before ranges n taken) (to_sink 0 input) Done 5
+finishes : (most n taken : ℕ) (ranges : List Bool) → taken ≤ most → RanWhole (turns most) (setting n) (before ranges n taken) (to_sink 0 input) Done 5
 unfolding course next_move selects all_fit
 finishes most n taken ranges few =
     let none : slice_get (replicate n (always (Block n))) n ≡ None = none_there n (always (Block n)) in
@@ -90,7 +89,7 @@ one_more : (n k taken : ℕ) (ranges : List Bool) → k < n → (m : Move) → n
 one_more n k taken ranges below m is = omega (arith, same_turns m _ (sym is ∙ enters n k taken ranges below))
 
 -- where no turn is left, it isn't
-spent : (n k taken : ℕ) (ranges : List Bool) → k < n → Whole (turns taken) (setting n) (before ranges k taken) [] TurnsSpent 0
+spent : (n k taken : ℕ) (ranges : List Bool) → k < n → RanWhole (turns taken) (setting n) (before ranges k taken) [] TurnsSpent 0
 unfolding after written all_fit
 spent n k taken ranges below =
     let so : leb taken taken ≡ true = le-leb taken taken (omega arith) in

@@ -61,8 +61,8 @@ lacks_less n b bs h later = by_place h.k refl h.backslash h.last
         by_last (inr e) = inr (omega (arith, e.0), e.1)
 
 -- it comes after a byte that is none, or an escaped one
-stands_later : (n b : ℕ) (bs : List ℕ) (h : Lacks n (b ∷ bs)) → (Free 92 n (b ∷ bs) 0 → ⊥) → h.k ≡ 0 → ⊥
-stands_later n b bs h other e = other (rw (← e) h.backslash)
+nested_later : (n b : ℕ) (bs : List ℕ) (h : Lacks n (b ∷ bs)) → (Free 92 n (b ∷ bs) 0 → ⊥) → h.k ≡ 0 → ⊥
+nested_later n b bs h other e = other (rw (← e) h.backslash)
 
 not_newline : (b : ℕ) → (b == 92) ≡ true → (b == 10) ≡ false
 not_newline b is = let same : b ≡ 92 = eqb-true b 92 is in rw same refl
@@ -109,7 +109,7 @@ says n at (b ∷ []) even = by_newline (b == 10) refl (b == 92) refl
         ((if s then Some at else text_end (if t then Escape else InLine) (suc at) []) ≡ None → Lacks n (b ∷ [])) × (Lacks n (b ∷ []) → (if s then Some at else text_end (if t then Escape else InLine) (suc at) []) ≡ None)
     by_newline true newline t is = ended n at b [] newline even
     by_newline false newline true is = (λ e. lacks_one n b is even, λ h. refl)
-    by_newline false newline false is = (λ e. absurd cc, λ h. (let less = lacks_less n b [] h (stands_later n b [] h (not_first 92 n b [] is)) in absurd (nowhere 92 (next n b) less.k less.backslash)))
+    by_newline false newline false is = (λ e. absurd cc, λ h. (let less = lacks_less n b [] h (nested_later n b [] h (not_first 92 n b [] is)) in absurd (nowhere 92 (next n b) less.k less.backslash)))
 says n at (b ∷ c ∷ cs) even =
     by_newline (b == 10) refl (b == 92) refl (λ even. says (next (next n b) c) (suc (suc at)) cs even) (λ even. says (next n b) (suc at) (c ∷ cs) even)
   where
@@ -144,7 +144,7 @@ says n at (b ∷ c ∷ cs) even =
         less : Lacks n (b ∷ c ∷ d ∷ ds) → Lacks (next (next n b) c) (d ∷ ds)
         less h =
             let one = lacks_less n b (c ∷ d ∷ ds) h (not_here h) in
-            lacks_less (next n b) c (d ∷ ds) one (stands_later (next n b) c (d ∷ ds) one (escaped_first 92 n b c (d ∷ ds) is even))
+            lacks_less (next n b) c (d ∷ ds) one (nested_later (next n b) c (d ∷ ds) one (escaped_first 92 n b c (d ∷ ds) is even))
 
     by_newline : (s : Bool) → (b == 10) ≡ s → (t : Bool) → (b == 92) ≡ t → (next (next n b) c % 2 ≡ 0 → Says (next (next n b) c) (suc (suc at)) cs) → (next n b % 2 ≡ 0 → Says (next n b) (suc at) (c ∷ cs)) →
         ((if s then Some at else text_end (if t then Escape else InLine) (suc at) (c ∷ cs)) ≡ None → Lacks n (b ∷ c ∷ cs)) × (Lacks n (b ∷ c ∷ cs) → (if s then Some at else text_end (if t then Escape else InLine) (suc at) (c ∷ cs)) ≡ None)
@@ -152,7 +152,7 @@ says n at (b ∷ c ∷ cs) even =
     by_newline false other true is two one = escaped (c == 10) cs refl is (two (even_again n b c is even))
     by_newline false other false is two one =
         let rest = one (even_plain n b is) in
-        (λ e. lacks_more n b (c ∷ cs) (not_first 10 n b (c ∷ cs) other) (rest.0 e), λ h. rest.1 (lacks_less n b (c ∷ cs) h (stands_later n b (c ∷ cs) h (not_first 92 n b (c ∷ cs) is))))
+        (λ e. lacks_more n b (c ∷ cs) (not_first 10 n b (c ∷ cs) other) (rest.0 e), λ h. rest.1 (lacks_less n b (c ∷ cs) h (nested_later n b (c ∷ cs) h (not_first 92 n b (c ∷ cs) is))))
 
 -- ---- of a script
 

@@ -7,7 +7,7 @@ use Rattle.sedre.specs.declared.types.Kind.{Kind}
 use Rattle.sedscript.specs.declared.types.FileUse.TheVariants.{Read, Write}
 use Rattle.sedscript.specs.Script.{distinct, Means}
 use Rattle.sedscript.specs.Program.{Program}
-use Rattle.examples.specs.Names.{names_of, StandsBefore, EachOnce}
+use Rattle.examples.specs.Names.{names_of, ComesBefore, EachOnce}
 
 abbrev Names : Type 0
 Names = List (List ℕ)
@@ -68,10 +68,10 @@ kept_back p (x ∷ xs) (suc k) a e is = by_test (p x) (kept_back p xs k a e is)
 another : (n b : List ℕ) → not (bytes_eq n b) ≡ true → n ≡ b → ⊥
 another n b e same = let is : bytes_eq n b ≡ true = (bytes_eq-Decides n b).1 same in absurd cc
 
-not_before_itself : (names : Names) (a : List ℕ) → StandsBefore names a a → ⊥
+not_before_itself : (names : Names) (a : List ℕ) → ComesBefore names a a → ⊥
 not_before_itself names a h = h.2 h.0 (omega arith) h.1
 
-apart : (names once : Names) → ((i j : ℕ) (a b : List ℕ) → i < j → At once i a → At once j b → StandsBefore names a b) → (i j : ℕ) (a : List ℕ) → At once i a → At once j a → i ≡ j
+apart : (names once : Names) → ((i j : ℕ) (a b : List ℕ) → i < j → At once i a → At once j b → ComesBefore names a b) → (i j : ℕ) (a : List ℕ) → At once i a → At once j a → i ≡ j
 apart names once order i j a e f = by_order (cases_order i j)
   where
     by_order : (i ≡ j) ⊎ ((i < j) ⊎ (j < i)) → i ≡ j
@@ -79,14 +79,14 @@ apart names once order i j a e f = by_order (cases_order i j)
     by_order (inr (inl low)) = absurd (not_before_itself names a (order i j a a low e f))
     by_order (inr (inr low)) = absurd (not_before_itself names a (order j i a a low f e))
 
-stands_later : (n : List ℕ) (ns : Names) (a b : List ℕ) → (n ≡ b → ⊥) → StandsBefore ns a b → StandsBefore (n ∷ ns) a b
-stands_later n ns a b other h = (suc h.0, h.1, before)
+nested_later : (n : List ℕ) (ns : Names) (a b : List ℕ) → (n ≡ b → ⊥) → ComesBefore ns a b → ComesBefore (n ∷ ns) a b
+nested_later n ns a b other h = (suc h.0, h.1, before)
   where
     before : (j : ℕ) → j ≤ suc h.0 → At (n ∷ ns) j b → ⊥
     before zero low e = other (same_name n b e)
     before (suc j) low e = h.2 j (omega (arith, low)) e
 
-in_order : (names : Names) (i j : ℕ) (a b : List ℕ) → i < j → At (distinct names) i a → At (distinct names) j b → StandsBefore names a b
+in_order : (names : Names) (i j : ℕ) (a b : List ℕ) → i < j → At (distinct names) i a → At (distinct names) j b → ComesBefore names a b
 in_order [] i j a b low e f = absurd (nowhere i a e)
 in_order (n ∷ ns) i zero a b low e f = absurd (omega (arith, low))
 in_order (n ∷ ns) zero (suc j) a b low e f =
@@ -98,7 +98,7 @@ in_order (n ∷ ns) zero (suc j) a b low e f =
     first (suc k) at g = absurd (omega (arith, at))
 in_order (n ∷ ns) (suc i) (suc j) a b low e f =
     let h = kept_two (λ m. not (bytes_eq n m)) (distinct ns) i j a b (omega (arith, low)) e f in
-    stands_later n ns a b (another n b h.6) (in_order ns h.0 h.1 a b h.2 h.3 h.4)
+    nested_later n ns a b (another n b h.6) (in_order ns h.0 h.1 a b h.2 h.3 h.4)
 
 of_them : (names : Names) (i : ℕ) (a : List ℕ) → At (distinct names) i a → (k : ℕ) × At names k a
 of_them [] i a e = absurd (nowhere i a e)

@@ -11,7 +11,7 @@ use Rattle.examples.proofs.ComputedReading.{outcome, rest_of, reads_as}
 use Rattle.examples.proofs.ExampleWords.{times}
 use Rattle.sedmatch.specs.Spans.{Matches, IsLeftmostLongest}
 use Rattle.sedmatch.specs.Caps.{Captures, IsReport}
-use Rattle.sedmatch.specs.Groups.{Groups, forget, no_groups}
+use Rattle.sedmatch.specs.Groups.{SpansOfGroups, forget, no_groups}
 use Rattle.examples.proofs.ComputedSearch.{Finds, spans_are}
 
 abbrev text : List ℕ
@@ -45,25 +45,25 @@ found_first n k = record {
 
 -- Each group has it; a group after the ninth isn't kept.
 
-abbrev none : ℕ → Groups
+abbrev none : ℕ → SpansOfGroups
 none m = replicate m None
 
 forgets_none : (m k : ℕ) → slice_set (none m) k None ≡ none m
 forgets_none zero k = refl
 forgets_none (suc m) zero = refl
-forgets_none (suc m) (suc k) = ap (λ (rest : Groups). None ∷ rest) (forgets_none m k)
+forgets_none (suc m) (suc k) = ap (λ (rest : SpansOfGroups). None ∷ rest) (forgets_none m k)
 
 keeps_none_past : (m k : ℕ) (span : Option (ℕ × ℕ)) → m ≤ k → slice_set (none m) k span ≡ none m
 keeps_none_past zero k span past = refl
 keeps_none_past (suc m) zero span past = absurd (omega arith)
-keeps_none_past (suc m) (suc k) span past = ap (λ (rest : Groups). None ∷ rest) (keeps_none_past m k span (omega arith))
+keeps_none_past (suc m) (suc k) span past = ap (λ (rest : SpansOfGroups). None ∷ rest) (keeps_none_past m k span (omega arith))
 
 forgets_all : (n k : ℕ) → forget (in_groups k n) no_groups ≡ no_groups
 forgets_all zero k = refl
-forgets_all (suc n) k = ap (λ (old : Groups). forget (in_groups (suc k) n) old) (forgets_none 10 k) ∙ forgets_all n (suc k)
+forgets_all (suc n) k = ap (λ (old : SpansOfGroups). forget (in_groups (suc k) n) old) (forgets_none 10 k) ∙ forgets_all n (suc k)
 
 -- the spans of so many groups from k on
-abbrev spans_from : (k n : ℕ) → Groups
+abbrev spans_from : (k n : ℕ) → SpansOfGroups
 spans_from k zero = no_groups
 spans_from k (suc n) = slice_set (spans_from (suc k) n) k (Some (0, 1))
 
@@ -71,7 +71,7 @@ each_group : (n k : ℕ) → Captures (in_groups k n) text 0 1 no_groups (spans_
 each_group zero k = refl
 each_group (suc n) k = (
   spans_from (suc k) n,
-  subst (λ (old : Groups). Captures (in_groups (suc k) n) text 0 1 old (spans_from (suc k) n)) (sym (forgets_all (suc n) k)) (each_group n (suc k)),
+  subst (λ (old : SpansOfGroups). Captures (in_groups (suc k) n) text 0 1 old (spans_from (suc k) n)) (sym (forgets_all (suc n) k)) (each_group n (suc k)),
   refl,
 )
 
@@ -87,7 +87,7 @@ first_nine n = rw (none_past_nine n 10 (omega arith)) refl
 reports_nine : (n : ℕ) → IsReport (in_groups 1 (suc (suc (suc (suc (suc (suc (suc (suc (suc n)))))))))) text 0 1 (spans_are (0, 1) (replicate 9 (Some (0, 1))))
 reports_nine n =
     let many = suc (suc (suc (suc (suc (suc (suc (suc (suc n)))))))) in
-    (spans_from 1 many, each_group many 1, ap (λ (groups : Groups). slice_set groups 0 (Some (0, 1))) (sym (first_nine n)))
+    (spans_from 1 many, each_group many 1, ap (λ (groups : SpansOfGroups). slice_set groups 0 (Some (0, 1))) (sym (first_nine n)))
 
 -- 600 of them, the greatest depth.
 

@@ -21,7 +21,7 @@ use Rattle.sedengine.specs.Move.{next_move, start, to_sink}
 use Rattle.sedengine.specs.State.{finds_in, occurrence_at_span, search_in, Setting}
 use Rattle.sedengine.specs.Select.{selects}
 use Rattle.sedengine.specs.Substitute.{Occurrence, occurrences_from}
-use Rattle.sedengine.specs.declared.ends.Ended.TheVariants.{Done}
+use Rattle.sedengine.specs.Types.{Done}
 use Rattle.examples.proofs.ComputedEnds.{all_fit, stops_after, Stops, StopsBy}
 use Rattle.examples.proofs.ComputedReading.{outcome, rest_of, written, tree_of_written}
 use Rattle.examples.proofs.ComputedRun.{course, plain, no_files}

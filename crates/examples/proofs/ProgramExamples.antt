@@ -15,20 +15,19 @@ use Rattle.sedengine.specs.Ends.{bytes_of_sink, GainedWithin, SourceAtEnd, IsCau
 use Rattle.sedengine.specs.Move.{after, next_move, to_sink}
 use Rattle.sedengine.specs.State.{setting_of}
 use Rattle.sedengine.specs.Select.{selects}
-use Rattle.sedengine.specs.declared.ends.Ended.{Ended}
-use Rattle.sedengine.specs.declared.ends.Ended.TheVariants.{Done, NoPrevious, InputBroken, OutputBroken, OutputFull}
+use Rattle.sedengine.specs.Types.{Ended, Done, NoPrevious, InputBroken, OutputBroken, OutputFull}
 use Rattle.examples.proofs.ComputedEnds.{all_fit, stops_after, stops_within, Stops}
 use Rattle.examples.proofs.ComputedRun.{course, ends_after, plain, quiet, no_files, Edits}
 use Rattle.sedfiles.specs.declared.asked.Part.{Part}
 use Rattle.sededit.specs.Editing.{nothing_before, start_over}
-use Rattle.sedfiles.specs.MemoryFiles.{File, file_of, files_of}
+use Rattle.sedfiles.specs.MemoryFiles.{NamedFile, file_of, files_of}
 use Rattle.sedfiles.specs.Files.{joined_files}
 use Rattle.sededit.specs.Program.{MakesText, Observed, StopsEarly, or_standard}
 use Rattle.examples.proofs.LimitWords.{own}
 use Rattle.examples.proofs.PartWords.{file, text}
 
 -- the files that there are: `a` with one line, `f` without a newline, and the script `s`
-abbrev pub there : List File
+abbrev pub there : List NamedFile
 there =
     record { name = codes "a"; bytes = codes "x\n" } ∷ record { name = codes "f"; bytes = codes "aa" }
     ∷ record { name = codes "s"; bytes = codes "#n\np" } ∷ []
@@ -205,7 +204,7 @@ stopped whole bytes rest reads failures output end s other room has =
         end,
         other,
         has,
-        λ given known files tells.
+        λ given known files shows.
             let same : bytes ≡ given = cc in
             let run = s.is.each files in (
               to_sink 0 output,

@@ -130,9 +130,9 @@ module _ (kind : Kind) (max_nodes : ℕ) (text : List ℕ) where
   By place StrayClose = ⊥
   By place differs = Unit {0}
 
-  abbrev Told : Option ScriptFault → Type 0
-  Told None = Unit {0}
-  Told (Some f) = By f.place f.reason
+  abbrev ReadsFlags : Option ScriptFault → Type 0
+  ReadsFlags None = Unit {0}
+  ReadsFlags (Some f) = By f.place f.reason
 
   -- what is so of what is read, or else of the fault
   abbrev Walk : {A : Type 0} → (A → Type 0) → Result A ScriptFault → Type 0
@@ -150,9 +150,9 @@ module _ (kind : Kind) (max_nodes : ℕ) (text : List ℕ) where
   walk_then P Q (Ok x) k h on = on x h
   walk_then P Q (Err f) k h on = h
 
-  walk_unless : {A : Type 0} (P : A → Type 0) (o : Option ScriptFault) (r : Result A ScriptFault) → Told o → (o ≡ None → Walk P r) → Walk P (unless_fault o r)
-  walk_unless P None r told h = h refl
-  walk_unless P (Some f) r told h = told
+  walk_unless : {A : Type 0} (P : A → Type 0) (o : Option ScriptFault) (r : Result A ScriptFault) → ReadsFlags o → (o ≡ None → Walk P r) → Walk P (unless_fault o r)
+  walk_unless P None r shown h = h refl
+  walk_unless P (Some f) r shown h = shown
 
   walk_read : {A : Type 0} (r : Result A ScriptFault) → Walk Any r → Walk (λ (x : A). r ≡ Ok x) r
   walk_read (Ok x) h = refl
@@ -180,9 +180,9 @@ module _ (kind : Kind) (max_nodes : ℕ) (text : List ℕ) where
   fails_so P _ _ (no_expression bad) h = tt
   fails_so P _ f (later {k = k} e is g) h = fails_so P (k e.groups) f g (h e is)
 
-  told_or : (x y : Option ScriptFault) → Told x → Told y → Told (option_or x y)
-  told_or None y h g = g
-  told_or (Some f) y h g = h
+  shown_or : (x y : Option ScriptFault) → ReadsFlags x → ReadsFlags y → ReadsFlags (option_or x y)
+  shown_or None y h g = g
+  shown_or (Some f) y h g = h
 
   -- ---- addresses
 
@@ -297,32 +297,32 @@ module _ (kind : Kind) (max_nodes : ℕ) (text : List ℕ) where
   transliterate_strings_walk place (Some d) = strings_walk false d place (string_end false d false (place + 1) (drop (place + 1) text))
 
   -- a wrong escape is reported as such
-  escape_told : (wrong : ℕ → Option Reason) (from to : ℕ) (o : Option ScriptFault) → ((b : ℕ) (r : Reason) → wrong b ≡ Some r → OfEscape r) →
-      ((f : ScriptFault) → IsFirstWrong wrong text from to f → IsWrongEscape kind max_nodes text f) → FirstWrong wrong text from to o → Told o
-  escape_told wrong from to None of_escape stands h = tt
-  escape_told wrong from to (Some f) of_escape stands h = by_reason f.place f.reason (of_escape h.byte f.reason h.reason) (stands f h)
+  escape_shown : (wrong : ℕ → Option Reason) (from to : ℕ) (o : Option ScriptFault) → ((b : ℕ) (r : Reason) → wrong b ≡ Some r → OfEscape r) →
+      ((f : ScriptFault) → IsFirstWrong wrong text from to f → IsWrongEscape kind max_nodes text f) → FirstWrong wrong text from to o → ReadsFlags o
+  escape_shown wrong from to None of_escape stands h = tt
+  escape_shown wrong from to (Some f) of_escape stands h = by_reason f.place f.reason (of_escape h.byte f.reason h.reason) (stands f h)
     where
       by_reason : (place : ℕ) (r : Reason) → OfEscape r → IsWrongEscape kind max_nodes text (record { place = place; reason = r }) → By place r
       by_reason place BadEscape is w = w
       by_reason place GroupAbsent is w = w
       by_reason place differs is w = absurd is
 
-  repeated_told : (at : ℕ) (s : Strings) (o : Option ℕ) → IsTransliterate text at s → repeated_in [] (chars_of text s.delimiter s.from s.middle) ≡ o → Told (repeated_fault o)
-  repeated_told at s None there e = tt
-  repeated_told at s (Some place) there e = (at, s, there, first_repeated (chars_of text s.delimiter s.from s.middle) place e)
+  repeated_shown : (at : ℕ) (s : Strings) (o : Option ℕ) → IsTransliterate text at s → repeated_in [] (chars_of text s.delimiter s.from s.middle) ≡ o → ReadsFlags (repeated_fault o)
+  repeated_shown at s None there e = tt
+  repeated_shown at s (Some place) there e = (at, s, there, first_repeated (chars_of text s.delimiter s.from s.middle) place e)
 
-  lengths_told : (t : Bool) (at : ℕ) → Told (fault_if t LengthsDiffer at)
-  lengths_told true at = tt
-  lengths_told false at = tt
+  lengths_shown : (t : Bool) (at : ℕ) → ReadsFlags (fault_if t LengthsDiffer at)
+  lengths_shown true at = tt
+  lengths_shown false at = tt
 
-  strings_told : (at : ℕ) (s : Strings) → IsTransliterate text at s → Told (strings_fault text s.delimiter at s.from s.middle s.to)
-  strings_told at s there =
-      told_or (string_fault s.delimiter false s.from (bytes_between text s.from s.middle)) _
-      (escape_told (wrong_in_string s.delimiter) s.from s.middle _ (string_reason s.delimiter) (λ f h. in_first at s there h) (string_fault_first text s.delimiter s.from s.middle))
-      (told_or (string_fault s.delimiter false (s.middle + 1) (bytes_between text (s.middle + 1) s.to)) _
-      (escape_told (wrong_in_string s.delimiter) (s.middle + 1) s.to _ (string_reason s.delimiter) (λ f h. in_second at s there h) (string_fault_first text s.delimiter (s.middle + 1) s.to))
-      (told_or (repeated_fault (repeated_in [] (chars_of text s.delimiter s.from s.middle))) _ (repeated_told at s (repeated_in [] (chars_of text s.delimiter s.from s.middle)) there refl)
-      (lengths_told (not (length (chars_of text s.delimiter s.from s.middle) == length (chars_of text s.delimiter (s.middle + 1) s.to))) at)))
+  strings_shown : (at : ℕ) (s : Strings) → IsTransliterate text at s → ReadsFlags (strings_fault text s.delimiter at s.from s.middle s.to)
+  strings_shown at s there =
+      shown_or (string_fault s.delimiter false s.from (bytes_between text s.from s.middle)) _
+      (escape_shown (wrong_in_string s.delimiter) s.from s.middle _ (string_reason s.delimiter) (λ f h. in_first at s there h) (string_fault_first text s.delimiter s.from s.middle))
+      (shown_or (string_fault s.delimiter false (s.middle + 1) (bytes_between text (s.middle + 1) s.to)) _
+      (escape_shown (wrong_in_string s.delimiter) (s.middle + 1) s.to _ (string_reason s.delimiter) (λ f h. in_second at s there h) (string_fault_first text s.delimiter (s.middle + 1) s.to))
+      (shown_or (repeated_fault (repeated_in [] (chars_of text s.delimiter s.from s.middle))) _ (repeated_shown at s (repeated_in [] (chars_of text s.delimiter s.from s.middle)) there refl)
+      (lengths_shown (not (length (chars_of text s.delimiter s.from s.middle) == length (chars_of text s.delimiter (s.middle + 1) s.to))) at)))
 
   transliterate_walk : (at : ℕ) → slice_get text at ≡ Some 121 → Walk SoundFound (transliterate_at text at)
   unfolding transliterate_at
@@ -330,7 +330,7 @@ module _ (kind : Kind) (max_nodes : ℕ) (text : List ℕ) where
       walk_then (λ (s : Strings). transliterate_strings text (at + 1) (own_delimiter (slice_get text (at + 1))) ≡ Ok s) SoundFound (transliterate_strings text (at + 1) (own_delimiter (slice_get text (at + 1))))
       (λ (s : Strings). unless_fault (strings_fault text s.delimiter at s.from s.middle s.to) (to_command_end text (Pair s) (s.to + 1)))
       (walk_read (transliterate_strings text (at + 1) (own_delimiter (slice_get text (at + 1)))) (transliterate_strings_walk (at + 1) (own_delimiter (slice_get text (at + 1)))))
-      (λ s is. walk_unless SoundFound (strings_fault text s.delimiter at s.from s.middle s.to) (to_command_end text (Pair s) (s.to + 1)) (strings_told at s (letter, is))
+      (λ s is. walk_unless SoundFound (strings_fault text s.delimiter at s.from s.middle s.to) (to_command_end text (Pair s) (s.to + 1)) (strings_shown at s (letter, is))
       (λ none. ended_walk (Pair s) (s.to + 1) (pairs text at s none, none_wrong text at s none)))
 
   letter_of_text : (u : TextUse) (letter : ℕ) → verb_of letter ≡ Some (Text u) → letter ≡ letter_of u
@@ -363,7 +363,7 @@ module _ (kind : Kind) (max_nodes : ℕ) (text : List ℕ) where
   unfolding substituted
   substituted_walk at s e groups there has =
       walk_unless SoundFound (replacement_fault s.delimiter groups false (s.middle + 1) (bytes_between text (s.middle + 1) s.to)) _
-      (escape_told (wrong_in_replacement s.delimiter groups) (s.middle + 1) s.to _ (replacement_reason s.delimiter groups) (λ f h. in_replacement at s groups there has h)
+      (escape_shown (wrong_in_replacement s.delimiter groups) (s.middle + 1) s.to _ (replacement_reason s.delimiter groups) (λ f h. in_replacement at s groups there has h)
       (replacement_fault_first text s.delimiter groups (s.middle + 1) s.to))
       (λ none. walk_then Any SoundFound (flags_after text s (not (is_some e))) (λ (found : Flags × ℕ). to_command_end text (FlaggedPair s e found.0) found.1)
       (flags_walk (not (is_some e)) no_flags 0 (s.to + 1) (drop (s.to + 1) text))
@@ -437,12 +437,12 @@ module _ (kind : Kind) (max_nodes : ℕ) (text : List ℕ) where
 
   -- ---- faults
 
-  told_early : (items : List Item) (es : List WrittenExpression) (to : ℕ) (f : ScriptFault) → Fails text kind max_nodes (item_at text (length es) to) f → By f.place f.reason
-  told_early items es to f bad = fails_so SoundHere (item_at text (length es) to) f bad (item_walk (length es) to)
+  shown_early : (items : List Item) (es : List WrittenExpression) (to : ℕ) (f : ScriptFault) → Fails text kind max_nodes (item_at text (length es) to) f → By f.place f.reason
+  shown_early items es to f bad = fails_so SoundHere (item_at text (length es) to) f bad (item_walk (length es) to)
 
-  told_of : (f : ScriptFault) (r : Reason) → Faulty text kind max_nodes f → f.reason ≡ r → (OfTargets r → ⊥) → By f.place r
-  told_of f r (early items es to cut bad) is never = subst (By f.place) is (told_early items es to f bad)
-  told_of f r (afterwards items es to cut ends found) is never = absurd (never (subst OfTargets is (targets_reason text items f found)))
+  known_groups : (f : ScriptFault) (r : Reason) → Faulty text kind max_nodes f → f.reason ≡ r → (OfTargets r → ⊥) → By f.place r
+  known_groups f r (early items es to cut bad) is never = subst (By f.place) is (shown_early items es to f bad)
+  known_groups f r (afterwards items es to cut ends found) is never = absurd (never (subst OfTargets is (targets_reason text items f found)))
 
   pub strings_accepted : (script : Program) (means : Means text kind max_nodes script) (k : ℕ) (i : Item) (s : Strings) → slice_get means.items k ≡ Some i → i.argument ≡ Pair s → Pairs text s
   strings_accepted script means k i s at is = (sound_at script means k i (Pair s) at is).0
@@ -454,21 +454,21 @@ module _ (kind : Kind) (max_nodes : ℕ) (text : List ℕ) where
   escapes_accepted script means k i at = (λ s is. (sound_at script means k i (Pair s) at is).1, λ s e f is. sound_at script means k i (FlaggedPair s e f) at is)
 
   pub repeated_byte : (f : ScriptFault) → Faulty text kind max_nodes f → f.reason ≡ RepeatedByte → By f.place RepeatedByte
-  repeated_byte f bad is = told_of f RepeatedByte bad is (λ no. no)
+  repeated_byte f bad is = known_groups f RepeatedByte bad is (λ no. no)
 
   pub text_fault : (f : ScriptFault) → Faulty text kind max_nodes f → f.reason ≡ MissingText → By f.place MissingText
-  text_fault f bad is = told_of f MissingText bad is (λ no. no)
+  text_fault f bad is = known_groups f MissingText bad is (λ no. no)
 
   pub escape_fault : (f : ScriptFault) → Faulty text kind max_nodes f → (f.reason ≡ BadEscape) ⊎ (f.reason ≡ GroupAbsent) → IsWrongEscape kind max_nodes text f
-  escape_fault f bad (inl is) = subst (λ (r : Reason). IsWrongEscape kind max_nodes text (record { place = f.place; reason = r })) (sym is) (told_of f BadEscape bad is (λ no. no))
-  escape_fault f bad (inr is) = subst (λ (r : Reason). IsWrongEscape kind max_nodes text (record { place = f.place; reason = r })) (sym is) (told_of f GroupAbsent bad is (λ no. no))
+  escape_fault f bad (inl is) = subst (λ (r : Reason). IsWrongEscape kind max_nodes text (record { place = f.place; reason = r })) (sym is) (known_groups f BadEscape bad is (λ no. no))
+  escape_fault f bad (inr is) = subst (λ (r : Reason). IsWrongEscape kind max_nodes text (record { place = f.place; reason = r })) (sym is) (known_groups f GroupAbsent bad is (λ no. no))
 
   -- the braces of a script that is cut to its end
   abbrev Cut : (List Item → ℕ → Type 0) → ℕ → Type 0
   Cut P place = (items : List Item) × (es : List WrittenExpression) × (to : ℕ) × CutScript text kind max_nodes 0 0 items es to × IsEnd text to × P items place
 
   pub brace_faults : (f : ScriptFault) → Faulty text kind max_nodes f → (f.reason ≡ StrayClose → Cut IsStray f.place) × (f.reason ≡ OpenBlock → Cut IsUnclosed f.place)
-  brace_faults f (early items es to cut bad) = (λ is. absurd (subst (By f.place) is (told_early items es to f bad)), λ is. absurd (subst (By f.place) is (told_early items es to f bad)))
+  brace_faults f (early items es to cut bad) = (λ is. absurd (subst (By f.place) is (shown_early items es to f bad)), λ is. absurd (subst (By f.place) is (shown_early items es to f bad)))
   brace_faults f (afterwards items es to cut ends found) =
       let faults = braces_at_fault text items f found in
       (λ is. (items, es, to, cut, ends, faults.0 is), λ is. (items, es, to, cut, ends, faults.1 is))

@@ -49,7 +49,7 @@ record Repeats (before : List ℕ) (cs : List Char) (place : ℕ) : Type 0 where
   pub second : Char
   pub after : List Char
   pub are : cs ≡ front ++ second ∷ after
-  pub stood : (is_among before second.byte ≡ true) ⊎ ((k : ℕ) × (slice_get (bytes_of front) k ≡ Some second.byte))
+  pub occurred : (is_among before second.byte ≡ true) ⊎ ((k : ℕ) × (slice_get (bytes_of front) k ≡ Some second.byte))
   pub once : NoneTwice (bytes_of front)
   pub fresh : Fresh before (bytes_of front)
   pub there : place ≡ second.place
@@ -60,7 +60,7 @@ repeats_here before c cs place is e = record {
   second = c;
   after = cs;
   are = refl;
-  stood = inl is;
+  occurred = inl is;
   once = λ i j b p q. (let no : ◌≡◌ {A = Option ℕ} None (Some b) = p in absurd cc);
   fresh = λ k b p. (let no : ◌≡◌ {A = Option ℕ} None (Some b) = p in absurd cc);
   there = e;
@@ -72,22 +72,22 @@ repeats_later before c cs place is r = record {
   second = r.second;
   after = r.after;
   are = ap (λ (xs : List Char). c ∷ xs) r.are;
-  stood = by_stood r.stood;
+  occurred = by_occurred r.occurred;
   once = once_cons before (bytes_of r.front) c.byte r.fresh r.once;
   fresh = fresh_cons before (bytes_of r.front) c.byte is r.fresh;
   there = r.there;
 }
   where
-    Stood : Type 0
-    Stood = (is_among before r.second.byte ≡ true) ⊎ ((k : ℕ) × (slice_get (bytes_of (c ∷ r.front)) k ≡ Some r.second.byte))
+    Occurred : Type 0
+    Occurred = (is_among before r.second.byte ≡ true) ⊎ ((k : ℕ) × (slice_get (bytes_of (c ∷ r.front)) k ≡ Some r.second.byte))
 
-    by_test : (t : Bool) → (c.byte == r.second.byte) ≡ t → (t || is_among before r.second.byte) ≡ true → Stood
+    by_test : (t : Bool) → (c.byte == r.second.byte) ≡ t → (t || is_among before r.second.byte) ≡ true → Occurred
     by_test true same e = inr (zero, ap (λ (x : ℕ). Some x) (eqb-true c.byte r.second.byte same))
     by_test false same e = inl e
 
-    by_stood : (is_among (c.byte ∷ before) r.second.byte ≡ true) ⊎ ((k : ℕ) × (slice_get (bytes_of r.front) k ≡ Some r.second.byte)) → Stood
-    by_stood (inl e) = by_test (c.byte == r.second.byte) refl e
-    by_stood (inr p) = inr (suc p.0, p.1)
+    by_occurred : (is_among (c.byte ∷ before) r.second.byte ≡ true) ⊎ ((k : ℕ) × (slice_get (bytes_of r.front) k ≡ Some r.second.byte)) → Occurred
+    by_occurred (inl e) = by_test (c.byte == r.second.byte) refl e
+    by_occurred (inr p) = inr (suc p.0, p.1)
 
 repeated : (before : List ℕ) (cs : List Char) (place : ℕ) → repeated_in before cs ≡ Some place → Repeats before cs place
 repeated before [] place e = absurd cc
@@ -99,7 +99,7 @@ repeated before (c ∷ cs) place e = by_test (is_among before c.byte) refl e (re
     by_test false is e rest = repeats_later before c cs place is (rest e)
 
 repeats_first : (cs : List Char) (place : ℕ) → Repeats [] cs place → RepeatsFirst cs place
-repeats_first cs place r = let s = stood r.stood in record {
+repeats_first cs place r = let s = occurred r.occurred in record {
   before = r.front;
   second = r.second;
   after = r.after;
@@ -110,9 +110,9 @@ repeats_first cs place r = let s = stood r.stood in record {
   there = r.there;
 }
   where
-    stood : (is_among [] r.second.byte ≡ true) ⊎ ((k : ℕ) × (slice_get (bytes_of r.front) k ≡ Some r.second.byte)) → (k : ℕ) × (slice_get (bytes_of r.front) k ≡ Some r.second.byte)
-    stood (inl e) = let no : false ≡ true = e in absurd cc
-    stood (inr p) = p
+    occurred : (is_among [] r.second.byte ≡ true) ⊎ ((k : ℕ) × (slice_get (bytes_of r.front) k ≡ Some r.second.byte)) → (k : ℕ) × (slice_get (bytes_of r.front) k ≡ Some r.second.byte)
+    occurred (inl e) = let no : false ≡ true = e in absurd cc
+    occurred (inr p) = p
 
 pub first_repeated : (cs : List Char) (place : ℕ) → repeated_in [] cs ≡ Some place → RepeatsFirst cs place
 first_repeated cs place e = repeats_first cs place (repeated [] cs place e)

@@ -21,8 +21,8 @@ use Rattle.sedscript.proofs.Exclusive.{ReadsAsOne, means_no_fault}
 use Rattle.sedscript.proofs.OneFault.{OneExprFault, one_fault}
 use Rattle.examples.proofs.ScriptWords.{fault_at, expression_fault_at}
 
-told_at_0 : NO_MEMORY ≡ fault_at 0 NoMemory
-told_at_0 = refl
+shown_at_0 : NO_MEMORY ≡ fault_at 0 NoMemory
+shown_at_0 = refl
 
 number_22 : number_of NO_MEMORY.reason ≡ 22
 number_22 = refl

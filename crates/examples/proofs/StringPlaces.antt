@@ -19,12 +19,12 @@ module _ (d : ℕ) where
   Each n at bs cs = (j : ℕ) (c : Char) → slice_get cs j ≡ Some c → Placed n at bs c
 
   one_further : (n at b : ℕ) (bs : List ℕ) (c : Char) → Placed (next n b) (suc at) bs c → Placed n at (b ∷ bs) c
-  one_further n at b bs c p = record { k = suc p.k; place = omega (arith, p.place); stands = by_stands p.stands }
+  one_further n at b bs c p = record { k = suc p.k; place = omega (arith, p.place); stands = by_place p.stands }
     where
-      by_stands : (slice_get bs p.k ≡ Some c.byte) ⊎ ((x : ℕ) × Escape (next n b) bs p.k x × (escaped_byte d x ≡ Some c.byte)) →
+      by_place : (slice_get bs p.k ≡ Some c.byte) ⊎ ((x : ℕ) × Escape (next n b) bs p.k x × (escaped_byte d x ≡ Some c.byte)) →
           (slice_get (b ∷ bs) (suc p.k) ≡ Some c.byte) ⊎ ((x : ℕ) × Escape n (b ∷ bs) (suc p.k) x × (escaped_byte d x ≡ Some c.byte))
-      by_stands (inl e) = inl e
-      by_stands (inr e) = inr (e.0, onto_one n b p.k e.0 bs e.1, e.2)
+      by_place (inl e) = inl e
+      by_place (inr e) = inr (e.0, onto_one n b p.k e.0 bs e.1, e.2)
 
   -- one more byte, if it is one
   with_one : (n at : ℕ) (bs : List ℕ) (o : Option Char) (cs : List Char) → ((c : Char) → o ≡ Some c → Placed n at bs c) → Each n at bs cs → Each n at bs (cons_option o cs)
@@ -71,15 +71,15 @@ module _ (d : ℕ) where
 
 pub string_places : (text : List ℕ) (delimiter from to k : ℕ) (c : Char) → slice_get (chars_of text delimiter from to) k ≡ Some c →
     (slice_get text c.place ≡ Some c.byte) ⊎ ((b : ℕ) × IsEscape text from to c.place b × (escaped_byte delimiter b ≡ Some c.byte))
-string_places text delimiter from to k c e = by_stands p.stands
+string_places text delimiter from to k c e = by_place p.stands
   where
     p : Placed delimiter 0 from (bytes_between text from to) c
     p = placed delimiter 0 from (bytes_between text from to) refl k c e
 
-    by_stands : (slice_get (bytes_between text from to) p.k ≡ Some c.byte) ⊎ ((b : ℕ) × Escape 0 (bytes_between text from to) p.k b × (escaped_byte delimiter b ≡ Some c.byte)) →
+    by_place : (slice_get (bytes_between text from to) p.k ≡ Some c.byte) ⊎ ((b : ℕ) × Escape 0 (bytes_between text from to) p.k b × (escaped_byte delimiter b ≡ Some c.byte)) →
         (slice_get text c.place ≡ Some c.byte) ⊎ ((b : ℕ) × IsEscape text from to c.place b × (escaped_byte delimiter b ≡ Some c.byte))
-    by_stands (inl f) =
+    by_place (inl f) =
         inl
         (ap (slice_get text) p.place
         ∙ (sym (get_drop text from p.k) ∙ (sym (get_take (to - from) p.k (drop from text) (within text from to p.k c.byte f)) ∙ f)))
-    by_stands (inr f) = inr (f.0, subst (λ (at : ℕ). IsEscape text from to at f.0) (sym p.place) (escape_out text from to p.k f.0 f.1), f.2)
+    by_place (inr f) = inr (f.0, subst (λ (at : ℕ). IsEscape text from to at f.0) (sym p.place) (escape_out text from to p.k f.0 f.1), f.2)

@@ -10,8 +10,8 @@ abbrev pub names_of : FileUse → List ℕ → List Item → List (List ℕ)
 names_of u text items = filter_map (λ i. file_in u (name_in u text i.verb i.argument)) items
 
 -- a name occurs among these before another one does
-abbrev pub StandsBefore : List (List ℕ) → List ℕ → List ℕ → Type 0
-StandsBefore names a b = (k : ℕ) × (slice_get names k ≡ Some a) × ((j : ℕ) → j ≤ k → slice_get names j ≡ Some b → ⊥)
+abbrev pub ComesBefore : List (List ℕ) → List ℕ → List ℕ → Type 0
+ComesBefore names a b = (k : ℕ) × (slice_get names k ≡ Some a) × ((j : ℕ) → j ≤ k → slice_get names j ≡ Some b → ⊥)
 
 -- these are the names, each once, in the order in which they first occur
 pub record EachOnce (names once : List (List ℕ)) : Type 0 where
@@ -19,4 +19,4 @@ pub record EachOnce (names once : List (List ℕ)) : Type 0 where
   pub all : (k : ℕ) (a : List ℕ) → slice_get names k ≡ Some a → (i : ℕ) × (slice_get once i ≡ Some a)
   pub none_twice : (i j : ℕ) (a : List ℕ) → slice_get once i ≡ Some a → slice_get once j ≡ Some a → i ≡ j
   pub in_order : (i j : ℕ) (a b : List ℕ) → i < j → slice_get once i ≡ Some a → slice_get once j ≡ Some b →
-      StandsBefore names a b
+      ComesBefore names a b

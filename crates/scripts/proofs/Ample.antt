@@ -3,8 +3,7 @@ use Rattle.std.proofs.Common.{◌≡◌, ◌⊎◌, inl, inr, ℕ, zero, suc, �
 use Rattle.sedengine.specs.State.{Limits, State, Move, Setting}
 use Rattle.sedengine.specs.Move.{after, next_move, written}
 use Rattle.sedengine.specs.Ends.{WithinLimits, IsCause}
-use Rattle.sedengine.specs.declared.ends.Ended.{Ended}
-use Rattle.sedengine.specs.declared.ends.Ended.TheVariants.{Done, PatternFull, HoldFull, QueueFull, TurnsSpent, NoPrevious, InputBroken, OutputBroken, OutputFull}
+use Rattle.sedengine.specs.Types.{Ended, Done, PatternFull, HoldFull, QueueFull, TurnsSpent, NoPrevious, InputBroken, OutputBroken, OutputFull}
 use Rattle.sedengine.proofs.Moves.{after-add, written-add, move_at}
 use Rattle.examples.proofs.ComputedRun.{stays, stays_still}
 use Rattle.scripts.specs.Ampleness.{NoDevice}

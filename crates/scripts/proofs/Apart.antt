@@ -103,32 +103,32 @@ module _ (more ls : List (List ℕ)) (n n' : ℕ) (h h' : List ℕ) (q : List En
   cuts_first true p r u u' = (refl, record { lines = refl; queue = refl; tasks = refl; clean = (refl, refl); same = (refl, refl) })
   cuts_first false p r u u' = (refl, record { lines = refl; queue = refl; tasks = refl; clean = (refl, refl); same = (refl, refl) })
 
-  acts_both : (g : Setting) (tells : Bool) (p : List ℕ) (r : Bool) (u u' : Option ℕ) (a : Action) → stays_in_line g.substitutions a ≡ true → Both more (acts g (here p r u) tells a) (acts g (there p r u') tells a)
-  acts_both g tells p r u u' (action.Block next) h = goes_same [] p r u u'
-  acts_both g tells p r u u' (action.Text Append i) h = (refl, record { lines = refl; queue = refl; tasks = refl; clean = refl; same = (refl, refl) })
-  acts_both g tells p r u u' (action.Branch Always to) h = (refl, record { lines = refl; queue = refl; tasks = refl; clean = refl; same = (refl, refl) })
-  acts_both g tells p r u u' (action.Text Change i) h = (refl, record { lines = refl; queue = refl; tasks = refl; clean = (refl, refl); same = (refl, refl) })
-  acts_both g tells p r u u' (action.Plain simple.Delete) h = (refl, record { lines = refl; queue = refl; tasks = refl; clean = (refl, refl); same = (refl, refl) })
-  acts_both g tells p r u u' (action.Plain simple.DeleteFirst) h = cuts_first (list_any is_newline p) p r u u'
-  acts_both g tells p r u u' (action.Text Insert i) h = goes_same (writes_of (acts g (here p r u) tells (action.Text Insert i))) p r u u'
-  acts_both g tells p r u u' (action.Plain simple.List) h = goes_same (writes_of (acts g (here p r u) tells (action.Plain simple.List))) p r u u'
-  acts_both g tells p r u u' (action.Plain simple.Print) h = goes_same (writes_of (acts g (here p r u) tells (action.Plain simple.Print))) p r u u'
-  acts_both g tells p r u u' (action.Plain simple.PrintFirst) h = goes_same (writes_of (acts g (here p r u) tells (action.Plain simple.PrintFirst))) p r u u'
-  acts_both g tells p r u u' (action.File Read i) h = (refl, record { lines = refl; queue = refl; tasks = refl; clean = refl; same = (refl, refl) })
-  acts_both g tells p r u u' (action.Substitute i) h = substitutes_both g (slice_get g.substitutions i) p r u u' h
-  acts_both g tells p true u u' (action.Branch IfReplaced to) h = (refl, record { lines = refl; queue = refl; tasks = refl; clean = refl; same = (refl, refl) })
-  acts_both g tells p false u u' (action.Branch IfReplaced to) h = goes_same [] p false u u'
-  acts_both g tells p r u u' (action.File Write i) h = goes_same (writes_of (acts g (here p r u) tells (action.File Write i))) p r u u'
-  acts_both g tells p r u u' (action.Transliterate i) h = (refl, record { lines = refl; queue = refl; tasks = refl; clean = refl; same = (refl, refl) })
-  acts_both g tells p r u u' (action.Plain simple.NextLine) h = absurd cc
-  acts_both g tells p r u u' (action.Plain simple.AppendNext) h = absurd cc
-  acts_both g tells p r u u' (action.Plain simple.Quit) h = absurd cc
-  acts_both g tells p r u u' (action.Plain simple.LineNumber) h = absurd cc
-  acts_both g tells p r u u' (action.Plain simple.AppendHold) h = absurd cc
-  acts_both g tells p r u u' (action.Plain simple.CopyHold) h = absurd cc
-  acts_both g tells p r u u' (action.Plain simple.Exchange) h = absurd cc
-  acts_both g tells p r u u' (action.Plain simple.Hold) h = absurd cc
-  acts_both g tells p r u u' (action.Plain simple.HoldMore) h = absurd cc
+  acts_both : (g : Setting) (shows : Bool) (p : List ℕ) (r : Bool) (u u' : Option ℕ) (a : Action) → stays_in_line g.substitutions a ≡ true → Both more (acts g (here p r u) shows a) (acts g (there p r u') shows a)
+  acts_both g shows p r u u' (action.Block next) h = goes_same [] p r u u'
+  acts_both g shows p r u u' (action.Text Append i) h = (refl, record { lines = refl; queue = refl; tasks = refl; clean = refl; same = (refl, refl) })
+  acts_both g shows p r u u' (action.Branch Always to) h = (refl, record { lines = refl; queue = refl; tasks = refl; clean = refl; same = (refl, refl) })
+  acts_both g shows p r u u' (action.Text Change i) h = (refl, record { lines = refl; queue = refl; tasks = refl; clean = (refl, refl); same = (refl, refl) })
+  acts_both g shows p r u u' (action.Plain simple.Delete) h = (refl, record { lines = refl; queue = refl; tasks = refl; clean = (refl, refl); same = (refl, refl) })
+  acts_both g shows p r u u' (action.Plain simple.DeleteFirst) h = cuts_first (list_any is_newline p) p r u u'
+  acts_both g shows p r u u' (action.Text Insert i) h = goes_same (writes_of (acts g (here p r u) shows (action.Text Insert i))) p r u u'
+  acts_both g shows p r u u' (action.Plain simple.List) h = goes_same (writes_of (acts g (here p r u) shows (action.Plain simple.List))) p r u u'
+  acts_both g shows p r u u' (action.Plain simple.Print) h = goes_same (writes_of (acts g (here p r u) shows (action.Plain simple.Print))) p r u u'
+  acts_both g shows p r u u' (action.Plain simple.PrintFirst) h = goes_same (writes_of (acts g (here p r u) shows (action.Plain simple.PrintFirst))) p r u u'
+  acts_both g shows p r u u' (action.File Read i) h = (refl, record { lines = refl; queue = refl; tasks = refl; clean = refl; same = (refl, refl) })
+  acts_both g shows p r u u' (action.Substitute i) h = substitutes_both g (slice_get g.substitutions i) p r u u' h
+  acts_both g shows p true u u' (action.Branch IfReplaced to) h = (refl, record { lines = refl; queue = refl; tasks = refl; clean = refl; same = (refl, refl) })
+  acts_both g shows p false u u' (action.Branch IfReplaced to) h = goes_same [] p false u u'
+  acts_both g shows p r u u' (action.File Write i) h = goes_same (writes_of (acts g (here p r u) shows (action.File Write i))) p r u u'
+  acts_both g shows p r u u' (action.Transliterate i) h = (refl, record { lines = refl; queue = refl; tasks = refl; clean = refl; same = (refl, refl) })
+  acts_both g shows p r u u' (action.Plain simple.NextLine) h = absurd cc
+  acts_both g shows p r u u' (action.Plain simple.AppendNext) h = absurd cc
+  acts_both g shows p r u u' (action.Plain simple.Quit) h = absurd cc
+  acts_both g shows p r u u' (action.Plain simple.LineNumber) h = absurd cc
+  acts_both g shows p r u u' (action.Plain simple.AppendHold) h = absurd cc
+  acts_both g shows p r u u' (action.Plain simple.CopyHold) h = absurd cc
+  acts_both g shows p r u u' (action.Plain simple.Exchange) h = absurd cc
+  acts_both g shows p r u u' (action.Plain simple.Hold) h = absurd cc
+  acts_both g shows p r u u' (action.Plain simple.HoldMore) h = absurd cc
 
   passes_both : (p : List ℕ) (r : Bool) (u u' : Option ℕ) (a : Action) → Both more (goes_past (here p r u) a) (goes_past (there p r u') a)
   passes_both p r u u' (action.Block next) = (refl, record { lines = refl; queue = refl; tasks = refl; clean = refl; same = (refl, refl) })

@@ -130,13 +130,13 @@ module _ (g : Setting) (ls : List (List ℕ)) (n : ℕ) (h : List ℕ) (k : ℕ)
         subst (λ (x : Option ℕ). Does n ls ra (Some (k + 1, f w)) (option_and_then (λ e. replaces (record (here w r u) { used = Some e }) t (to_replace_in g t e w)) (stands_for x u))) (sym is.1)
         (subst (λ (v : List ℕ). Does n ls ra (Some (k + 1, v)) (replaces (here w r (Some e)) t (to_replace_in g t e w))) (is.4 w) done)
 
-    acts_so : (tells : Bool) (a : Action) (edit : Edit) (w : List ℕ) (r : Bool) (u : Option ℕ) → Makes g a edit → Does n ls ra (effect true edit k w) (acts g (here w r u) tells a)
-    acts_so tells (action.Block i) (block m) w r u is = (refl, record { hold = h; replaced = r; used = u; turns = tu; is = refl })
-    acts_so tells (action.Plain simple.Delete) delete w r u is = (refl, record { hold = h; replaced = r; used = u; turns = tu; is = refl })
-    acts_so tells (action.Substitute i) (change f) w r u is = substitutes_so (slice_get g.substitutions i) f w r u is
-    acts_so tells (action.Transliterate i) (change f) w r u is =
+    acts_so : (shows : Bool) (a : Action) (edit : Edit) (w : List ℕ) (r : Bool) (u : Option ℕ) → Makes g a edit → Does n ls ra (effect true edit k w) (acts g (here w r u) shows a)
+    acts_so shows (action.Block i) (block m) w r u is = (refl, record { hold = h; replaced = r; used = u; turns = tu; is = refl })
+    acts_so shows (action.Plain simple.Delete) delete w r u is = (refl, record { hold = h; replaced = r; used = u; turns = tu; is = refl })
+    acts_so shows (action.Substitute i) (change f) w r u is = substitutes_so (slice_get g.substitutions i) f w r u is
+    acts_so shows (action.Transliterate i) (change f) w r u is =
         (refl, subst (λ (v : List ℕ). Within n ls ra (k + 1) v (here (map (in_table (slice_get g.tables i)) w) r u)) (is w) (record { hold = h; replaced = r; used = u; turns = tu; is = refl }))
-    acts_so tells a edit w r u is = absurd is
+    acts_so shows a edit w r u is = absurd is
 
     passes_so : (a : Action) (edit : Edit) (w : List ℕ) (r : Bool) (u : Option ℕ) → Makes g a edit → Does n ls ra (effect false edit k w) (goes_past (here w r u) a)
     passes_so (action.Block i) (block m) w r u is = (refl, record { hold = h; replaced = r; used = u; turns = tu; is = ap (λ j. within ls n w h r ra u j tu) is })

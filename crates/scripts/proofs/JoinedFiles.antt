@@ -15,7 +15,7 @@ use Rattle.sedscript.specs.Bytes.{bytes_between}
 use Rattle.sedscript.specs.Script.{written_in, is_standard_output, is_file, sink_name, name_in, file_in, distinct, files_in, number_in}
 use Rattle.sedscript.proofs.Bounds.{any_more, file_there}
 use Rattle.sedscript.proofs.FileTables.{any_distinct, any_number}
-use Rattle.scripts.specs.InTurn.{Before, sink_behind}
+use Rattle.scripts.specs.InTurn.{CountsBefore, sink_behind}
 use Rattle.scripts.specs.OneText.{apart}
 use Rattle.examples.proofs.ComputedEnds.{both}
 use Rattle.scripts.proofs.Truth.{neither, not_so}
@@ -152,7 +152,7 @@ module _ (t whole : List ℕ) (base count : ℕ) (between : (from to : ℕ) → 
       ap₂ (λ o xs. cons_option o xs) (ap (file_in u) (name_same u i.verb i.argument h.0)) (names_there u is rest h.1) ∙ cons_append (file_in u (name_in u t i.verb i.argument)) (file_names u t is) (file_names u whole rest)
 
 -- how many files come before, of those that are read and of those that are written
-abbrev pub files_of : FileUse → Before → ℕ
+abbrev pub files_of : FileUse → CountsBefore → ℕ
 files_of Read b = b.rfiles
 files_of Write b = b.wfiles
 
@@ -179,7 +179,7 @@ found_later : (more : ℕ) (o r : Option ℕ) → is_some o ≡ true → NextOn 
 found_later more None r some h = absurd cc
 found_later more (Some k) r some h = ap (λ o. unwrap_or o 0) h
 
-sink_later : (b : Before) (k : ℕ) → 1 ≤ k → sink_behind b k ≡ b.wfiles + k
+sink_later : (b : CountsBefore) (k : ℕ) → 1 ≤ k → sink_behind b k ≡ b.wfiles + k
 sink_later b zero h = absurd (omega (arith, h))
 sink_later b (suc k) h = refl
 
@@ -187,7 +187,7 @@ low_there : (o : Option ℕ) → is_some o ≡ true → AtLeast 1 o → 1 ≤ un
 low_there None some h = absurd cc
 low_there (Some k) some h = h
 
-pub number_behind : (u : FileUse) (t whole : List ℕ) (all every : List Item) (b : Before) (first : List (List ℕ)) (name : List ℕ) → files_in u whole every ≡ first ++ files_in u t all → length first ≡ files_of u b → (is_file u name ≡ true → list_any (bytes_eq name) first ≡ false) →
+pub number_behind : (u : FileUse) (t whole : List ℕ) (all every : List Item) (b : CountsBefore) (first : List (List ℕ)) (name : List ℕ) → files_in u whole every ≡ first ++ files_in u t all → length first ≡ files_of u b → (is_file u name ≡ true → list_any (bytes_eq name) first ≡ false) →
     (is_file u name ≡ true → list_any (bytes_eq name) (files_in u t all) ≡ true) → NumberOn t all whole every b u name
 number_behind Read t whole all every b first name e long none h =
     let o : Option ℕ = position_from (bytes_eq name) 0 (files_in Read t all) in
@@ -209,7 +209,7 @@ number_behind Write t whole all every b first name e long none h = by_test (is_s
 
 -- ---- the items' files
 
-module _ (t : List ℕ) (all : List Item) (whole : List ℕ) (every : List Item) (b : Before) where
+module _ (t : List ℕ) (all : List Item) (whole : List ℕ) (every : List Item) (b : CountsBefore) where
   -- each name among these has its number
   abbrev pub Numbers : List Item → Type 0
   Numbers is = (u : FileUse) (name : List ℕ) → (is_file u name ≡ true → list_any (bytes_eq name) (file_names u t is) ≡ true) → NumberOn t all whole every b u name

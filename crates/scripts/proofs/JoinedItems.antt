@@ -30,7 +30,7 @@ use Rattle.sedscript.proofs.Chars.{same_bytes}
 use Rattle.sedscript.proofs.Labels.{commands_snoc, counted_in}
 use Rattle.sedscript.proofs.Bounds.{length_with}
 use Rattle.sedscript.proofs.Places.{Each, Follows, ItemsWithin, cut_up_to}
-use Rattle.scripts.specs.InTurn.{Before, address_behind, action_behind, command_behind, substitution_behind, file_behind, sink_behind}
+use Rattle.scripts.specs.InTurn.{CountsBefore, address_behind, action_behind, command_behind, substitution_behind, file_behind, sink_behind}
 use Rattle.scripts.proofs.LongerStrings.{NextOn}
 use Rattle.scripts.proofs.LongerFlags.{move_span, move_flags, FileIn}
 use Rattle.scripts.proofs.LongerFunctions.{move_argument, StringsIn, ArgumentIn}
@@ -67,23 +67,23 @@ BranchesOn t all whole every more [] = Unit {0}
 BranchesOn t all whole every more (i ∷ is) = BranchOn t all whole every more i.verb i.argument × BranchesOn t all whole every more is
 
 -- a name has the number that it has, where so many files come before
-abbrev pub NumberOn : (t : List ℕ) (all : List Item) (whole : List ℕ) (every : List Item) → Before → FileUse → List ℕ → Type 0
+abbrev pub NumberOn : (t : List ℕ) (all : List Item) (whole : List ℕ) (every : List Item) → CountsBefore → FileUse → List ℕ → Type 0
 NumberOn t all whole every b u name = number_in u whole every name ≡ file_behind b u (number_in u t all name)
 
-abbrev pub SinkOn : (t : List ℕ) (all : List Item) (whole : List ℕ) (every : List Item) → Before → Option (List ℕ) → Type 0
+abbrev pub SinkOn : (t : List ℕ) (all : List Item) (whole : List ℕ) (every : List Item) → CountsBefore → Option (List ℕ) → Type 0
 SinkOn t all whole every b None = Unit {0}
 SinkOn t all whole every b (Some name) = NumberOn t all whole every b Write name
 
 -- so have the names of a file and of the flag `w`
-abbrev pub NameOn : (t : List ℕ) (all : List Item) (whole : List ℕ) (every : List Item) → Before → Verb → Argument → Type 0
+abbrev pub NameOn : (t : List ℕ) (all : List Item) (whole : List ℕ) (every : List Item) → CountsBefore → Verb → Argument → Type 0
 NameOn t all whole every b (File u) a = NumberOn t all whole every b u (written_in t a)
 NameOn t all whole every b other a = Unit {0}
 
-abbrev pub FlagOn : (t : List ℕ) (all : List Item) (whole : List ℕ) (every : List Item) → Before → Argument → Type 0
+abbrev pub FlagOn : (t : List ℕ) (all : List Item) (whole : List ℕ) (every : List Item) → CountsBefore → Argument → Type 0
 FlagOn t all whole every b (FlaggedPair s e f) = SinkOn t all whole every b (sink_name t f)
 FlagOn t all whole every b other = Unit {0}
 
-abbrev pub FilesOn : (t : List ℕ) (all : List Item) (whole : List ℕ) (every : List Item) → Before → List Item → Type 0
+abbrev pub FilesOn : (t : List ℕ) (all : List Item) (whole : List ℕ) (every : List Item) → CountsBefore → List Item → Type 0
 FilesOn t all whole every b [] = Unit {0}
 FilesOn t all whole every b (i ∷ is) = (NameOn t all whole every b i.verb i.argument × FlagOn t all whole every b i.argument) × FilesOn t all whole every b is
 
@@ -118,7 +118,7 @@ module _ (t whole : List ℕ) (base count : ℕ) (between : (from to : ℕ) → 
       by_file None h = refl
       by_file (Some x) h = ap (λ bs. Some bs) (between x.0 x.1 h.0 h.1)
 
-address_same : (b : Before) (a : Option Address) → move_address b.expressions a ≡ address_behind b a
+address_same : (b : CountsBefore) (a : Option Address) → move_address b.expressions a ≡ address_behind b a
 address_same b None = refl
 address_same b (Some (Match None)) = refl
 address_same b (Some (Match (Some k))) = refl
@@ -138,7 +138,7 @@ taken_later : {A B : Type 0} (g : Item → Option A) (h : Item → Option B) (is
     length (filter_map h (js ++ j ∷ [])) ≡ n + length (filter_map g (is ++ i ∷ []))
 taken_later g h is js i j n one e = omega (arith, one, e, taken_snoc g is i, taken_snoc h js j)
 
-module _ (t whole : List ℕ) (base : ℕ) (b : Before) (between : (from to : ℕ) → from ≤ to → to ≤ length t → bytes_between whole (base + from) (base + to) ≡ bytes_between t from to) where
+module _ (t whole : List ℕ) (base : ℕ) (b : CountsBefore) (between : (from to : ℕ) → from ≤ to → to ≤ length t → bytes_between whole (base + from) (base + to) ≡ bytes_between t from to) where
   abbrev moved : Item → Item
   moved = move_item base b.expressions
 
@@ -272,11 +272,11 @@ module _ (t whole : List ℕ) (base : ℕ) (b : Before) (between : (from to : �
       ap₂ (λ first second. record { first = first; second = second; negate = a.negate; action = action_behind b does } ∷ (map (command_behind b) xs ++ ys)) (address_same b a.first) (address_same b a.second)
 
   -- so many commands, texts, substitutions and tables come before these items and behind those before them
-  pub record Stands (every all before there : List Item) : Type 0 where
+  pub record NestedAs (every all before there : List Item) : Type 0 where
     pub commands : commands_in there ≡ b.commands + commands_in before
     pub counts : Later every all before there
 
-  stands_on : (every all before there : List Item) (i : Item) → Stands every all before there → Stands every all (before ++ i ∷ []) (there ++ moved i ∷ [])
+  stands_on : (every all before there : List Item) (i : Item) → NestedAs every all before there → NestedAs every all (before ++ i ∷ []) (there ++ moved i ∷ [])
   stands_on every all before there i h = record {
     commands = commands_snoc there (moved i) ∙ (counted_same base b.expressions b.commands (commands_in before) (commands_in there) i h.commands ∙ ap (λ (k : ℕ). b.commands + k) (sym (commands_snoc before i)));
     counts = later_on every all before there i h.counts;
@@ -298,8 +298,8 @@ module _ (t whole : List ℕ) (base : ℕ) (b : Before) (between : (from to : �
   }
 
   -- the commands of the items, and those of what follows them
-  pub commands_on : (every all before there is rest : List Item) (more : List Command) → Stands every all before there → FilesOn t all whole every b is → AllClose is → ItemsIn (length t) is → BranchesOn t all whole every b.commands is →
-      ((after ahead : List Item) → Reaches all before is after → Stands every all after ahead → commands_of whole every ahead rest ≡ more) →
+  pub commands_on : (every all before there is rest : List Item) (more : List Command) → NestedAs every all before there → FilesOn t all whole every b is → AllClose is → ItemsIn (length t) is → BranchesOn t all whole every b.commands is →
+      ((after ahead : List Item) → Reaches all before is after → NestedAs every all after ahead → commands_of whole every ahead rest ≡ more) →
       commands_of whole every there (map moved is ++ rest) ≡ map (command_behind b) (commands_of t all before is) ++ more
   commands_on every all before there [] rest more stands k closes inner leads on =
       on before there (record { commands = omega arith; texts = omega arith; substitutions = omega arith; tables = omega arith }) stands

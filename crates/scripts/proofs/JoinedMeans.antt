@@ -27,7 +27,7 @@ use Rattle.scripts.proofs.LongerReading.{move_item}
 use Rattle.scripts.proofs.NoneBefore.{same_file_number, none_before, same_commands, same_substitutions}
 use Rattle.scripts.proofs.JoinedCuts.{ItemsIn, same_text, joined_cut}
 use Rattle.scripts.proofs.LongerStrings.{NextOn}
-use Rattle.scripts.proofs.JoinedItems.{all_follow, AllClose, texts_on, tables_on, substitutions_on, Stands, Reaches, commands_on, BranchOn, BranchesOn, FilesOn}
+use Rattle.scripts.proofs.JoinedItems.{all_follow, AllClose, texts_on, tables_on, substitutions_on, NestedAs, Reaches, commands_on, BranchOn, BranchesOn, FilesOn}
 use Rattle.sedscript.proofs.Bounds.{commands_length}
 use Rattle.sedscript.proofs.FileTables.{any_distinct}
 use Rattle.scripts.proofs.JoinedFiles.{Disjoint, disjoint, distinct_both, file_names, files_of, files_on, names_there, none_distinct, number_behind, number_front}
@@ -202,12 +202,12 @@ module _ (a b : List ℕ) (kind : Kind) (m : ℕ) (p q : Program) (h : Means a k
       free name e (inl none) = none
       free name e (inr none) = let no = none_named b name 0 js none in absurd cc
 
-  stands_first : Stands a joined 0 none_before first_there every is [] []
-  stands_first = record { commands = refl; counts = (refl, refl, refl) }
+  nested_first : NestedAs a joined 0 none_before first_there every is [] []
+  nested_first = record { commands = refl; counts = (refl, refl, refl) }
 
-  stands_second : (after ahead : List Item) → Reaches a joined 0 none_before first_there is [] is after → Stands a joined 0 none_before first_there every is after ahead →
-      Stands b joined base (all_before p) second_there every js [] ahead
-  stands_second after ahead reaches stands = record {
+  nested_second : (after ahead : List Item) → Reaches a joined 0 none_before first_there is [] is after → NestedAs a joined 0 none_before first_there every is after ahead →
+      NestedAs b joined base (all_before p) second_there every js [] ahead
+  nested_second after ahead reaches stands = record {
     commands = omega (arith, stands.commands, reaches.commands, long);
     counts = (
       omega (arith, stands.counts.0, reaches.texts, ap (λ (xs : List (List ℕ)). length xs) h.texts),
@@ -255,11 +255,11 @@ module _ (a b : List ℕ) (kind : Kind) (m : ℕ) (p q : Program) (h : Means a k
   commands : (in_turn p q).commands ≡ commands_of joined every [] every
   commands =
       let second : List Command = map (command_behind (all_before p)) q.commands in
-      let rest : (after ahead : List Item) → Reaches a joined 0 none_before first_there is [] is after → Stands a joined 0 none_before first_there every is after ahead → commands_of joined every ahead behind ≡ second =
+      let rest : (after ahead : List Item) → Reaches a joined 0 none_before first_there is [] is after → NestedAs a joined 0 none_before first_there every is after ahead → commands_of joined every ahead behind ≡ second =
       λ after ahead reaches stands.
-      commands_on b joined base (all_before p) second_there every js [] ahead js [] [] (stands_second after ahead reaches stands) files_q close_q cut.4 branches_q (λ after ahead reaches stands. refl)
+      commands_on b joined base (all_before p) second_there every js [] ahead js [] [] (nested_second after ahead reaches stands) files_q close_q cut.4 branches_q (λ after ahead reaches stands. refl)
       ∙ (append-nil (map (command_behind (all_before p)) (commands_of b js [] js)) ∙ ap (map (command_behind (all_before p))) (sym k.commands)) in
-      let all = commands_on a joined 0 none_before first_there every is [] [] is behind second stands_first files_p close_p cut.3 branches_p rest in
+      let all = commands_on a joined 0 none_before first_there every is [] [] is behind second nested_first files_p close_p cut.3 branches_p rest in
       sym (all ∙ ap (λ (cs : List Command). cs ++ second) (same_commands (commands_of a is [] is) ∙ sym h.commands))
 
   texts : (in_turn p q).texts ≡ texts_of joined every

@@ -96,8 +96,8 @@ module _ (search : ℕ → List ℕ → ℕ → Option Occurrence) (seeks_them :
         ∙ sym (ap (map comma) h.3 ∙ map-append comma before (10 ∷ behind) ∙ ap (λ (x : List ℕ). x ++ (44 ∷ map comma behind)) (no_comma before h.4))
   ]
 
-  pub commas_stand : (w : List ℕ) → with_replaced (λ k w. false) search (λ k. []) 1 true commas w ≡ map comma w
-  commas_stand w = replaced_there (length w + 1) [] w None (omega arith) (inr (refl, refl))
+  pub commas_are : (w : List ℕ) → with_replaced (λ k w. false) search (λ k. []) 1 true commas w ≡ map comma w
+  commas_are w = replaced_there (length w + 1) [] w None (omega arith) (inr (refl, refl))
 
   module _ (finds : ℕ → List ℕ → Bool) (files : ℕ → List ℕ) where
     abbrev pub joins_all : Setting
@@ -131,7 +131,7 @@ module _ (search : ℕ → List ℕ → ℕ → Option Occurrence) (seeks_them :
         let ms : List Occurrence = to_replace 1 true (each_occurrence (search 0 pattern) (length pattern)) in
         let r : Bool = any_replaced ms in
         let four : List Bool = false ∷ false ∷ false ∷ false ∷ [] in
-        subst (IsOutput joins_all (loop_at [] number pattern 0 turns)) (append-nil (line_to 0 (replaced_from pattern commas 0 ms)) ∙ ap (line_to 0) (commas_stand pattern))
+        subst (IsOutput joins_all (loop_at [] number pattern 0 turns)) (append-nil (line_to 0 (replaced_from pattern commas 0 ms)) ∙ ap (line_to 0) (commas_are pattern))
         (ends_on (leaves_loop number pattern turns) (ends_on (replaces_all number pattern (turns + 1) ms refl)
         (ends_on (ends_line joins_all [] number (replaced_from pattern commas 0 ms) [] r four (Some 0) 4 (turns + 1 + 1) refl) (ends_there joins_all number [] r four (Some 0) (turns + 1 + 1)))))
 

@@ -52,7 +52,7 @@ pub sends : OneMeaning → (quiet : Bool) (text input : List ℕ) (out : List (�
     ((es : List WrittenExpression) (files : ℕ → List ℕ) → map expression_tree p.expressions ≡ map expression_tree es →
     IsOutput (setting p.commands p.texts p.substitutions p.tables (quiet || p.quiet) es files) (start p.commands (split_lines input)) out) → EditsInto quiet text input out
 sends one quiet text input out p meant runs = record {
-  means = (p, meant);
+  meaning = (p, meant);
   runs = λ q files m.
       let same = one text Basic 65536 p q meant m in
       same_run (λ g s. IsOutput g s out) p.commands q.commands p.texts q.texts p.substitutions q.substitutions p.tables q.tables (quiet || p.quiet) (quiet || q.quiet) q.expressions files (split_lines input)

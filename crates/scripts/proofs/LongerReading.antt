@@ -25,7 +25,7 @@ use Rattle.sedscript.specs.Arguments.{to_command_end, own_delimiter, substitute_
 use Rattle.sedscript.specs.Bytes.{fault, ◌>>=◌ as ◌then◌, past, bytes_between, is_digit, is_byte, with_digits}
 use Rattle.sedscript.specs.Letters.{verb_of, most_addresses, allowed, substituted, flagged}
 use Rattle.sedscript.specs.Strings.{replacement_fault}
-use Rattle.sedscript.specs.Items.{Pattern, Reading, plainly, expression, ◌>>=◌, Addressed, Headed, address_found, with_addresses, line_address, folds_at, past_flag, match_at, own_match, address_of, address_at, with_second, second_at, after_first, addresses_at, with_bang, substitute_with, substitute_at, argument_with, function_at, item_from, item_at, match_to, function_after, item_with, empty_match}
+use Rattle.sedscript.specs.Items.{PatternExtent, Reading, plainly, expression, ◌>>=◌, Addressed, Headed, address_found, with_addresses, line_address, folds_at, past_flag, match_at, own_match, address_of, address_at, with_second, second_at, after_first, addresses_at, with_bang, substitute_with, substitute_at, argument_with, function_at, item_from, item_at, match_to, function_after, item_with, empty_match}
 use Rattle.sedscript.specs.Script.{Gives, value, after_expression}
 use Rattle.sedscript.proofs.Coming.{gives_then}
 use Rattle.scripts.proofs.LongerText.{tail_of, past_low, past_high, near, there, past_on, past_separators, between_on}
@@ -128,7 +128,7 @@ module _ (before text : List ℕ) (more : Option (List ℕ)) (n : ℕ) (kind : K
       )
 
   -- an expression that is followed by a fault
-  stays_nothing : {A B : Type 0} (P : A → Type 0) (f : A → B) (p : Pattern) (r : ℕ → Result A ScriptFault) (z : Reading B) → ((groups : ℕ) → (g : ScriptFault) × (r groups ≡ Err g)) → Stays P f (expression p (λ groups. plainly (r groups))) z
+  stays_nothing : {A B : Type 0} (P : A → Type 0) (f : A → B) (p : PatternExtent) (r : ℕ → Result A ScriptFault) (z : Reading B) → ((groups : ℕ) → (g : ScriptFault) × (r groups ≡ Err g)) → Stays P f (expression p (λ groups. plainly (r groups))) z
   stays_nothing {A = A} P f p r z bad _ x (after_expression {es = es} e is g) =
       absurd (none (bad e.groups).0 es x (subst (λ (r : Result A ScriptFault). Gives text kind m (plainly r) es x) (bad e.groups).1 g))
     where

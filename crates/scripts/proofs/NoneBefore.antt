@@ -8,9 +8,9 @@ use Rattle.sedscript.specs.declared.types.FileUse.{FileUse}
 use Rattle.sedscript.specs.declared.types.FileUse.TheVariants.{Read, Write}
 use Rattle.sedscript.specs.declared.types.Command.{Command}
 use Rattle.sedscript.specs.declared.substitution.Substitution.{Substitution}
-use Rattle.scripts.specs.InTurn.{Before, address_behind, file_behind, action_behind, command_behind, sink_behind, substitution_behind}
+use Rattle.scripts.specs.InTurn.{CountsBefore, address_behind, file_behind, action_behind, command_behind, sink_behind, substitution_behind}
 
-abbrev pub none_before : Before
+abbrev pub none_before : CountsBefore
 none_before = record { commands = 0; expressions = 0; texts = 0; substitutions = 0; tables = 0; rfiles = 0; wfiles = 0 }
 
 same_address : (a : Option Address) → address_behind none_before a ≡ a

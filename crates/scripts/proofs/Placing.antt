@@ -24,7 +24,7 @@ use Rattle.sedengine.specs.Substitute.{Occurrence, each_occurrence, to_replace}
 use Rattle.sedengine.proofs.Writing.{slice_get-append_add}
 use Rattle.examples.proofs.ComputedEnds.{both}
 use Rattle.scripts.specs.Edited.{RunsTo}
-use Rattle.scripts.specs.InTurn.{Before, BreaksNoLine, EachOnlyEdits, action_behind, address_behind, all_before, asks_own, command_behind, edits_line, in_turn, is_break, is_own, only_edits, replaces_only, sink_behind, substitution_behind}
+use Rattle.scripts.specs.InTurn.{CountsBefore, BreaksNoLine, EachOnlyEdits, action_behind, address_behind, all_before, asks_own, command_behind, edits_line, in_turn, is_break, is_own, only_edits, replaces_only, sink_behind, substitution_behind}
 use Rattle.scripts.proofs.Truth.{not_so}
 use Rattle.scripts.proofs.LongerText.{in_front}
 use Rattle.scripts.proofs.NoneBefore.{none_before, same_command, same_substitution}
@@ -171,7 +171,7 @@ chooses_alike true p finds c h k active n n' ls ls' w alike = ap₂ (λ n ls. on
 chooses_alike false p finds c h k active n n' ls ls' w alike = ap (with_bang c.negate) (alike_choice p finds c.first c.second h k active n n' (none_left ls) (none_left ls') w)
 
 -- what is in a script is in another one, behind so much
-record Placed (p r : Program) (b : Before) : Type 0 where
+record Placed (p r : Program) (b : CountsBefore) : Type 0 where
   commands : (k : ℕ) (c : Command) (counts : Bool) → slice_get p.commands k ≡ Some c → only_edits counts p c ≡ true → slice_get r.commands (b.commands + k) ≡ Some (command_behind b c)
   expressions : (e : ℕ) (x : WrittenExpression) → slice_get p.expressions e ≡ Some x → slice_get r.expressions (b.expressions + e) ≡ Some x
   substitutions : (k : ℕ) (t : Substitution) → slice_get p.substitutions k ≡ Some t → slice_get r.substitutions (b.substitutions + k) ≡ Some (substitution_behind b t)
@@ -210,7 +210,7 @@ module _ (p : Program) (files : ℕ → List ℕ) where
   makes_here (Transliterate k) h = λ w. refl
   makes_here other h = absurd cc
 
-  module _ (r : Program) (b : Before) (is : Placed p r b) where
+  module _ (r : Program) (b : CountsBefore) (is : Placed p r b) where
     abbrev g : Setting
     g = setting_of r files
 

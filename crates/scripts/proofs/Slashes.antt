@@ -18,7 +18,7 @@ use Rattle.sedscript.specs.declared.letters.Verb.TheVariants.{Plain}
 use Rattle.sedscript.specs.declared.items.Argument.TheVariants.{Nothing}
 use Rattle.sedscript.specs.declared.types.Simple.{Simple}
 use Rattle.sedscript.specs.declared.types.Simple.TheVariants.{Print, Delete}
-use Rattle.sedscript.specs.Items.{address_found, address_at, addresses_at, addresses_of, after_first, with_addresses, match_at, with_bang, function_at, item_at, Pattern, Reading, plainly, expression, ◌>>=◌, function_after, item_with, item_of}
+use Rattle.sedscript.specs.Items.{address_found, address_at, addresses_at, addresses_of, after_first, with_addresses, match_at, with_bang, function_at, item_at, PatternExtent, Reading, plainly, expression, ◌>>=◌, function_after, item_with, item_of}
 use Rattle.sedscript.specs.Bytes.{past, bytes_between, is_blank, belongs}
 use Rattle.sedscript.specs.Script.{IsRead, Gives, value, after_expression, Means}
 use Rattle.sedscript.specs.Program.{Program}
@@ -29,7 +29,7 @@ use Rattle.scripts.proofs.Meanings.{of_commands}
 use Rattle.scripts.proofs.Numbers.{byte_there, drop_on, past_none, ends_there, means_one, no_comma, no_bang, ends_command, not_quiet}
 
 -- an expression between two places of a script
-abbrev pub pattern : ℕ → ℕ → Pattern
+abbrev pub pattern : ℕ → ℕ → PatternExtent
 pattern from to = record { from = from; to = to; delimiter = 47; folded = false }
 
 pub is_read : (text re : List ℕ) (e : Tree) (groups from to : ℕ) → IsSlashed re e groups → bytes_between text from to ≡ re → IsRead text Basic 65536 (pattern from to) (written e groups)
@@ -109,7 +109,7 @@ module _ (text : List ℕ) (at count : ℕ) where
 abbrev pub with_expression : WrittenExpression → Program → Program
 with_expression e p = record p { expressions = e ∷ [] }
 
-pub gives_one : (text : List ℕ) (e : WrittenExpression) (p : Pattern) (i : Item) (to : ℕ) (k : ℕ → Reading ItemOrEnd) → IsRead text Basic 65536 p e → item_at text 0 0 ≡ expression p k → k e.groups ≡ plainly (Ok (Is i to)) →
+pub gives_one : (text : List ℕ) (e : WrittenExpression) (p : PatternExtent) (i : Item) (to : ℕ) (k : ℕ → Reading ItemOrEnd) → IsRead text Basic 65536 p e → item_at text 0 0 ≡ expression p k → k e.groups ≡ plainly (Ok (Is i to)) →
     Gives text Basic 65536 (item_at text 0 0) (e ∷ []) (Is i to)
 gives_one text e p i to k is same last =
     subst (λ r. Gives text Basic 65536 r (e ∷ []) (Is i to)) (sym same) (after_expression e is (subst (λ r. Gives text Basic 65536 r [] (Is i to)) (sym last) value))

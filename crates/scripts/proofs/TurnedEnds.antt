@@ -13,9 +13,8 @@ use Rattle.sedengine.specs.Substitute.{Occurrence}
 use Rattle.sedengine.specs.Select.{selects}
 use Rattle.sedengine.specs.Move.{after, line_to, next_move, newline, start, to_sink, writing, written}
 use Rattle.sedengine.specs.Steps.{at_end}
-use Rattle.sedengine.specs.Ends.{size_of, IsCause, Whole, Within, WithinLimits}
-use Rattle.sedengine.specs.declared.ends.Ended.{Ended}
-use Rattle.sedengine.specs.declared.ends.Ended.TheVariants.{Done}
+use Rattle.sedengine.specs.Ends.{size_of, IsCause, RanWhole, StaysWithin, WithinLimits}
+use Rattle.sedengine.specs.Types.{Ended, Done}
 use Rattle.examples.proofs.ComputedEnds.{whole_first}
 use Rattle.scripts.specs.Ampleness.{Ample, NoDevice}
 use Rattle.scripts.specs.Edited.{text_of}
@@ -98,13 +97,13 @@ module _ (l : Limits) (finds : ℕ → List ℕ → Bool) (search : ℕ → List
   fits p h t = record { pattern = p; hold = h; queue = omega arith; turns = t }
 
   abbrev Comes : State → List (ℕ × ℕ) → Type 0
-  Comes s out = (t : ℕ) × Whole l round s out Done t
+  Comes s out = (t : ℕ) × RanWhole l round s out Done t
 
   next : {s m : State} {bytes out : List (ℕ × ℕ)} → next_move round s ≡ writing bytes m → WithinLimits l s → Comes m out → Comes s (bytes ++ out)
   next go fit rest = (suc rest.0, whole_first go fit rest.1)
 
   at_last : (hold : List ℕ) (number turns : ℕ) → length hold ≤ l.space → turns ≤ l.turns → Comes (record (held_at [] number hold turns) { tasks = [] }) []
-  unfolding after written Within
+  unfolding after written StaysWithin
   at_last hold number turns h t = (0, record { within = λ k low. let none : k ≡ 0 = omega arith in rw none (fits (omega arith) h t); wrote = refl; cause = refl })
 
   length-onto : (number : ℕ) (line hold : List ℕ) → length (onto' number line hold) ≤ length line + 1 + length hold
@@ -168,7 +167,7 @@ lines_size (line ∷ rest) = let more = lines_size rest in omega (arith, more)
 -- is full.
 pub turned_done : (l : Limits) (input : List ℕ) (finds : ℕ → List ℕ → Bool) (search : ℕ → List ℕ → ℕ → Option Occurrence) (files : ℕ → List ℕ) (out : List (ℕ × ℕ)) (end : Ended) (t : ℕ) → Ample l 4 input → NoDevice end →
     IsCause l (turns_round finds search files) (between (split_lines input) 0 [] false (false ∷ false ∷ false ∷ []) None 0) out end t → (end ≡ Done) × (out ≡ to_sink 0 (text_of (reverse (split_lines input))))
-unfolding Within
+unfolding StaysWithin
 turned_done l input finds search files out end t ample free cause =
     let small = size_of_lines input in
     let few = lines_size (split_lines input) in

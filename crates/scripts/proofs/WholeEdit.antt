@@ -12,8 +12,7 @@ use Rattle.sedengine.specs.State.{Limits, State, Setting, setting_of}
 use Rattle.sedengine.specs.Move.{after, newline, to_sink, written}
 use Rattle.sedengine.specs.Ends.{GainedWithin, SourceAtEnd, bytes_of_sink, BrokenOff, IsCause, size_of}
 use Rattle.sedengine.specs.DevicesAfter.{SinksAtEnd}
-use Rattle.sedengine.specs.declared.ends.Ended.{Ended}
-use Rattle.sedengine.specs.declared.ends.Ended.TheVariants.{Done, PatternFull, HoldFull, QueueFull, TurnsSpent, NoPrevious, InputBroken, OutputBroken, OutputFull}
+use Rattle.sedengine.specs.Types.{Ended, Done, PatternFull, HoldFull, QueueFull, TurnsSpent, NoPrevious, InputBroken, OutputBroken, OutputFull}
 use Rattle.sedengine.proofs.Gains.{part-same}
 use Rattle.sedengine.proofs.Moves.{written-add}
 use Rattle.sededit.specs.EditEnds.{EditEnds}

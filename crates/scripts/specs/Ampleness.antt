@@ -5,8 +5,7 @@ use Rattle.sedscript.specs.Script.{Means}
 use Rattle.sedscript.specs.Program.{Program}
 use Rattle.sedengine.specs.Ends.{GainedWithin, IsCause}
 use Rattle.sedengine.specs.State.{Limits, setting_of}
-use Rattle.sedengine.specs.declared.ends.Ended.{Ended}
-use Rattle.sedengine.specs.declared.ends.Ended.TheVariants.{InputBroken, OutputBroken, OutputFull}
+use Rattle.sedengine.specs.Types.{Ended, InputBroken, OutputBroken, OutputFull}
 use Rattle.sededit.specs.Editing.{start_over}
 
 -- an end that names no device
@@ -21,7 +20,7 @@ NoDevice other = Unit {0}
 pub record ComesTo (l : Limits) (text input : List ℕ) (old new : ℕ → Option (List ℕ)) (end : Ended) : Type 0 where
   pub program : Program
   pub files : ℕ → List ℕ
-  pub means : Means text Basic 65536 program
+  pub meaning : Means text Basic 65536 program
   pub before : ℕ → ℕ
   pub out : List (ℕ × ℕ)
   pub gains : GainedWithin l.output before old new (Err end) out

@@ -17,7 +17,7 @@ with_option quiet p = record p { quiet = quiet || p.quiet }
 
 -- The text means a script, and whatever the files are that it reads, a run of it ends and has written these bytes.
 pub record EditsInto (quiet : Bool) (text input : List ℕ) (out : List (ℕ × ℕ)) : Type 0 where
-  pub means : (p : Program) × Means text Basic 65536 p
+  pub meaning : (p : Program) × Means text Basic 65536 p
   pub runs : (p : Program) (files : ℕ → List ℕ) → Means text Basic 65536 p → RunsTo (with_option quiet p) files input out
 
 -- lines, each with its newline

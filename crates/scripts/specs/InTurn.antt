@@ -62,7 +62,7 @@ pub record BreaksNoLine (p : Program) : Type 0 where
   pub tables : (k b : ℕ) → is_newline b ≡ false → is_newline (in_table (slice_get p.tables k) b) ≡ false
 
 -- how many commands, expressions and so on come before those of a script
-pub record Before : Type 0 where
+pub record CountsBefore : Type 0 where
   pub commands : ℕ
   pub expressions : ℕ
   pub texts : ℕ
@@ -71,7 +71,7 @@ pub record Before : Type 0 where
   pub rfiles : ℕ
   pub wfiles : ℕ
 
-abbrev pub all_before : Program → Before
+abbrev pub all_before : Program → CountsBefore
 all_before p = record {
   commands = length p.commands;
   expressions = length p.expressions;
@@ -83,21 +83,21 @@ all_before p = record {
 }
 
 -- the numbers in such addresses, commands and substitutions, where so many come before
-abbrev pub address_behind : Before → Option Address → Option Address
+abbrev pub address_behind : CountsBefore → Option Address → Option Address
 address_behind b (Some (Match (Some e))) = Some (Match (Some (b.expressions + e)))
 address_behind b other = other
 
 -- 0 is the standard output
-abbrev pub sink_behind : Before → ℕ → ℕ
+abbrev pub sink_behind : CountsBefore → ℕ → ℕ
 sink_behind b zero = zero
 sink_behind b (suc k) = b.wfiles + suc k
 
 -- a file's number
-abbrev pub file_behind : Before → FileUse → ℕ → ℕ
+abbrev pub file_behind : CountsBefore → FileUse → ℕ → ℕ
 file_behind b Read k = b.rfiles + k
 file_behind b Write sink = sink_behind b sink
 
-abbrev pub action_behind : Before → Action → Action
+abbrev pub action_behind : CountsBefore → Action → Action
 action_behind b (Block next) = Block (b.commands + next)
 action_behind b (Branch u next) = Branch u (b.commands + next)
 action_behind b (Text t k) = Text t (b.texts + k)
@@ -106,10 +106,10 @@ action_behind b (Substitute k) = Substitute (b.substitutions + k)
 action_behind b (Transliterate k) = Transliterate (b.tables + k)
 action_behind b other = other
 
-abbrev pub command_behind : Before → Command → Command
+abbrev pub command_behind : CountsBefore → Command → Command
 command_behind b c = record c { first = address_behind b c.first; second = address_behind b c.second; action = action_behind b c.action }
 
-abbrev pub substitution_behind : Before → Substitution → Substitution
+abbrev pub substitution_behind : CountsBefore → Substitution → Substitution
 substitution_behind b t = record t { expression = option_map (λ e. b.expressions + e) t.expression; file = option_map (sink_behind b) t.file }
 
 -- the commands of one script, and then those of another

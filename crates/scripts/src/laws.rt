@@ -9,14 +9,13 @@ ghost use Rattle.sedscript.specs.Script.{Means, with_part};
 ghost use Rattle.sedscript.specs.Program.{Program};
 ghost use Rattle.sedengine.specs.State.{Limits};
 ghost use Rattle.sedengine.specs.Move.{to_sink};
-ghost use Rattle.sedengine.specs.declared.ends.Ended.{Ended};
-ghost use Rattle.sedengine.specs.declared.ends.Ended.TheVariants.{Done};
+ghost use Rattle.sedengine.specs.Types.{Ended, Done};
 ghost use Rattle.scripts.specs.Ampleness.{Ample, ComesTo};
 ghost use Rattle.sedscript.specs.Strings.{is_among};
 ghost use Rattle.sedscript.specs.declared.substitution.Piece.{Piece};
 ghost use Rattle.sedspace.specs.Stream.{AreWholeLines};
 ghost use Rattle.sedspace.specs.Lines.{split_lines};
-ghost use Rattle.sedengine.specs.Ends.{Gained, bytes_of_sink};
+ghost use Rattle.sedengine.specs.Ends.{SinksGain, bytes_of_sink};
 ghost use Rattle.examples.specs.Strings.{NoneTwice};
 ghost use Rattle.examples.specs.WrittenReplacements.{written_pieces};
 ghost use Rattle.scripts.specs.Alone.{EachLooksAtLine};
@@ -194,7 +193,7 @@ pub fn words_one_after_other()
 /// gained the lines in reverse order.
 pub fn turned_ends()
     ensures { (l : Limits) (input : List ℕ) (old new : ℕ → Option (List ℕ)) (end : Ended) → Ample l 4 input → ComesTo l (codes "1!G;h;$!d") input old new end →
-        (end ≡ Done) × Gained old new (to_sink 0 (text_of (reverse (split_lines input)))) }
+        (end ≡ Done) × SinksGain old new (to_sink 0 (text_of (reverse (split_lines input)))) }
 {
     one_meaning();
 }

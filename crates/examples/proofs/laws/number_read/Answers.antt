@@ -1,4 +1,4 @@
-use Rattle.examples.proofs.FlagReading.{number_told as law}
+use Rattle.examples.proofs.FlagReading.{number_shown as law}
 use Rattle.examples.proofs.laws.number_read.Goals as goal
 
 pub returns : goal.returns
