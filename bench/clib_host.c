@@ -5,7 +5,7 @@
  *
  * and then the bytes of the script and of the input. What it does with them is its first argument:
  *
- *     run            calls sed_check and sed_edit once for each, and prints for both what they tell, and the bytes written
+ *     run            calls sed_check and sed_edit once for each, and prints for both what they report, and the bytes written
  *     refuse         calls sed_edit again and again, and refuses each of its requests for memory in turn
  *     threads COUNT  calls sed_edit for all cases in so many threads at once, and compares with calls made alone
  *     stack KIB      calls both for all cases in a thread with so small a stack
@@ -138,16 +138,16 @@ static struct answer answer_for(const struct one_case *c) {
     return a;
 }
 
-/* Calls sed_edit, and looks whether only the bytes that it tells were touched. */
+/* Calls sed_edit, and looks whether only the bytes that it reports were touched. */
 static void edit(const struct one_case *c, struct answer *a, size_t number) {
     memset(a->output, FILLER, c->room + GUARD);
     memset(&a->report, 0xa5, sizeof a->report);
     a->status = sed_edit(c->script, c->script_len, c->flags, c->input, c->input_len, a->output, c->room, &c->limits, &a->report);
-    if (a->report.written > c->room) fail("more is told as written than there is room for", number);
+    if (a->report.written > c->room) fail("more is reported as written than there is room for", number);
     for (size_t at = a->report.written; at < c->room + GUARD; at++)
         if (a->output[at] != FILLER) fail("a byte past those written was touched", number);
     bool has_written = a->status == SED_DONE || a->status == SED_STOPPED;
-    if (!has_written && a->report.written) fail("a call that wrote nothing tells of bytes", number);
+    if (!has_written && a->report.written) fail("a call that wrote nothing reports bytes", number);
     if (a->report.spare) fail("the spare field isn't 0", number);
 }
 
@@ -192,7 +192,7 @@ static long refuse_each(const struct one_case *c, size_t number) {
         if (is_over) break;
         refused++;
         if (a.status != SED_NO_MEMORY) fail("a refused request was passed over", number);
-        if (memcmp(&a.report, &blank, sizeof blank)) fail("a call without memory tells something", number);
+        if (memcmp(&a.report, &blank, sizeof blank)) fail("a call without memory reports something", number);
     }
     if (!is_same(&a, &plain)) fail("a call that is counted answers otherwise", number);
     free(plain.output);
