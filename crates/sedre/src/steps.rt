@@ -1,5 +1,5 @@
 //! The count of steps: of looks at nodes, and of what the matcher counts besides.
-ghost use Rattle.std.specs.Prelude.{◌≡◌, ◌*◌};
+ghost use Rattle.std.specs.Prelude.{◌≡◌};
 ghost use Rattle.sedre.specs.Steps.{Takes, TakesExactly};
 
 use std::marker::Model;
@@ -39,13 +39,5 @@ impl Steps {
         ensures counts { TakesExactly self.old self.new n }
     {
         self.count = self.count.saturating_add(n as u128);
-    }
-
-    /// Counts `times * each` more steps; the product may exceed a `usize`.
-    pub fn add_times(&mut self, times: usize, each: usize)
-        ensures cost { Takes self.old self.new (times * each) }
-        ensures counts { TakesExactly self.old self.new (times * each) }
-    {
-        self.count = self.count.saturating_add(times as u128 * each as u128);
     }
 }
