@@ -8,7 +8,7 @@ use clap::error::ErrorKind;
 use std::alloc::AllocError;
 
 /// What the words after the program's name ask for.
-#[derive(Debug, Drop)]
+#[derive(Drop)]
 pub struct Line {
     /// Whether `-n` was given, which suppresses default output.
     pub quiet: bool,
@@ -21,7 +21,7 @@ pub struct Line {
 }
 
 /// A part of a script.
-#[derive(Debug, Drop)]
+#[derive(Drop)]
 pub enum Part {
     /// The text of the part: a word of `-e`, or the first operand where there is neither `-e` nor `-f`.
     Script(String),
@@ -30,7 +30,7 @@ pub enum Part {
 }
 
 /// Why a command line isn't run.
-#[derive(Debug, Drop)]
+#[derive(Drop)]
 pub enum Refused {
     /// What `clap` answers: the help, where that was asked for, or what is wrong with the words.
     Words(clap::Error),
