@@ -1,5 +1,5 @@
 //! Lines in a block of bytes: how many there are, and which of them have no match.
-ghost use Rattle.std.specs.Prelude.{◌≡◌, ◌<◌, ◌≤◌, ◌⊎◌, ℕ, Contains, Some, length, slice_get, take, true};
+ghost use Rattle.std.specs.Prelude.{◌≡◌, ◌<◌, ◌≤◌, ◌⊎◌, ℕ, Contains, Some, drop, false, length, slice_get, take, true};
 ghost use Rattle.std.specs.List.{count_by};
 ghost use Rattle.sedspace.specs.Lines.{is_newline, HasNoNewline};
 ghost use Rattle.sedspace.specs.Stream.{AreWholeLines};
@@ -135,6 +135,7 @@ pub fn lines_before(ahead: &[u8], end: usize, asks_last: bool) -> usize
     requires { end ≤ length ahead.now }
     ensures within { result ≤ end }
     ensures whole { AreWholeLines (take result ahead.now) }
+    ensures all { asks_last ≡ false → HasNoNewline (drop result (take end ahead.now)) }
     ensures last { asks_last ≡ true → (result ≡ 0) ⊎ (result < length ahead.now) }
 {
     let whole = whole_lines(&ahead[..end]);

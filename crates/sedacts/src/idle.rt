@@ -1,5 +1,5 @@
 //! Lines that no command of a script touches: what the commands that are reached on such a line need of it, found out once.
-ghost use Rattle.std.specs.Prelude.{◌≡◌, ◌<◌, ◌≤◌, ◌+◌, ◌^◌, ◌⊎◌, IfOk, IfSome, OnOk, Some, ℕ, false, is_some, length, true};
+ghost use Rattle.std.specs.Prelude.{◌≡◌, ◌<◌, ◌≤◌, ◌+◌, ◌^◌, ◌⊎◌, IfOk, IfSome, IsNone, OnOk, Some, ℕ, false, is_some, length, true};
 ghost use Rattle.sedscript.specs.declared.types.Address.TheVariants.{Line};
 ghost use Rattle.sedscript.specs.Ranges.{AddressWithin, CommandWithin};
 ghost use Rattle.sedacts.specs.Idle.{AsksNoNumber, IsIdleOf, NeedWithin, Notes, RangesIdle, need_at, need_of, need_of_address};
@@ -162,6 +162,7 @@ fn clear_of(command: &Command, number: u64, most: u64) -> u64
 pub fn clear_lines(script: &Script, ranges: &[bool], reached: usize, number: u64) -> Option<u64>
     requires ranges { length ranges.now ≡ length script.now.commands }
     requires needs { (j : ℕ) → j < reached → is_some (need_at script.now.commands script.now.substitutions j) ≡ true }
+    ensures active { IsNone result → RangesIdle script.now.commands reached ranges.now → ⊥ }
     ensures idle { IfSome result (λ most. RangesIdle script.now.commands reached ranges.now) }
     ensures clear { IfSome result (λ most. AsksNoNumber script.now.commands script.now.substitutions reached number most) }
 {

@@ -1,4 +1,4 @@
-use Rattle.std.proofs.Common.{length, take, subst, sym, ap, ◌∙◌, arith}
+use Rattle.std.proofs.Common.{length, take, subst, sym, ap, ◌∙◌, inl, inr, refl, arith}
 use Rattle.std.proofs.Math.Seq.{take-length}
 use Rattle.sedspace.specs.Lines.{split_lines}
 use Rattle.sedspace.specs.Stream.{AreWholeLines}
@@ -13,6 +13,7 @@ returns-then-lines-most c =
       whole = subst AreWholeLines (sym (take-length bytes)) c.requires;
       count = c.count_lines-lines.ensures ∙ whole_count bytes c.requires ∙ ap (λ w. length (split_lines w)) (sym (take-length bytes));
       few = c.if-lines-most.true;
+      many = inr refl;
     }
 
 pub returns : goal.returns
@@ -21,4 +22,5 @@ returns c = record {
   whole = c.first_lines.ensures.whole;
   count = sym c.first_lines.ensures.count ∙ whole_count (take c.first_lines.result c.args.bytes.now) c.first_lines.ensures.whole;
   few = omega arith;
+  many = inl refl;
 }
