@@ -1,7 +1,6 @@
 //! Devices over memory and over those of std, and faults of lines that are answered again.
 ghost use Rattle.std.specs.Prelude.{◌≡◌, IfOk};
 
-use super::spaces::same;
 use sedspace::{
     Broken, ByteSource, FromReader, Got, LineFault, Lines, MemoryOutputs, MemorySource,
     MemoryTexts, Outputs, Space, Texts, ToWriter,
@@ -9,6 +8,10 @@ use sedspace::{
 use std::io;
 use std::process::Abort;
 use std::test::Fail;
+
+fn same(rt: &impl Abort, found: &[u8], wanted: &[u8]) {
+    assert_eq!(rt; found, wanted);
+}
 
 // Copies the lines, each with its newline, and asks before each whether there is one.
 fn copy<R: ByteSource>(

@@ -1,6 +1,6 @@
-//! Rows of tables, run through the libraries, and the calls of benches. It has no contract of its own to keep: it is a test.
+//! Rows of tables, run through the libraries, and the calls of `benches`. It has no contract of its own to keep: it is a test.
 //!
-//!     rows [tables] [make CALL TEXT.. | match CALL KIND EXPRESSION LENGTH ROUNDS]
+//!     rows [tables] [CALL TEXT]..
 //!
 //! The file `tables` names the tables, a line each: what its rows are, and its file. How many rows of each ran is
 //! written to the standard output, and each row that failed is named there by its file and line, with what came and
@@ -104,19 +104,14 @@ fn run_tables(rt: &HostRuntime) -> Result<usize> {
     Ok(failed)
 }
 
-/// Runs all tables where the first word says so, and does what the others ask of the benches. Gives how many rows fail.
+/// Runs all tables where the first word says so, and makes the calls that the others name. Gives how many rows fail.
 fn run_words(rt: &HostRuntime, words: &[String]) -> Result<usize> {
-    match words.split_first() {
-        Some((first, others)) if first.as_str() == "tables" => {
-            let failed = run_tables(rt)?;
-            benches::run(rt, others)?;
-            Ok(failed)
-        }
-        _ => {
-            benches::run(rt, words)?;
-            Ok(0)
-        }
-    }
+    let (failed, calls) = match words.split_first() {
+        Some((first, others)) if first.as_str() == "tables" => (run_tables(rt)?, others),
+        _ => (0, words),
+    };
+    benches::make_all(rt, calls)?;
+    Ok(failed)
 }
 
 fn main(rt: HostRuntime) -> Result<ExitCode> {

@@ -2,8 +2,8 @@
 
 ghost use Rattle.std.specs.Prelude.{◌≡◌, [], IfOk};
 
-use crate::requests::given::{FILE, INPUT, limits};
-use crate::requests::marks::{answer, answer_made, begin, end};
+use crate::given::{FILE, INPUT, limits};
+use crate::marks::{answer, answer_made, begin, end};
 use anyhow::Result;
 use sededit::{
     Joined, Line, MemoryFile, MemoryInputs, MemoryNames, MemorySinks, Refused, command, line,

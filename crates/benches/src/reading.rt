@@ -1,8 +1,8 @@
 //! Readers of expressions and scripts, and what searches need.
 ghost use Rattle.std.specs.Prelude.{◌≤◌, length};
 
-use crate::requests::given::{NODES, expression_of};
-use crate::requests::marks::{answer, answer_made, begin, end};
+use crate::given::{NODES, expression_of};
+use crate::marks::{answer, answer_made, begin, end};
 use anyhow::Result;
 use sedmatch::{Occurrences, Scratch, TableMatcher, TableRoom};
 use sedre::{Expr, ExprFault, Kind, Steps};

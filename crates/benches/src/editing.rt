@@ -2,8 +2,8 @@
 
 ghost use Rattle.std.specs.Prelude.{◌≡◌, ◌<◌, ◌≤◌, length, IfOk};
 
-use crate::requests::given::{INPUT, LOOK, RunDevices, limits, script_of};
-use crate::requests::marks::{answer, begin, end};
+use crate::given::{INPUT, LOOK, RunDevices, limits, script_of};
+use crate::marks::{answer, begin, end};
 use anyhow::Result;
 use sededit::edit;
 use sedengine::{Ended, Engine, Limits, Progress};

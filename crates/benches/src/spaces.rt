@@ -1,6 +1,6 @@
 //! Spaces, lines, and devices in memory.
 
-use crate::requests::marks::{answer_made, begin};
+use crate::marks::{answer_made, begin};
 use anyhow::{Result, bail};
 use sedspace::{FromReader, Lines, MemoryOutputs, Outputs, Queue, Room, Space};
 
