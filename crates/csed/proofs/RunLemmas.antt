@@ -1,7 +1,7 @@
 -- From what an edit's one sink gained to the bytes that a caller gets.
 use Rattle.std.proofs.Common.{◌≡◌, ◌≢◌, ◌≤◌, ◌+◌, ◌==◌, ℕ, zero, suc, true, false, List, [], ◌∷◌, Option, Some, Result, Err, if◌then◌else◌, length, take, nat_eq, refl, sym, subst, ap, arith}
 use Rattle.sedscript.specs.Program.{Program}
-use Rattle.sedengine.specs.State.{Limits, Setting, State, setting_of}
+use Rattle.sedengine.specs.State.{LimitsView, Setting, MachineState, setting_of}
 use Rattle.sedengine.specs.Move.{to_sink}
 use Rattle.sedengine.specs.Ends.{bytes_of_sink, SinksGain, GainedWithin, SourceAtEnd, IsCause}
 use Rattle.sedengine.specs.Types.{Ended, Done, PatternFull, HoldFull, QueueFull, TurnsSpent, NoPrevious, InputBroken, OutputBroken, OutputFull}
@@ -42,7 +42,7 @@ module _ (held held' : Option (List ℕ)) (bytes : List ℕ) (before : held ≡ 
   all_written out h = rw (first_part out h) (only_first out (other_parts out h))
 
   -- an edit that came to the ordinary end has written all
-  pub IsOutput-written : (g : Setting) (s : State) → (out : List (ℕ × ℕ)) × SinksGain (of_one held) (of_one held') out × IsOutput g s out → IsOutput g s (to_sink 0 bytes)
+  pub IsOutput-written : (g : Setting) (s : MachineState) → (out : List (ℕ × ℕ)) × SinksGain (of_one held) (of_one held') out × IsOutput g s out → IsOutput g s (to_sink 0 bytes)
   IsOutput-written g s (out, gained, ends) = subst (λ (w : List (ℕ × ℕ)). IsOutput g s w) (all_written out gained) ends
 
 -- a source that counts no failure is no cause
@@ -80,13 +80,13 @@ module _ (room : ℕ) (held held' : Option (List ℕ)) (bytes : List ℕ) (befor
   full_by most InputBroken out is h e = cc
   full_by most (OutputBroken k) out is h e = cc
 
-  pub Fits-room : (l : Limits) (g : Setting) (s : State) (old new : Option (List ℕ)) (end : Ended) → l.output ≡ Some room →
+  pub Fits-room : (l : LimitsView) (g : Setting) (s : MachineState) (old new : Option (List ℕ)) (end : Ended) → l.output ≡ Some room →
       (out : List (ℕ × ℕ)) × GainedWithin l.output nothing_before (of_one held) (of_one held') (Err end) out × EditEnds l g s out old new end → length bytes ≤ room
   Fits-room l g s old new end is (out, sent, h) =
       within_room l.output (Err end) out is sent
 
   -- an edit that ended early has stopped for its cause
-  pub RunStops-early : (l : Limits) (g : Setting) (s : State) (old new : Option (List ℕ)) (end : Ended) → l.output ≡ Some room → end ≢ Done → SourceAtEnd 0 0 end → ((k : ℕ) → end ≢ OutputBroken k) →
+  pub RunStops-early : (l : LimitsView) (g : Setting) (s : MachineState) (old new : Option (List ℕ)) (end : Ended) → l.output ≡ Some room → end ≢ Done → SourceAtEnd 0 0 end → ((k : ℕ) → end ≢ OutputBroken k) →
       (out : List (ℕ × ℕ)) × GainedWithin l.output nothing_before (of_one held) (of_one held') (Err end) out × EditEnds l g s out old new end → RunStops l g s room bytes end
   RunStops-early l g s old new end is early source output (out, sent, h) =
       record {
@@ -99,7 +99,7 @@ module _ (room : ℕ) (held held' : Option (List ℕ)) (bytes : List ℕ) (befor
       }
 
 -- what a run comes to whose bytes are at the front of the output
-pub RunsAs-to : (l : Limits) (p : Program) (input output bytes : List ℕ) (end : Ended) (n : ℕ) → take n output ≡ bytes →
+pub RunsAs-to : (l : LimitsView) (p : Program) (input output bytes : List ℕ) (end : Ended) (n : ℕ) → take n output ≡ bytes →
     (end ≡ Done → IsOutput (setting_of p no_files) (start_over p input) (to_sink 0 bytes)) →
     (end ≢ Done → RunStops (record l { output = Some (length output) }) (setting_of p no_files) (start_over p input) (length output) bytes end) →
     CallRunsTo l p input output (outcome_of end n)
@@ -114,6 +114,6 @@ RunsAs-to l p input output bytes (OutputBroken k) n same whole stops = rw same (
 RunsAs-to l p input output bytes (OutputFull k) n same whole stops = rw same (stops (λ e. cc))
 
 -- the limits with the output's length as room
-pub RunStops-as : (l l' : Limits) (g : Setting) (s : State) (room room' : ℕ) (bytes : List ℕ) (end : Ended) → l' ≡ record l { output = Some room } → room' ≡ room →
+pub RunStops-as : (l l' : LimitsView) (g : Setting) (s : MachineState) (room room' : ℕ) (bytes : List ℕ) (end : Ended) → l' ≡ record l { output = Some room } → room' ≡ room →
     RunStops l' g s room bytes end → RunStops (record l { output = Some room' }) g s room' bytes end
 RunStops-as l l' g s room room' bytes end is same h = rw same (rw is at h)

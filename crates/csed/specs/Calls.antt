@@ -4,7 +4,7 @@ use Rattle.sedscript.specs.Script.{Means}
 use Rattle.sedscript.specs.FirstFault.{Faulty}
 use Rattle.sedscript.specs.Program.{Program}
 use Rattle.sedscript.specs.declared.types.ScriptFault.{ScriptFault}
-use Rattle.sedengine.specs.State.{Limits, Setting, State, setting_of}
+use Rattle.sedengine.specs.State.{LimitsView, Setting, MachineState, setting_of}
 use Rattle.sedengine.specs.LimitRanges.{AreLimits, limits_of}
 use Rattle.sedengine.specs.Move.{to_sink}
 use Rattle.sedengine.specs.Ends.{IsCause}
@@ -21,7 +21,7 @@ abbrev pub has_flag : ℕ → ℕ → Bool
 has_flag flags flag = not (bit_and flags flag == 0)
 
 -- the limits that are given
-abbrev pub limits_given : SedLimits → Limits
+abbrev pub limits_given : SedLimits → LimitsView
 limits_given l = limits_of l.space l.queue l.look l.turns l.nodes
 
 -- what flags and limits ask for: flag 1 chooses extended expressions, as -E does, and flag 2 suppresses default output, as
@@ -70,7 +70,7 @@ IsBeginning text a input bytes =
 
 -- A run from the state s stopped for a cause that is true after some moves, with these bytes written, all of them to the
 -- standard output; F8 at exactly the room. Memory is no device that fails: neither F6 nor F7 is a cause.
-pub record RunStops (l : Limits) (g : Setting) (s : State) (room : ℕ) (bytes : List ℕ) (end : Ended) : Type 0 where
+pub record RunStops (l : LimitsView) (g : Setting) (s : MachineState) (room : ℕ) (bytes : List ℕ) (end : Ended) : Type 0 where
   pub early : end ≢ Done
   pub input : end ≢ InputBroken
   pub output : (k : ℕ) → end ≢ OutputBroken k

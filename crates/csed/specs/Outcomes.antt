@@ -3,7 +3,7 @@
 use Rattle.std.specs.Prelude.{◌≡◌, ℕ, ℤ, pos, List, Some, take, length}
 use Rattle.sedscript.specs.FirstFault.{Faulty}
 use Rattle.sedscript.specs.Program.{Program}
-use Rattle.sedengine.specs.State.{Limits, setting_of}
+use Rattle.sedengine.specs.State.{LimitsView, setting_of}
 use Rattle.sedengine.specs.Move.{to_sink}
 use Rattle.sedengine.specs.Types.{Ended}
 use Rattle.sedengine.specs.Types as ends
@@ -61,7 +61,7 @@ EditsTo text flags l input output (Stopped n end) =
 EditsTo text flags l input output other = MayAsk flags l × IsScriptRefusal text (asked_by flags l) other
 
 -- what the run of a script comes to
-abbrev pub CallRunsTo : Limits → Program → List ℕ → List ℕ → CallOutcome → Type 0
+abbrev pub CallRunsTo : LimitsView → Program → List ℕ → List ℕ → CallOutcome → Type 0
 CallRunsTo l p input output (Done n) = IsOutput (setting_of p no_files) (start_over p input) (to_sink 0 (take n output))
 CallRunsTo l p input output (Stopped n end) =
     RunStops (record l { output = Some (length output) }) (setting_of p no_files) (start_over p input) (length output) (take n output) end

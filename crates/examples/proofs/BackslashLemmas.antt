@@ -68,8 +68,8 @@ between_free byte text from at k e f = record {
   even = let d : at - from ≡ k = omega (arith, e) in ap (λ (m : ℕ). backslashes 0 (take m (drop from text)) % 2) d ∙ f.even;
 }
 
-pub none_before : (may_end : Bool) (byte : ℕ) (text : List ℕ) (from to : ℕ) → Reaches may_end byte 0 (drop from text) from to → NoneUnescaped byte text from to
-none_before may_end byte text from to r = λ at low high u.
+pub nothing_before : (may_end : Bool) (byte : ℕ) (text : List ℕ) (from to : ℕ) → Reaches may_end byte 0 (drop from text) from to → NoneUnescaped byte text from to
+nothing_before may_end byte text from to r = λ at low high u.
     r.none (at - from) (omega (arith, low, high, r.place)) (free_between byte text from at (at - from) (omega (arith, low)) u)
 
 pub nested_last : (may_end : Bool) (byte : ℕ) (text : List ℕ) (from to : ℕ) → Reaches may_end byte 0 (drop from text) from to → ((may_end ≡ true) × (length (drop from text) + from ≡ to)) ⊎ IsUnescaped byte text from to

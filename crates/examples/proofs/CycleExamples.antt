@@ -9,7 +9,7 @@ use Rattle.sedscript.specs.Arguments.{name_from, text_from}
 use Rattle.sedscript.specs.Program.{Program}
 use Rattle.sedspace.specs.Lines.{split_lines, is_newline, HasNoNewline}
 use Rattle.sedengine.specs.Ends.{IsCause, reads, BreaksInLine, LosesPartAfter, size_of}
-use Rattle.sedengine.specs.State.{Limits, setting_of, Setting, State}
+use Rattle.sedengine.specs.State.{LimitsView, setting_of, Setting, MachineState}
 use Rattle.sedengine.specs.LimitRanges.{limits_of}
 use Rattle.sedengine.specs.Move.{next_move, after, start, to_sink, written}
 use Rattle.sedengine.specs.Run.{Cycled, CameToEnd}
@@ -21,7 +21,7 @@ use Rattle.examples.proofs.ComputedRun.{no_files}
 use Rattle.examples.proofs.ComputedScript.{verdict, cutting, walked, Script, is_script}
 
 -- the program's own limits, but that one byte is read ahead
-abbrev one_ahead : Limits
+abbrev one_ahead : LimitsView
 one_ahead = limits_of 1048576 4096 1 18446744073709551615 16384
 
 abbrev input : List ℕ
@@ -53,7 +53,7 @@ first_alone (x ∷ []) a b c e = (let same : a ≡ x = cc in rw same (omega arit
 first_alone (x ∷ y ∷ rest) a b c e = absurd (omega (arith, ap length e, length-append rest (b ∷ c ∷ [])))
 
 -- Where one of three lines was taken, no more bytes are gone than its own, its newline and so many more.
-not_so_many : (g : Setting) (s : State) (a b c old new : List ℕ) (more t : ℕ) → s.lines ≡ a ∷ b ∷ c ∷ [] → (after g s t).lines ≡ b ∷ c ∷ [] →
+not_so_many : (g : Setting) (s : MachineState) (a b c old new : List ℕ) (more t : ℕ) → s.lines ≡ a ∷ b ∷ c ∷ [] → (after g s t).lines ≡ b ∷ c ∷ [] →
     length a + 1 + more + length new < length old → TakesInput g s (Some old) (Some new) more t → ⊥
 not_so_many g s a b c old new more t before later many takes =
     let lines : a ∷ b ∷ c ∷ [] ≡ takes.lines ++ b ∷ c ∷ [] = sym before ∙ takes.are ∙ ap (λ (rest : List (List ℕ)). takes.lines ++ rest) later in
@@ -108,13 +108,13 @@ nothing_front : (xs ys : List (ℕ × ℕ)) → xs ++ ys ≡ [] → xs ≡ []
 nothing_front [] ys e = refl
 nothing_front (x ∷ xs) ys e = cc
 
-first_two : (g : Setting) (s : State) (n : ℕ) → written g s (suc (suc n)) ≡ [] → written g s 2 ≡ []
+first_two : (g : Setting) (s : MachineState) (n : ℕ) → written g s (suc (suc n)) ≡ [] → written g s 2 ≡ []
 unfolding written
 first_two g s zero e = e
 first_two g s (suc n) e = first_two g s n (nothing_front _ _ e)
 
 -- Where the first move asks for no input and the second writes, a line that is gone was given before the source failed.
-dropped_at : (l : Limits) (g : Setting) (s : State) (xs ys line : List ℕ) (t : ℕ) → reads g (after g s 1).tasks ≡ false → (written g s 2 ≡ [] → ⊥) → xs ≡ line ++ 10 ∷ ys →
+dropped_at : (l : LimitsView) (g : Setting) (s : MachineState) (xs ys line : List ℕ) (t : ℕ) → reads g (after g s 1).tasks ≡ false → (written g s 2 ≡ [] → ⊥) → xs ≡ line ++ 10 ∷ ys →
     IsCause l g s [] InputBroken t → BreaksInLine g s (Some xs) (Some ys) l.space t → ⊥
 unfolding after
 dropped_at l g s xs ys line zero quiet writes is cause (taken, are, part) = none_dropped xs ys line _ _ (no_size taken s.lines are) is part
@@ -124,7 +124,7 @@ dropped_at l g s xs ys line (suc (suc n)) quiet writes is cause part = writes (f
 -- An engine that takes the first line and throws it away, since the read after it fails, is none that the contracts allow:
 -- the failure comes with the line gone and nothing written.
 abbrev KeepsItsLine : Program → Type 0
-KeepsItsLine p = (now : State) → CameToEnd one_ahead (setting_of p no_files) (start p.commands (split_lines input)) []
+KeepsItsLine p = (now : MachineState) → CameToEnd one_ahead (setting_of p no_files) (start p.commands (split_lines input)) []
     (record { source = Some input; all = Some input }) (record { source = Some (codes "b\nc\n"); all = Some (codes "b\nc\n") }) now InputBroken → ⊥
 
 line_kept : Script (codes "p") Basic KeepsItsLine

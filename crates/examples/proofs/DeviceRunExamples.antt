@@ -12,7 +12,7 @@ use Rattle.sedscript.specs.Bytes.{past}
 use Rattle.sedscript.specs.Arguments.{name_from, text_from}
 use Rattle.sedspace.specs.Lines.{split_lines}
 use Rattle.sedengine.specs.Ends.{bytes_of_sink, GainedWithin}
-use Rattle.sedengine.specs.State.{Limits}
+use Rattle.sedengine.specs.State.{LimitsView}
 use Rattle.sedengine.specs.Move.{next_move, to_sink}
 use Rattle.sedengine.specs.Select.{selects}
 use Rattle.sedengine.specs.Types.{Done, InputBroken, OutputBroken, OutputFull}
@@ -22,7 +22,7 @@ use Rattle.examples.proofs.ComputedRun.{course, plain, quiet, no_files}
 use Rattle.examples.proofs.LimitWords.{own}
 
 -- the program's own limits, with one on what each sink gains
-abbrev output : ℕ → Limits
+abbrev output : ℕ → LimitsView
 output most = record own { output = Some most }
 
 -- Byte by byte, the second read fails.

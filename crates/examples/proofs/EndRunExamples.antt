@@ -18,17 +18,17 @@ use Rattle.sedengine.specs.Move.{next_move}
 use Rattle.sedengine.specs.Select.{selects}
 use Rattle.sedengine.specs.Substitute.{occurrences_from}
 use Rattle.examples.proofs.ComputedRun.{course, course, plain, no_files}
-use Rattle.sedengine.specs.State.{Limits}
+use Rattle.sedengine.specs.State.{LimitsView}
 use Rattle.sedengine.specs.LimitRanges.{limits_of}
 use Rattle.sedengine.specs.Types.{Done, PatternFull, HoldFull, QueueFull, TurnsSpent, NoPrevious}
 use Rattle.examples.proofs.ComputedEnds.{all_fit, stops_after, EndsBy}
 use Rattle.examples.proofs.LimitWords.{turns}
 
 -- the program's own limits, but for the space or the queue
-abbrev space : ℕ → Limits
+abbrev space : ℕ → LimitsView
 space most = limits_of most 4096 65536 18446744073709551615 16384
 
-abbrev queue : ℕ → Limits
+abbrev queue : ℕ → LimitsView
 queue most = limits_of 1048576 most 65536 18446744073709551615 16384
 
 -- A cycle takes a turn and a command one: the second line has none.

@@ -3,14 +3,14 @@ use Rattle.std.proofs.Common.{◌≡◌, ℕ, zero, suc, ◌+◌, List, [], ◌�
 use Rattle.sedre.specs.declared.types.Kind.{Kind}
 use Rattle.sedre.specs.declared.types.ExprFault.{ExprFault}
 use Rattle.sedre.specs.declared.byte_set.ByteSet.{ByteSet}
-use Rattle.sedre.specs.Tree.{Tree, set, size}
+use Rattle.sedre.specs.Tree.{Tree, byte_of, size}
 use Rattle.sedre.specs.Grammar.{concatenation, ReadsAs}
 use Rattle.sedre.specs.Sets.{only, any_but_zero}
 use Rattle.examples.proofs.ComputedReading.{Outcome, outcome, reads, faulty, unfinished, outcome_holds, Holds}
 
 -- a byte as itself
 abbrev pub byte : ℕ → Tree
-byte n = set (only n)
+byte n = byte_of (only n)
 
 -- the letters a, b, c and x
 abbrev pub a : Tree
@@ -27,7 +27,7 @@ x = byte 120
 
 -- any byte but 0
 abbrev pub any : Tree
-any = set any_but_zero
+any = byte_of any_but_zero
 
 -- each byte of a text as itself
 abbrev pub literally : List ℕ → Tree

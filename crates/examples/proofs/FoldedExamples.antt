@@ -3,7 +3,7 @@
 use Rattle.std.proofs.Common.{true, false, Some, None, refl}
 use Rattle.std.specs.Prelude.{codes, ◌≡◌}
 use Rattle.sedre.specs.declared.types.Kind.TheVariants.{Basic, Extended}
-use Rattle.sedre.specs.Tree.{set, begin, end, seq, group, star}
+use Rattle.sedre.specs.Tree.{byte_of, text_begin, text_end, sequence, grouped, any_copies}
 use Rattle.sedre.specs.Sets.{only, set_of, folded_set}
 use Rattle.sedre.specs.Tokens.{token_at}
 use Rattle.sedre.specs.Brackets.{list_at}
@@ -22,11 +22,11 @@ one_case_of_no_letter : members_from 0 (folded_set (only 42)) ≡ codes "*"
 unfolding set_of
 one_case_of_no_letter = refl
 
-folded_letters : ReadsAs Basic true None (codes "aB") (seq (set (folded_set (only 97))) (set (folded_set (only 66)))) 0
+folded_letters : ReadsAs Basic true None (codes "aB") (sequence (byte_of (folded_set (only 97))) (byte_of (folded_set (only 66)))) 0
 unfolding outcome rest_of token_at
 folded_letters = reads_as refl
 
-folded_group : ReadsAs Extended true None (codes "(a)+") (seq (group 1 (set (folded_set (only 97)))) (star (group 1 (set (folded_set (only 97)))) false)) 1
+folded_group : ReadsAs Extended true None (codes "(a)+") (sequence (grouped 1 (byte_of (folded_set (only 97)))) (any_copies (grouped 1 (byte_of (folded_set (only 97)))) false)) 1
 unfolding outcome rest_of token_at
 folded_group = reads_as refl
 
@@ -34,11 +34,11 @@ folded_any_byte : ReadsAs Basic true None (codes ".") any 0
 unfolding outcome rest_of token_at
 folded_any_byte = reads_as refl
 
-folded_anchors : ReadsAs Basic true None (codes "^$") (seq begin end) 0
+folded_anchors : ReadsAs Basic true None (codes "^$") (sequence text_begin text_end) 0
 unfolding outcome rest_of token_at
 folded_anchors = reads_as refl
 
-folded_star : ReadsAs Basic true None (codes "^*") (seq begin (byte 42)) 0
+folded_star : ReadsAs Basic true None (codes "^*") (sequence text_begin (byte 42)) 0
 unfolding outcome rest_of token_at
 folded_star = reads_as refl
 

@@ -16,7 +16,7 @@ use Rattle.sedscript.specs.Program.{Program}
 use Rattle.sedspace.specs.Lines.{is_newline, split_lines}
 use Rattle.sedengine.specs.Ends.{RanWhole, WithinLimits}
 use Rattle.sedengine.specs.Move.{line_to, next_move, start, to_sink}
-use Rattle.sedengine.specs.State.{setting_of, begin, do_at, flush, join, rebegin, Setting, State, Task}
+use Rattle.sedengine.specs.State.{setting_of, begin, do_at, flush, join, rebegin, Setting, MachineState, Task}
 use Rattle.sedengine.specs.Select.{selects}
 use Rattle.sedengine.specs.Types.{Done}
 use Rattle.sedengine.proofs.Gains.{to_sink-append}
@@ -65,7 +65,7 @@ line_first line rest = sym (to_sink-append 0 (line ++ 10 ∷ []) rest) ∙ ap (t
 
 -- ---- the moves
 
-abbrev state : (lines : List (List ℕ)) (number : ℕ) (pattern : List ℕ) → List Task → (turns : ℕ) → State
+abbrev state : (lines : List (List ℕ)) (number : ℕ) (pattern : List ℕ) → List Task → (turns : ℕ) → MachineState
 state lines number pattern tasks turns = record {
   lines = lines;
   number = number;
@@ -79,7 +79,7 @@ state lines number pattern tasks turns = record {
   turns = turns;
 }
 
-abbrev Goes : State → State → List (ℕ × ℕ) → Type 0
+abbrev Goes : MachineState → MachineState → List (ℕ × ℕ) → Type 0
 Goes s next bytes = next_move setting s ≡ Some (record { next = next; writes = bytes })
 
 module _ (rest : List (List ℕ)) (number turns : ℕ) (line : List ℕ) where
@@ -139,10 +139,10 @@ fits : {lines : List (List ℕ)} {number : ℕ} {pattern : List ℕ} {tasks : Li
 fits small few = record { pattern = small; hold = omega arith; queue = omega arith; turns = few }
 
 -- a run comes to its end after some moves
-abbrev Comes : State → List (ℕ × ℕ) → Type 0
+abbrev Comes : MachineState → List (ℕ × ℕ) → Type 0
 Comes s out = (t : ℕ) × RanWhole own setting s out Done t
 
-first : {s next : State} {bytes out : List (ℕ × ℕ)} → Goes s next bytes → WithinLimits own s → Comes next out → Comes s (bytes ++ out)
+first : {s next : MachineState} {bytes out : List (ℕ × ℕ)} → Goes s next bytes → WithinLimits own s → Comes next out → Comes s (bytes ++ out)
 first go within rest = (suc rest.0, whole_first go within rest.1)
 
 ended : (number turns : ℕ) → turns ≤ 18446744073709551615 → RanWhole own setting (state [] number [] [] turns) [] Done 0

@@ -9,7 +9,7 @@ use Rattle.sedscript.specs.declared.types.Command.{Command}
 use Rattle.sedspace.specs.Lines.{split_lines}
 use Rattle.sedengine.specs.Ends.{RanWhole, WithinLimits}
 use Rattle.sedengine.specs.Move.{after, next_move, start, to_sink, written}
-use Rattle.sedengine.specs.State.{setting_of, do_at, State, Move, Setting}
+use Rattle.sedengine.specs.State.{setting_of, do_at, MachineState, Move, Setting}
 use Rattle.sedengine.specs.Select.{selects}
 use Rattle.sedengine.specs.Types.{Ended, Done, TurnsSpent}
 use Rattle.examples.proofs.ComputedEnds.{all_fit, whole_after, whole_first, stops_whole, within_so, StopsBy}
@@ -25,7 +25,7 @@ abbrev setting : ℕ → Setting
 setting n = setting_of (program 65536 n) no_files
 
 -- before a command, where so many turns were taken
-abbrev before : (ranges : List Bool) (k taken : ℕ) → State
+abbrev before : (ranges : List Bool) (k taken : ℕ) → MachineState
 before ranges k taken = record {
   lines = [];
   number = 1;
@@ -60,7 +60,7 @@ unfolding next_move selects
 enters n k taken ranges below = rw (command_there n k (always (Block n)) below) refl
 
 -- a run comes to an end, after some moves
-abbrev Comes : (most n : ℕ) → State → Ended → List (ℕ × ℕ) → Type 0
+abbrev Comes : (most n : ℕ) → MachineState → Ended → List (ℕ × ℕ) → Type 0
 Comes most n s end out = (t : ℕ) × RanWhole (turns most) (setting n) s out end t
 
 -- so many blocks are entered
@@ -95,7 +95,7 @@ spent n k taken ranges below =
     let so : leb taken taken ≡ true = le-leb taken taken (omega arith) in
     record { within = within_so (turns taken) (setting n) 0 (before ranges k taken) (rw so refl); wrote = refl; cause = (refl, (λ none. cc), one_more n k taken ranges below) }
 
-abbrev begins_at : ℕ → State
+abbrev begins_at : ℕ → MachineState
 begins_at n = start (program 65536 n).commands (split_lines input)
 
 begins_first : (n : ℕ) → next_move (setting n) (begins_at n) ≡ Some (record { next = before (map (λ _. false) (program 65536 n).commands) 0 1; writes = [] })

@@ -18,7 +18,7 @@ use Rattle.sedscript.specs.declared.items.ItemOrEnd.TheVariants.{Is}
 use Rattle.sedscript.specs.declared.items.Item.{Item}
 use Rattle.sedscript.specs.Items.{Headed, address_at, addresses_at, addresses_of, with_bang, function_at, item_at, Reading, plainly}
 use Rattle.sedscript.specs.Bytes.{past, belongs}
-use Rattle.sedscript.specs.Script.{Gives, value, CutScript, done, item, IsEnd, Means, commands_of, is_quiet, substitutions_of, tables_of, texts_of, target_fault_in, files_in, block_end, close_in, commands_in}
+use Rattle.sedscript.specs.Script.{Gives, value, CutScript, done, next_item, IsEnd, Means, commands_of, is_quiet, substitutions_of, tables_of, texts_of, target_fault_in, files_in, block_end, close_in, commands_in}
 use Rattle.sedscript.specs.Letters.{becomes_command}
 use Rattle.sedscript.specs.Arguments.{may_end}
 use Rattle.sedscript.specs.Program.{Program}
@@ -100,13 +100,13 @@ module _ (kind : Kind) (most : ℕ) where
       CutScript text kind most 0 at (closings at n) [] to
   cut_closings text zero at to e len each = subst (CutScript text kind most 0 at [] []) (omega (arith, e)) done
   cut_closings text (suc zero) at to e len each =
-      item [] []
+      next_item [] []
       (gives_closing text at (each at (omega arith) (omega (arith, e))) (blank_at_end text (at + 1) (omega (arith, e, len)))
       (ap may_end (slice_get_past text (at + 1) (omega (arith, e, len)))))
       (cut_closings text zero (at + 1) to (omega (arith, e)) len (λ k from before. each k (omega (arith, from)) before))
   cut_closings text (suc (suc n)) at to e len each =
       let next : slice_get text (at + 1) ≡ Some 125 = each (at + 1) (omega arith) (omega (arith, e)) in
-      item [] []
+      next_item [] []
       (gives_closing text at (each at (omega arith) (omega (arith, e))) (blank_after text (at + 1) next) (ap may_end next))
       (cut_closings text (suc n) (at + 1) to (omega (arith, e)) len (λ k from before. each k (omega (arith, from)) before))
 
@@ -114,7 +114,7 @@ module _ (kind : Kind) (most : ℕ) where
       CutScript text kind most 0 at (openings at n ++ is) [] end
   cut_openings text zero at to end is e each rest = subst (λ (x : ℕ). CutScript text kind most 0 x is [] end) (omega (arith, e)) rest
   cut_openings text (suc n) at to end is e each rest =
-      item [] [] (gives_opening kind most text at (each at (omega (arith, e)))) (cut_openings text n (at + 1) to end is (omega (arith, e)) each rest)
+      next_item [] [] (gives_opening kind most text at (each at (omega (arith, e)))) (cut_openings text n (at + 1) to end is (omega (arith, e)) each rest)
 
   cut_blocks : (n : ℕ) → CutScript (blocks n) kind most 0 0 (items_of n) [] (n + n)
   cut_blocks n =

@@ -16,7 +16,7 @@ use Rattle.sedscript.specs.declared.letters.Verb.TheVariants.{Open}
 use Rattle.sedscript.specs.declared.items.Argument.TheVariants.{Nothing}
 use Rattle.sedscript.specs.Items.{Headed, address_at, addresses_at, addresses_of, with_bang, function_at, item_at, Reading, plainly}
 use Rattle.sedscript.specs.Bytes.{belongs, past}
-use Rattle.sedscript.specs.Script.{Gives, value, CutScript, done, item, IsEnd, target_fault, close_in}
+use Rattle.sedscript.specs.Script.{Gives, value, CutScript, done, next_item, IsEnd, target_fault, close_in}
 use Rattle.sedscript.specs.FirstFault.{Faulty, afterwards}
 use Rattle.examples.proofs.ScriptWords.{fault_at}
 
@@ -81,7 +81,7 @@ module _ (kind : Kind) (most : ℕ) where
   cut_at : (text : List ℕ) (n at to : ℕ) → at + n ≡ to → ((k : ℕ) → k < to → slice_get text k ≡ Some 123) → CutScript text kind most 0 at (openings at n) [] to
   cut_at text zero at to e each = subst (CutScript text kind most 0 at [] []) (omega (arith, e)) done
   cut_at text (suc n) at to e each =
-      item [] [] (gives_opening text at (each at (omega (arith, e)))) (cut_at text n (at + 1) to (omega (arith, e)) each)
+      next_item [] [] (gives_opening text at (each at (omega (arith, e)))) (cut_at text n (at + 1) to (omega (arith, e)) each)
 
 pub ends : (text : List ℕ) (at : ℕ) → length text ≤ at → IsEnd text at
 unfolding past

@@ -9,7 +9,7 @@ use Rattle.sedre.specs.declared.syntax.Token.{Token}
 use Rattle.sedre.specs.declared.syntax.Token.TheVariants.{Open}
 use Rattle.sedre.specs.declared.syntax.Symbol.TheVariants.{Opening}
 use Rattle.sedre.specs.declared.syntax.NextToken.TheVariants.{Is, Ends}
-use Rattle.sedre.specs.Grammar.{CutExpression, done, item, open_groups, unclosed, ExprFaulty}
+use Rattle.sedre.specs.Grammar.{CutExpression, done, next_item, open_groups, unclosed, ExprFaulty}
 use Rattle.sedre.specs.Tokens.{token_at, front_symbol}
 
 -- so many openings, as bytes and as items
@@ -45,7 +45,7 @@ cut_at : (text : List ℕ) (n at to : ℕ) (before : Option Token) → at + n �
 cut_at text zero at to before e each = subst (CutExpression Extended false None text before at []) (omega (arith, e)) done
 cut_at text (suc n) at to before e each =
     let here = each at (omega (arith, e)) in
-    item (opens_at text before at here.0 here.1) (cut_at text n (at + 1) to (Some Open) (omega (arith, e)) each)
+    next_item (opens_at text before at here.0 here.1) (cut_at text n (at + 1) to (Some Open) (omega (arith, e)) each)
 
 all_open : (n m : ℕ) → open_groups m (items_of n) ≡ Some (m + n)
 all_open zero m = ap (λ (k : ℕ). Some k) (omega arith)

@@ -2,11 +2,11 @@
 use Rattle.std.proofs.Common.{◌≡◌, ◌≤◌, ℕ, zero, suc, [], ◌∷◌, false, true, Some, inl, inr, refl, subst, arith}
 use Rattle.std.specs.Prelude.{codes, slice_get}
 use Rattle.sedre.specs.Sets.{set_of, only, any_but_zero}
-use Rattle.sedre.specs.Tree.{set, begin, end, seq, alt, star}
+use Rattle.sedre.specs.Tree.{byte_of, text_begin, text_end, sequence, either_of, any_copies}
 use Rattle.sedmatch.specs.Spans.{Matches, IsIn, CopiesLead, IsLeftmostLongest, NotFound, no_copy, one_more}
 
 -- Of a and ab the longer one is the match.
-longest_alternative : IsLeftmostLongest (alt (set (only 97)) (seq (set (only 97)) (set (only 98)))) (codes "ab") 0 0 2
+longest_alternative : IsLeftmostLongest (either_of (byte_of (only 97)) (sequence (byte_of (only 97)) (byte_of (only 98)))) (codes "ab") 0 0 2
 unfolding set_of
 longest_alternative = record {
   after = omega arith;
@@ -16,7 +16,7 @@ longest_alternative = record {
 }
 
 -- The anchor $ holds at the end alone.
-dollar_at_the_end : IsLeftmostLongest (seq (set (only 98)) end) (codes "ab") 0 1 2
+dollar_at_the_end : IsLeftmostLongest (sequence (byte_of (only 98)) text_end) (codes "ab") 0 1 2
 unfolding set_of
 dollar_at_the_end = record {
   after = omega arith;
@@ -26,7 +26,7 @@ dollar_at_the_end = record {
 }
 
 -- Both anchors hold in an empty text.
-anchors_of_the_empty_text : IsLeftmostLongest (seq end begin) [] 0 0 0
+anchors_of_the_empty_text : IsLeftmostLongest (sequence text_end text_begin) [] 0 0 0
 anchors_of_the_empty_text = record {
   after = omega arith;
   spans = (0, (refl, refl), (refl, refl));
@@ -35,14 +35,14 @@ anchors_of_the_empty_text = record {
 }
 
 -- The anchor ^ holds at the beginning alone.
-caret_later : NotFound (seq begin (set (only 97))) (codes "aaa") 1
+caret_later : NotFound (sequence text_begin (byte_of (only 97))) (codes "aaa") 1
 caret_later = λ i k from within s. omega (arith, from, s.1.0)
 
-caret_within : NotFound (seq (set (only 97)) (seq begin (set (only 98)))) (codes "ab") 0
+caret_within : NotFound (sequence (byte_of (only 97)) (sequence text_begin (byte_of (only 98)))) (codes "ab") 0
 caret_within = λ i k from within s. omega (arith, s.1.3, s.2.1.0)
 
 -- No copy of an x lies within abc.
-only_empty : (k : ℕ) → CopiesLead (Matches (set (only 120)) (codes "abc")) k 1 → k ≤ 1
+only_empty : (k : ℕ) → CopiesLead (Matches (byte_of (only 120)) (codes "abc")) k 1 → k ≤ 1
 unfolding set_of
 only_empty _ no_copy = omega arith
 only_empty k (one_more i m less copy rest) =
@@ -50,7 +50,7 @@ only_empty k (one_more i m less copy rest) =
     let within : false ≡ true = subst (λ (n : ℕ). IsIn n (only 120)) byte_is copy.2 in
     absurd cc
 
-no_copies : IsLeftmostLongest (star (set (only 120)) true) (codes "abc") 1 1 1
+no_copies : IsLeftmostLongest (any_copies (byte_of (only 120)) true) (codes "abc") 1 1 1
 no_copies = record {
   after = omega arith;
   spans = no_copy;
@@ -64,7 +64,7 @@ only_nul zero byte within e = cc
 only_nul (suc zero) byte within e = absurd cc
 only_nul (suc (suc i)) byte within e = absurd (omega (arith, within))
 
-nul_and_any_byte : NotFound (set any_but_zero) (0 ∷ []) 0
+nul_and_any_byte : NotFound (byte_of any_but_zero) (0 ∷ []) 0
 unfolding set_of
 nul_and_any_byte = λ i k from within s.
     let member : false ≡ true = subst (λ (n : ℕ). IsIn n any_but_zero) (only_nul i s.0 within s.1) s.2 in absurd cc

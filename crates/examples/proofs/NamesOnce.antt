@@ -120,7 +120,7 @@ each_once : (names : Names) → EachOnce names (distinct names)
 each_once names = record {
   of_them = of_them names;
   all = all_there names;
-  none_twice = apart names (distinct names) (in_order names);
+  unrepeated = apart names (distinct names) (in_order names);
   in_order = in_order names;
 }
 

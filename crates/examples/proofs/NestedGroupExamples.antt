@@ -3,7 +3,7 @@ use Rattle.std.proofs.Common.{◌≡◌, ℕ, zero, suc, ◌≤◌, List, ◌∷
 use Rattle.std.specs.Prelude.{codes, replicate, slice_set}
 use Rattle.std.proofs.lemmas.Option.{slice_get_within}
 use Rattle.sedre.specs.declared.types.Kind.TheVariants.{Extended}
-use Rattle.sedre.specs.Tree.{Tree, set, group}
+use Rattle.sedre.specs.Tree.{Tree, byte_of, grouped}
 use Rattle.sedre.specs.Sets.{set_of, only}
 use Rattle.sedre.specs.Tokens.{token_at}
 use Rattle.sedre.specs.Grammar.{ReadsAs}
@@ -19,8 +19,8 @@ text = codes "a"
 
 -- an a in so many groups, numbered from k on
 abbrev in_groups : (k n : ℕ) → Tree
-in_groups k zero = set (only 97)
-in_groups k (suc n) = group k (in_groups (suc k) n)
+in_groups k zero = byte_of (only 97)
+in_groups k (suc n) = grouped k (in_groups (suc k) n)
 
 -- The match is the a.
 

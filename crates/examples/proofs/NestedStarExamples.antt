@@ -5,25 +5,25 @@ use Rattle.std.specs.Prelude.{codes, replicate, slice_get, slice_set}
 use Rattle.std.proofs.lemmas.Option.{slice_get_within, get_or_from_slice_get}
 use Rattle.std.proofs.lemmas.List.{length-replicate, get_or-replicate}
 use Rattle.sedre.specs.declared.types.Kind.TheVariants.{Extended}
-use Rattle.sedre.specs.Tree.{Tree, set, seq, group, star}
+use Rattle.sedre.specs.Tree.{Tree, byte_of, sequence, grouped, any_copies}
 use Rattle.sedre.specs.Sets.{set_of, only}
 use Rattle.sedre.specs.Tokens.{token_at}
 use Rattle.sedre.specs.Grammar.{ReadsAs}
 use Rattle.examples.proofs.ComputedReading.{outcome, rest_of, reads_as}
 use Rattle.sedmatch.specs.Spans.{Matches, IsIn, CopiesLead, no_copy, one_more, IsLeftmostLongest}
-use Rattle.sedmatch.specs.Caps.{LastCopy, only as only_copy, then, IsReport}
+use Rattle.sedmatch.specs.Caps.{LastCopy, only as only_copy, then_copy, IsReport}
 use Rattle.sedmatch.specs.Groups.{no_groups}
 use Rattle.examples.proofs.ComputedSearch.{Finds, FindsNothing, spans_are}
 
 abbrev a : Tree
-a = set (only 97)
+a = byte_of (only 97)
 
 abbrev b : Tree
-b = set (only 98)
+b = byte_of (only 98)
 
 -- (a*)*b
 abbrev nested : Tree
-nested = seq (star (group 1 (star a true)) true) b
+nested = sequence (any_copies (grouped 1 (any_copies a true)) true) b
 
 nested_reads : ReadsAs Extended false None (codes "(a*)*b") nested 1
 unfolding outcome rest_of token_at
@@ -66,7 +66,7 @@ last_a w zero i j e each = (i, only_copy i (omega arith) (copy_of_a w i j (omega
 last_a w (suc n) i j e each =
     let later = last_a w n (i + 1) j (omega arith) each in (
       later.0,
-      then i (i + 1) later.0 (omega arith) (omega arith) (copy_of_a w i (i + 1) refl (each i (omega arith)))
+      then_copy i (i + 1) later.0 (omega arith) (omega arith) (copy_of_a w i (i + 1) refl (each i (omega arith)))
           (copies_of_a w (suc n) (i + 1) j (omega arith) each) (λ l up s on. omega (arith, s.3)) later.1,
     )
 
@@ -167,7 +167,7 @@ b_after_many n = record {
 -- A star more: ((a*)*)*b
 
 abbrev pub twice_nested : Tree
-twice_nested = seq (star (group 1 (star (group 2 (star a true)) true)) true) b
+twice_nested = sequence (any_copies (grouped 1 (any_copies (grouped 2 (any_copies a true)) true)) true) b
 
 twice_nested_reads : ReadsAs Extended false None (codes "((a*)*)*b") twice_nested 2
 unfolding outcome rest_of token_at
@@ -182,7 +182,7 @@ nothing_twice_nested n p = record {
 }
 
 -- the a are one copy of the inner star
-one_copy_of_a : (n : ℕ) → 0 < n → CopiesLead (Matches (group 2 (star a true)) (with_b n)) n 0
+one_copy_of_a : (n : ℕ) → 0 < n → CopiesLead (Matches (grouped 2 (any_copies a true)) (with_b n)) n 0
 one_copy_of_a n some = one_more 0 n some (copies_of_a (with_b n) n 0 n (omega arith) (each_a n)) no_copy
 
 found_twice_nested : (n : ℕ) → 0 < n → IsLeftmostLongest twice_nested (with_b n) 0 0 (n + 1)

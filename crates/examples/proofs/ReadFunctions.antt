@@ -29,7 +29,7 @@ use Rattle.sedscript.specs.Strings.{string_end, exceeds, replacement_fault, is_l
 use Rattle.sedscript.specs.Items.{Reading, plainly, expression, ◌>>=◌, Addressed, line_address, folds_at, match_at, own_match, address_of, address_at, with_second, second_at, after_first, addresses_at, with_bang, substitute_with, substitute_at, argument_with, function_at, item_from, item_at, match_to, function_after, item_with, item_of}
 use Rattle.sedscript.specs.Arguments.{to_command_end, may_end, text_from, name_from, spanned, no_flags, with_flag_number, with_number, with_flag, flags_from, own_delimiter, strings_after, substitute_strings, transliterate_strings, unless_fault, flags_after, with_file, ends_flags, folds}
 use Rattle.sedscript.specs.Letters.{argument_of, allowed, verb_of, most_addresses, transliterate_at, substituted}
-use Rattle.sedscript.specs.Script.{written_in, branch_in, label_in, block_end, depth_after, target_fault_at, target_fault_in, target_fault, Gives, value, after_expression, IsRead, CutScript, done, item, Means, IsEnd}
+use Rattle.sedscript.specs.Script.{written_in, branch_in, label_in, block_end, depth_after, target_fault_at, target_fault_in, target_fault, Gives, value, after_expression, IsRead, CutScript, done, next_item, Means, IsEnd}
 use Rattle.sedscript.specs.FirstFault.{Fails, Faulty, own, no_expression, later, early, afterwards}
 use Rattle.sedscript.specs.Program.{Program}
 use Rattle.examples.specs.Blocks.{IsStray, IsUnclosed}
@@ -427,10 +427,10 @@ module _ (kind : Kind) (max_nodes : ℕ) (text : List ℕ) where
 
   all_sound : (count at to : ℕ) (is : List Item) (es : List WrittenExpression) → CutScript text kind max_nodes count at is es to → (k : ℕ) (i : Item) → slice_get is k ≡ Some i → Sound i.argument
   all_sound count at to _ _ done k i e = let no : ◌≡◌ {A = Option Item} None (Some i) = e in absurd cc
-  all_sound count at to _ _ (item {next = next} {i = i} {is = is} es fs given rest) zero j e =
+  all_sound count at to _ _ (next_item {next = next} {i = i} {is = is} es fs given rest) zero j e =
       let same : i ≡ j = cc in
       subst (λ (x : Item). Sound x.argument) same (gives_so SoundHere (item_at text count at) es (Is i next) given (item_walk count at))
-  all_sound count at to _ _ (item {next = next} {i = i} {is = is} es fs given rest) (suc k) j e = all_sound (count + length es) next to is fs rest k j e
+  all_sound count at to _ _ (next_item {next = next} {i = i} {is = is} es fs given rest) (suc k) j e = all_sound (count + length es) next to is fs rest k j e
 
   sound_at : (script : Program) (means : Means text kind max_nodes script) (k : ℕ) (i : Item) (f : Argument) → slice_get means.items k ≡ Some i → i.argument ≡ f → Sound f
   sound_at script means k i f at is = subst Sound is (all_sound 0 0 means.to means.items script.expressions means.judged.cut k i at)

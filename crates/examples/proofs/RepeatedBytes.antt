@@ -106,7 +106,7 @@ repeats_first cs place r = let s = occurred r.occurred in record {
   are = r.are;
   first = s.0;
   stands = s.1;
-  none_before = r.once;
+  nothing_before = r.once;
   there = r.there;
 }
   where

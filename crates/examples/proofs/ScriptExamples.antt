@@ -2,7 +2,7 @@
 use Rattle.std.proofs.Common.{[], ◌∷◌, true, false, Some, None, refl}
 use Rattle.std.specs.Prelude.{codes, ◌≡◌}
 use Rattle.sedre.specs.declared.types.Kind.TheVariants.{Basic, Extended}
-use Rattle.sedre.specs.Tree.{set, seq, alt, group}
+use Rattle.sedre.specs.Tree.{byte_of, sequence, either_of, grouped}
 use Rattle.sedre.specs.Sets.{folded_set, only}
 use Rattle.sedscript.specs.declared.types.Action.TheVariants as action
 use Rattle.sedscript.specs.declared.types.Simple.TheVariants as simple
@@ -149,19 +149,19 @@ expression_with_its_own_delimiter : Script (codes "\\%a%p") Basic (λ s. s.expre
 unfolding verdict cutting walked item_at past function_at addresses_at address_at match_at substitute_at substituted delimiter_at outcome rest_of token_at text_from
 expression_with_its_own_delimiter = is_script refl
 
-escaped_own_delimiter : Script (codes "\\%a\\%%p") Basic (λ s. s.expressions ≡ written_out (seq (byte 97) (byte 37)) 0 ∷ [])
+escaped_own_delimiter : Script (codes "\\%a\\%%p") Basic (λ s. s.expressions ≡ written_out (sequence (byte 97) (byte 37)) 0 ∷ [])
 unfolding verdict cutting walked item_at past function_at addresses_at address_at match_at substitute_at substituted delimiter_at outcome rest_of token_at text_from
 escaped_own_delimiter = is_script refl
 
-folded_expression : Script (codes "/A/Id") Basic (λ s. s.expressions ≡ written_out (set (folded_set (only 65))) 0 ∷ [])
+folded_expression : Script (codes "/A/Id") Basic (λ s. s.expressions ≡ written_out (byte_of (folded_set (only 65))) 0 ∷ [])
 unfolding verdict cutting walked item_at past function_at addresses_at address_at match_at substitute_at substituted delimiter_at outcome rest_of token_at
 folded_expression = is_script refl
 
-extended_expression : Script (codes "/(a|b)/p") Extended (λ s. s.expressions ≡ written_out (group 1 (alt (byte 97) (byte 98))) 1 ∷ [])
+extended_expression : Script (codes "/(a|b)/p") Extended (λ s. s.expressions ≡ written_out (grouped 1 (either_of (byte 97) (byte 98))) 1 ∷ [])
 unfolding verdict cutting walked item_at past function_at addresses_at address_at match_at substitute_at substituted delimiter_at outcome rest_of token_at text_from
 extended_expression = is_script refl
 
-two_folded_expressions : Script (codes "/a/I,/b/Ip") Basic (λ s. s.expressions ≡ written_out (set (folded_set (only 97))) 0 ∷ written_out (set (folded_set (only 98))) 0 ∷ [])
+two_folded_expressions : Script (codes "/a/I,/b/Ip") Basic (λ s. s.expressions ≡ written_out (byte_of (folded_set (only 97))) 0 ∷ written_out (byte_of (folded_set (only 98))) 0 ∷ [])
 unfolding verdict cutting walked item_at past function_at addresses_at address_at second_at match_at substitute_at substituted delimiter_at outcome rest_of token_at text_from
 two_folded_expressions = is_script refl
 

@@ -3,7 +3,7 @@ use Rattle.std.proofs.Common.{◌≡◌, ℕ, suc, ◌+◌, ◌≤◌, ◌==◌,
 use Rattle.std.proofs.lemmas.Bool.{eqb-true, eqb-false}
 use Rattle.sedscript.specs.Strings.{string_end}
 use Rattle.examples.specs.Backslashes.{IsUnescaped, NoneUnescaped}
-use Rattle.examples.proofs.BackslashLemmas.{Reaches, reaches_here, reaches_later, next, none_before, nested_last, odd_more, even_more}
+use Rattle.examples.proofs.BackslashLemmas.{Reaches, reaches_here, reaches_later, next, nothing_before, nested_last, odd_more, even_more}
 
 -- a byte is escaped exactly where an odd number of backslashes comes before it
 abbrev Fits : Bool → ℕ → Type 0
@@ -50,7 +50,7 @@ pub string_ends : (script : List ℕ) (breaks : Bool) (delimiter from to : ℕ) 
     (from ≤ to) × IsUnescaped delimiter script from to × NoneUnescaped delimiter script from to
 string_ends script breaks delimiter from to e =
     let r : Reaches false delimiter 0 (drop from script) from to = string_reaches breaks false delimiter from 0 to (drop from script) refl e in
-    (omega (arith, r.place), by_last (nested_last false delimiter script from to r), none_before false delimiter script from to r)
+    (omega (arith, r.place), by_last (nested_last false delimiter script from to r), nothing_before false delimiter script from to r)
   where
     by_last : ((false ≡ true) × (length (drop from script) + from ≡ to)) ⊎ IsUnescaped delimiter script from to → IsUnescaped delimiter script from to
     by_last (inl e) = let no : ◌≡◌ {A = Bool} false true = e.0 in absurd (cc)

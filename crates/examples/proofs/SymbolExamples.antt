@@ -3,7 +3,7 @@
 use Rattle.std.proofs.Common.{true, false, Some, None, refl}
 use Rattle.std.specs.Prelude.{codes}
 use Rattle.sedre.specs.declared.types.Kind.TheVariants.{Basic, Extended}
-use Rattle.sedre.specs.Tree.{empty, begin, end, seq, alt, group, star, opt}
+use Rattle.sedre.specs.Tree.{null_string, text_begin, text_end, sequence, either_of, grouped, any_copies, one_or_none}
 use Rattle.sedre.specs.Tokens.{token_at, front_interval}
 use Rattle.sedre.specs.Brackets.{list_at}
 use Rattle.sedre.specs.Grammar.{ReadsAs}
@@ -12,19 +12,19 @@ use Rattle.examples.proofs.ExampleWords.{a, b, byte, any, literally, Counts, cou
 
 -- Groups, alternations and any byte. An alternation in a basic expression is this project's own.
 
-group_basic : ReadsAs Basic false None (codes "\\(a\\)") (group 1 a) 1
+group_basic : ReadsAs Basic false None (codes "\\(a\\)") (grouped 1 a) 1
 unfolding outcome rest_of token_at
 group_basic = reads_as refl
 
-group_extended : ReadsAs Extended false None (codes "(a)") (group 1 a) 1
+group_extended : ReadsAs Extended false None (codes "(a)") (grouped 1 a) 1
 unfolding outcome rest_of token_at
 group_extended = reads_as refl
 
-alternation_basic : ReadsAs Basic false None (codes "a\\|b") (alt a b) 0
+alternation_basic : ReadsAs Basic false None (codes "a\\|b") (either_of a b) 0
 unfolding outcome rest_of token_at
 alternation_basic = reads_as refl
 
-alternation_extended : ReadsAs Extended false None (codes "a|b") (alt a b) 0
+alternation_extended : ReadsAs Extended false None (codes "a|b") (either_of a b) 0
 unfolding outcome rest_of token_at
 alternation_extended = reads_as refl
 
@@ -38,38 +38,38 @@ any_byte_extended = reads_as refl
 
 -- Empty groups, alternatives and texts match the null string (this project's own).
 
-empty_group : ReadsAs Extended false None (codes "()") (group 1 empty) 1
+empty_group : ReadsAs Extended false None (codes "()") (grouped 1 null_string) 1
 unfolding outcome rest_of token_at
 empty_group = reads_as refl
 
-empty_group_basic : ReadsAs Basic false None (codes "\\(\\)") (group 1 empty) 1
+empty_group_basic : ReadsAs Basic false None (codes "\\(\\)") (grouped 1 null_string) 1
 unfolding outcome rest_of token_at
 empty_group_basic = reads_as refl
 
-empty_last_alternative : ReadsAs Extended false None (codes "a|") (alt a empty) 0
+empty_last_alternative : ReadsAs Extended false None (codes "a|") (either_of a null_string) 0
 unfolding outcome rest_of token_at
 empty_last_alternative = reads_as refl
 
-empty_first_alternative : ReadsAs Extended false None (codes "|a") (alt empty a) 0
+empty_first_alternative : ReadsAs Extended false None (codes "|a") (either_of null_string a) 0
 unfolding outcome rest_of token_at
 empty_first_alternative = reads_as refl
 
-empty_alternative_in_a_group : ReadsAs Extended false None (codes "(a|)b") (seq (group 1 (alt a empty)) b) 1
+empty_alternative_in_a_group : ReadsAs Extended false None (codes "(a|)b") (sequence (grouped 1 (either_of a null_string)) b) 1
 unfolding outcome rest_of token_at
 empty_alternative_in_a_group = reads_as refl
 
 -- A ^ is an anchor where it is first in a basic expression, and everywhere in an extended one. After a group's
 -- opening or an alternation symbol of a basic expression it is so by this project's own rule.
 
-caret_first : ReadsAs Basic false None (codes "^a") (seq begin a) 0
+caret_first : ReadsAs Basic false None (codes "^a") (sequence text_begin a) 0
 unfolding outcome rest_of token_at
 caret_first = reads_as refl
 
-caret_in_a_group : ReadsAs Basic false None (codes "\\(^a\\)") (group 1 (seq begin a)) 1
+caret_in_a_group : ReadsAs Basic false None (codes "\\(^a\\)") (grouped 1 (sequence text_begin a)) 1
 unfolding outcome rest_of token_at
 caret_in_a_group = reads_as refl
 
-caret_after_an_alternation : ReadsAs Basic false None (codes "a\\|^b") (alt a (seq begin b)) 0
+caret_after_an_alternation : ReadsAs Basic false None (codes "a\\|^b") (either_of a (sequence text_begin b)) 0
 unfolding outcome rest_of token_at
 caret_after_an_alternation = reads_as refl
 
@@ -77,26 +77,26 @@ caret_elsewhere : ReadsAs Basic false None (codes "a^b") (literally (codes "a^b"
 unfolding outcome rest_of token_at
 caret_elsewhere = reads_as refl
 
-caret_twice : ReadsAs Basic false None (codes "^^a") (seq begin (literally (codes "^a"))) 0
+caret_twice : ReadsAs Basic false None (codes "^^a") (sequence text_begin (literally (codes "^a"))) 0
 unfolding outcome rest_of token_at
 caret_twice = reads_as refl
 
-caret_everywhere : ReadsAs Extended false None (codes "a^b") (seq a (seq begin b)) 0
+caret_everywhere : ReadsAs Extended false None (codes "a^b") (sequence a (sequence text_begin b)) 0
 unfolding outcome rest_of token_at
 caret_everywhere = reads_as refl
 
 -- A $ is an anchor where an alternative of a basic expression ends, and everywhere in an extended one. Before a group's
 -- closing or an alternation symbol of a basic expression it is so by this project's own rule.
 
-dollar_last : ReadsAs Basic false None (codes "a$") (seq a end) 0
+dollar_last : ReadsAs Basic false None (codes "a$") (sequence a text_end) 0
 unfolding outcome rest_of token_at
 dollar_last = reads_as refl
 
-dollar_in_a_group : ReadsAs Basic false None (codes "\\(a$\\)") (group 1 (seq a end)) 1
+dollar_in_a_group : ReadsAs Basic false None (codes "\\(a$\\)") (grouped 1 (sequence a text_end)) 1
 unfolding outcome rest_of token_at
 dollar_in_a_group = reads_as refl
 
-dollar_before_an_alternation : ReadsAs Basic false None (codes "a$\\|b") (alt (seq a end) b) 0
+dollar_before_an_alternation : ReadsAs Basic false None (codes "a$\\|b") (either_of (sequence a text_end) b) 0
 unfolding outcome rest_of token_at
 dollar_before_an_alternation = reads_as refl
 
@@ -104,23 +104,23 @@ dollar_elsewhere : ReadsAs Basic false None (codes "a$b") (literally (codes "a$b
 unfolding outcome rest_of token_at
 dollar_elsewhere = reads_as refl
 
-dollar_twice : ReadsAs Basic false None (codes "a$$") (seq a (seq (byte 36) end)) 0
+dollar_twice : ReadsAs Basic false None (codes "a$$") (sequence a (sequence (byte 36) text_end)) 0
 unfolding outcome rest_of token_at
 dollar_twice = reads_as refl
 
-dollar_before_a_star : ReadsAs Basic false None (codes "a$*") (seq a (star (byte 36) true)) 0
+dollar_before_a_star : ReadsAs Basic false None (codes "a$*") (sequence a (any_copies (byte 36) true)) 0
 unfolding outcome rest_of token_at
 dollar_before_a_star = reads_as refl
 
-question_mark_after_an_interval : ReadsAs Basic false None (codes "a\\{2\\}?") (seq (seq a a) (byte 63)) 0
+question_mark_after_an_interval : ReadsAs Basic false None (codes "a\\{2\\}?") (sequence (sequence a a) (byte 63)) 0
 unfolding outcome rest_of token_at front_interval
 question_mark_after_an_interval = reads_as refl
 
-dollar_everywhere : ReadsAs Extended false None (codes "a$b") (seq a (seq end b)) 0
+dollar_everywhere : ReadsAs Extended false None (codes "a$b") (sequence a (sequence text_end b)) 0
 unfolding outcome rest_of token_at
 dollar_everywhere = reads_as refl
 
-only_anchors : ReadsAs Basic false None (codes "^$") (seq begin end) 0
+only_anchors : ReadsAs Basic false None (codes "^$") (sequence text_begin text_end) 0
 unfolding outcome rest_of token_at
 only_anchors = reads_as refl
 
@@ -130,41 +130,41 @@ star_first : ReadsAs Basic false None (codes "*a") (literally (codes "*a")) 0
 unfolding outcome rest_of token_at
 star_first = reads_as refl
 
-star_first_in_a_group : ReadsAs Basic false None (codes "\\(*a\\)") (group 1 (literally (codes "*a"))) 1
+star_first_in_a_group : ReadsAs Basic false None (codes "\\(*a\\)") (grouped 1 (literally (codes "*a"))) 1
 unfolding outcome rest_of token_at
 star_first_in_a_group = reads_as refl
 
-star_after_an_alternation : ReadsAs Basic false None (codes "a\\|*b") (alt a (literally (codes "*b"))) 0
+star_after_an_alternation : ReadsAs Basic false None (codes "a\\|*b") (either_of a (literally (codes "*b"))) 0
 unfolding outcome rest_of token_at
 star_after_an_alternation = reads_as refl
 
-star_after_an_anchor : ReadsAs Basic false None (codes "^*ab") (seq begin (literally (codes "*ab"))) 0
+star_after_an_anchor : ReadsAs Basic false None (codes "^*ab") (sequence text_begin (literally (codes "*ab"))) 0
 unfolding outcome rest_of token_at
 star_after_an_anchor = reads_as refl
 
-star_after_a_literal_star : ReadsAs Basic false None (codes "**") (star (byte 42) true) 0
+star_after_a_literal_star : ReadsAs Basic false None (codes "**") (any_copies (byte 42) true) 0
 unfolding outcome rest_of token_at
 star_after_a_literal_star = reads_as refl
 
 -- A repetition of a repetition is accepted (this project's own). A plain ? after one is a byte in a basic expression.
 
-star_of_a_star : ReadsAs Basic false None (codes "a**") (star (star a true) true) 0
+star_of_a_star : ReadsAs Basic false None (codes "a**") (any_copies (any_copies a true) true) 0
 unfolding outcome rest_of token_at
 star_of_a_star = reads_as refl
 
-star_of_a_star_extended : ReadsAs Extended false None (codes "a**") (star (star a true) true) 0
+star_of_a_star_extended : ReadsAs Extended false None (codes "a**") (any_copies (any_copies a true) true) 0
 unfolding outcome rest_of token_at
 star_of_a_star_extended = reads_as refl
 
-option_of_a_star : ReadsAs Basic false None (codes "a*\\?") (opt (star a true) true) 0
+option_of_a_star : ReadsAs Basic false None (codes "a*\\?") (one_or_none (any_copies a true) true) 0
 unfolding outcome rest_of token_at
 option_of_a_star = reads_as refl
 
-question_mark_after_a_star : ReadsAs Basic false None (codes "a*?") (seq (star a true) (byte 63)) 0
+question_mark_after_a_star : ReadsAs Basic false None (codes "a*?") (sequence (any_copies a true) (byte 63)) 0
 unfolding outcome rest_of token_at
 question_mark_after_a_star = reads_as refl
 
-plus_of_an_option : ReadsAs Extended false None (codes "a?+") (seq (opt a true) (star (opt a true) false)) 0
+plus_of_an_option : ReadsAs Extended false None (codes "a?+") (sequence (one_or_none a true) (any_copies (one_or_none a true) false)) 0
 unfolding outcome rest_of token_at
 plus_of_an_option = reads_as refl
 
@@ -196,11 +196,11 @@ closing_bracket_extended = reads_as refl
 
 -- \n is a newline, \t a tab (this project's own), and a byte that has no meaning after a backslash is itself.
 
-newline_and_tab : ReadsAs Basic false None (codes "\\n\\t") (seq (byte 10) (byte 9)) 0
+newline_and_tab : ReadsAs Basic false None (codes "\\n\\t") (sequence (byte 10) (byte 9)) 0
 unfolding outcome rest_of token_at
 newline_and_tab = reads_as refl
 
-newline_and_tab_extended : ReadsAs Extended false None (codes "\\n\\t") (seq (byte 10) (byte 9)) 0
+newline_and_tab_extended : ReadsAs Extended false None (codes "\\n\\t") (sequence (byte 10) (byte 9)) 0
 unfolding outcome rest_of token_at
 newline_and_tab_extended = reads_as refl
 
@@ -230,11 +230,11 @@ escaped_symbols_extended = reads_as refl
 
 -- Numbers of intervals go up to 255 and may begin with zeros (this project's own).
 
-leading_zeros : ReadsAs Extended false None (codes "a{01,002}") (seq a (opt a false)) 0
+leading_zeros : ReadsAs Extended false None (codes "a{01,002}") (sequence a (one_or_none a false)) 0
 unfolding outcome rest_of token_at front_interval
 leading_zeros = reads_as refl
 
-many_leading_zeros : ReadsAs Extended false None (codes "a{0000}") empty 0
+many_leading_zeros : ReadsAs Extended false None (codes "a{0000}") null_string 0
 unfolding outcome rest_of token_at front_interval
 many_leading_zeros = reads_as refl
 

@@ -7,7 +7,7 @@ use Rattle.sedscript.specs.declared.texts.Inside.TheVariants.{InLine, Escape, Du
 use Rattle.sedscript.specs.Arguments.{text_from, text_end, ends_text, inside_after}
 use Rattle.sedscript.specs.Bytes.{is_byte}
 use Rattle.examples.specs.Backslashes.{IsUnescaped, NoneUnescaped}
-use Rattle.examples.proofs.BackslashLemmas.{Reaches, reaches_end, reaches_here, reaches_later, next, none_before, nested_last, odd_more, even_more}
+use Rattle.examples.proofs.BackslashLemmas.{Reaches, reaches_end, reaches_here, reaches_later, next, nothing_before, nested_last, odd_more, even_more}
 
 -- a text is after a backslash that escapes exactly where an odd number of them comes before
 abbrev Fits : Inside → ℕ → Type 0
@@ -68,7 +68,7 @@ ends_from : (script : List ℕ) (how : Inside) (begin end : ℕ) → Fits how 0 
 ends_from script how begin end f low e =
     let r : Reaches true 10 0 (drop begin script) begin end = text_reaches how begin 0 end (drop begin script) f e in
     let long = length-drop begin script in
-    (omega (arith, r.place), omega (arith, r.place, r.within, long), none_before true 10 script begin end r, by_last (nested_last true 10 script begin end r))
+    (omega (arith, r.place), omega (arith, r.place, r.within, long), nothing_before true 10 script begin end r, by_last (nested_last true 10 script begin end r))
   where
     by_last : ((true ≡ true) × (length (drop begin script) + begin ≡ end)) ⊎ IsUnescaped 10 script begin end → (end ≡ length script) ⊎ IsUnescaped 10 script begin end
     by_last (inl e) = inl (omega (arith, e.1, low, length-drop begin script))

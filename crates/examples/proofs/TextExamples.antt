@@ -3,7 +3,7 @@
 use Rattle.std.proofs.Common.{[], ◌∷◌, true, Some, None, refl}
 use Rattle.std.specs.Prelude.{codes, ◌≡◌}
 use Rattle.sedre.specs.declared.types.Kind.TheVariants.{Basic}
-use Rattle.sedre.specs.Tree.{set, seq}
+use Rattle.sedre.specs.Tree.{byte_of, sequence}
 use Rattle.sedre.specs.Sets.{folded_set, only}
 use Rattle.sedscript.specs.declared.types.Action.TheVariants as action
 use Rattle.sedscript.specs.declared.types.Simple.TheVariants as simple
@@ -231,11 +231,11 @@ slash_in_a_list : Script (codes "s/[/]/x/") Basic (λ s. s.substitutions ≡ sub
 unfolding verdict cutting walked item_at past function_at addresses_at address_at match_at substitute_at substituted delimiter_at outcome rest_of token_at list_at list_end
 slash_in_a_list = is_script refl
 
-escaped_bar_as_delimiter : Script (codes "s|a\\|b|x|") Basic (λ s. s.expressions ≡ written_out (seq (byte 97) (seq (byte 124) (byte 98))) 0 ∷ [])
+escaped_bar_as_delimiter : Script (codes "s|a\\|b|x|") Basic (λ s. s.expressions ≡ written_out (sequence (byte 97) (sequence (byte 124) (byte 98))) 0 ∷ [])
 unfolding verdict cutting walked item_at past function_at addresses_at address_at match_at substitute_at substituted delimiter_at outcome rest_of token_at text_from
 escaped_bar_as_delimiter = is_script refl
 
-folded_expression : Script (codes "s/a/x/gI") Basic (λ s. s.expressions ≡ written_out (set (folded_set (only 97))) 0 ∷ [])
+folded_expression : Script (codes "s/a/x/gI") Basic (λ s. s.expressions ≡ written_out (byte_of (folded_set (only 97))) 0 ∷ [])
 unfolding verdict cutting walked item_at past function_at addresses_at address_at match_at substitute_at substituted delimiter_at outcome rest_of token_at text_from
 folded_expression = is_script refl
 

@@ -17,6 +17,6 @@ ComesBefore names a b = (k : ℕ) × (slice_get names k ≡ Some a) × ((j : ℕ
 pub record EachOnce (names once : List (List ℕ)) : Type 0 where
   pub of_them : (i : ℕ) (a : List ℕ) → slice_get once i ≡ Some a → (k : ℕ) × (slice_get names k ≡ Some a)
   pub all : (k : ℕ) (a : List ℕ) → slice_get names k ≡ Some a → (i : ℕ) × (slice_get once i ≡ Some a)
-  pub none_twice : (i j : ℕ) (a : List ℕ) → slice_get once i ≡ Some a → slice_get once j ≡ Some a → i ≡ j
+  pub unrepeated : (i j : ℕ) (a : List ℕ) → slice_get once i ≡ Some a → slice_get once j ≡ Some a → i ≡ j
   pub in_order : (i j : ℕ) (a b : List ℕ) → i < j → slice_get once i ≡ Some a → slice_get once j ≡ Some b →
       ComesBefore names a b

@@ -14,7 +14,7 @@ pub record WritesNumber (bytes : List ℕ) (n : ℕ) : Type 0 where
   pub digits : List ℕ
   pub after : List ℕ
   pub are : bytes ≡ before ++ digits ++ after
-  pub none_before : list_any is_digit before ≡ false
+  pub nothing_before : list_any is_digit before ≡ false
   pub some : 0 < length digits
   pub each : list_all is_digit digits ≡ true
   pub none_after : list_any is_digit after ≡ false

@@ -23,7 +23,7 @@ pub record RepeatsFirst (chars : List Char) (place : ℕ) : Type 0 where
   pub are : chars ≡ before ++ second ∷ after
   pub first : ℕ
   pub stands : slice_get (bytes_of before) first ≡ Some second.byte
-  pub none_before : NoneTwice (bytes_of before)
+  pub nothing_before : NoneTwice (bytes_of before)
   pub there : place ≡ second.place
 
 -- a byte in a string between these delimiters: `\n` for a newline, a backslash before the delimiter and a backslash

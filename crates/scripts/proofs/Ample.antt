@@ -1,6 +1,6 @@
 -- Ends of runs whose states stay within their limits.
 use Rattle.std.proofs.Common.{◌≡◌, ◌⊎◌, inl, inr, ℕ, zero, suc, ◌+◌, ◌-◌, ◌<◌, ◌≤◌, List, [], ◌++◌, length, Option, None, Some, refl, sym, ap, subst, ◌∙◌, append-nil, arith}
-use Rattle.sedengine.specs.State.{Limits, State, Move, Setting}
+use Rattle.sedengine.specs.State.{LimitsView, MachineState, Move, Setting}
 use Rattle.sedengine.specs.Move.{after, next_move, written}
 use Rattle.sedengine.specs.Ends.{WithinLimits, IsCause}
 use Rattle.sedengine.specs.Types.{Ended, Done, PatternFull, HoldFull, QueueFull, TurnsSpent, NoPrevious, InputBroken, OutputBroken, OutputFull}
@@ -9,7 +9,7 @@ use Rattle.examples.proofs.ComputedRun.{stays, stays_still}
 use Rattle.scripts.specs.Ampleness.{NoDevice}
 use Rattle.sedengine.specs.Steps.{next_or_stay}
 
-module _ (g : Setting) (s : State) where
+module _ (g : Setting) (s : MachineState) where
   -- after an end nothing changes, and nothing is written
   pub ended_stays : (n t : ℕ) → (after g s n).tasks ≡ [] → n ≤ t → after g s t ≡ after g s n
   ended_stays n t e h =
@@ -47,33 +47,33 @@ module _ (g : Setting) (s : State) where
   no_move_ended n t e h = elim (before_or_not t n) [
     | inl less ↦
         let at : t + (n - t) ≡ n = omega arith in
-        ap (λ (x : State). x.tasks) (sym (stays g (after g s t) (n - t) h) ∙ sym (after-add g s t (n - t)) ∙ ap (after g s) at) ∙ e
-    | inr more ↦ ap (λ (x : State). x.tasks) (ended_stays n t e more) ∙ e
+        ap (λ (x : MachineState). x.tasks) (sym (stays g (after g s t) (n - t) h) ∙ sym (after-add g s t (n - t)) ∙ ap (after g s) at) ∙ e
+    | inr more ↦ ap (λ (x : MachineState). x.tasks) (ended_stays n t e more) ∙ e
   ]
 
 -- A run whose states are within the limits up to its end, turns to spare, ends in the ordinary way, where no device has failed or
 -- is full.
-pub ends_done : (l : Limits) (g : Setting) (s : State) (out : List (ℕ × ℕ)) (n : ℕ) (all : List (ℕ × ℕ)) → (after g s n).tasks ≡ [] → written g s n ≡ all →
+pub ends_done : (l : LimitsView) (g : Setting) (s : MachineState) (out : List (ℕ × ℕ)) (n : ℕ) (all : List (ℕ × ℕ)) → (after g s n).tasks ≡ [] → written g s n ≡ all →
     ((k : ℕ) → k ≤ n → WithinLimits l (after g s k)) → ((k : ℕ) → k ≤ n → (after g s k).turns < l.turns) → (end : Ended) (t : ℕ) → NoDevice end → IsCause l g s out end t → (end ≡ Done) × (out ≡ all)
 ends_done l g s out n all ended wrote fits spare Done t free c = (refl, sym c.wrote ∙ both_ended g s n t ended c.cause ∙ wrote)
 ends_done l g s out n all ended wrote fits spare (PatternFull i) t free c =
     let lead = c.cause in
     let f = fits (suc t) (moves_before g s n t lead.0 ended lead.1) in
-    let low : length lead.0.next.pattern ≤ l.space = subst (λ (x : State). length x.pattern ≤ l.space) (next_is g s t lead.0 lead.1) f.pattern in
+    let low : length lead.0.next.pattern ≤ l.space = subst (λ (x : MachineState). length x.pattern ≤ l.space) (next_is g s t lead.0 lead.1) f.pattern in
     absurd (omega (arith, lead.4))
 ends_done l g s out n all ended wrote fits spare (HoldFull i) t free c =
     let lead = c.cause in
     let f = fits (suc t) (moves_before g s n t lead.0 ended lead.1) in
-    let low : length lead.0.next.hold ≤ l.space = subst (λ (x : State). length x.hold ≤ l.space) (next_is g s t lead.0 lead.1) f.hold in
+    let low : length lead.0.next.hold ≤ l.space = subst (λ (x : MachineState). length x.hold ≤ l.space) (next_is g s t lead.0 lead.1) f.hold in
     absurd (omega (arith, lead.4))
 ends_done l g s out n all ended wrote fits spare (QueueFull i) t free c =
     let lead = c.cause in
     let f = fits (suc t) (moves_before g s n t lead.0 ended lead.1) in
-    let low : length lead.0.next.queue ≤ l.queue = subst (λ (x : State). length x.queue ≤ l.queue) (next_is g s t lead.0 lead.1) f.queue in
+    let low : length lead.0.next.queue ≤ l.queue = subst (λ (x : MachineState). length x.queue ≤ l.queue) (next_is g s t lead.0 lead.1) f.queue in
     absurd (omega (arith, lead.4))
 ends_done l g s out n all ended wrote fits spare TurnsSpent t free c = elim (before_or_not g s t n) [
   | inl less ↦ absurd (let few = spare t (omega arith) in omega (arith, c.cause.0))
-  | inr more ↦ absurd (let few = spare n (omega arith) in let same = ap (λ (x : State). x.turns) (ended_stays g s n t ended more) in omega (arith, c.cause.0, same))
+  | inr more ↦ absurd (let few = spare n (omega arith) in let same = ap (λ (x : MachineState). x.turns) (ended_stays g s n t ended more) in omega (arith, c.cause.0, same))
 ]
 ends_done l g s out n all ended wrote fits spare (NoPrevious i) t free c =
     absurd (c.cause.2 (no_move_ended g s n t ended c.cause.3))

@@ -13,7 +13,7 @@ use Rattle.sedscript.specs.declared.types.BranchUse.TheVariants.{Always, IfRepla
 use Rattle.sedscript.specs.declared.types.FileUse.TheVariants.{Read, Write}
 use Rattle.sedscript.specs.declared.types.TextUse.TheVariants.{Append, Change, Insert}
 use Rattle.sedscript.specs.declared.substitution.Substitution.{Substitution}
-use Rattle.sedengine.specs.State.{Entry, text_entry, file_entry, Task, begin, rebegin, do_at, print_pattern, empty_pattern, flush, copy, fetch, join, State, Move, Setting}
+use Rattle.sedengine.specs.State.{Entry, text_entry, file_entry, Task, begin, rebegin, do_at, print_pattern, empty_pattern, flush, copy, fetch, join, MachineState, Move, Setting}
 use Rattle.sedengine.specs.Substitute.{Occurrence}
 use Rattle.sedengine.specs.Select.{Selection, selects, stands_for}
 use Rattle.sedengine.specs.Move.{acts, after, begun_cycle, copies_byte, first_task, flushes, next_move, goes_past, reach, replaces, substitutes, start, written, quietly}
@@ -41,13 +41,13 @@ Clean (fetch ∷ rest) queue = ⊥
 Clean (join ∷ rest) queue = ⊥
 
 -- the pattern space, and whether a substitution was made, are the same, but where a cycle begins with a line
-abbrev SameText : List Task → State → State → Type 0
+abbrev SameText : List Task → MachineState → MachineState → Type 0
 SameText [] s t = Unit {0}
 SameText (begin ∷ rest) s t = Unit {0}
 SameText (task ∷ rest) s t = (t.pattern ≡ s.pattern) × (t.replaced ≡ s.replaced)
 
 -- a state, and one with more lines
-record Alike (more : List (List ℕ)) (s t : State) : Type 0 where
+record Alike (more : List (List ℕ)) (s t : MachineState) : Type 0 where
   lines : t.lines ≡ s.lines ++ more
   queue : t.queue ≡ s.queue
   tasks : t.tasks ≡ s.tasks
@@ -59,7 +59,7 @@ abbrev Both : List (List ℕ) → Option Move → Option Move → Type 0
 Both more (Some m) (Some n) = (n.writes ≡ m.writes) × Alike more m.next n.next
 Both more m n = ⊥
 
-abbrev state : (lines : List (List ℕ)) (number : ℕ) (pattern hold : List ℕ) (replaced : Bool) (queue : List Entry) (ranges : List Bool) (used : Option ℕ) (tasks : List Task) (turns : ℕ) → State
+abbrev state : (lines : List (List ℕ)) (number : ℕ) (pattern hold : List ℕ) (replaced : Bool) (queue : List Entry) (ranges : List Bool) (used : Option ℕ) (tasks : List Task) (turns : ℕ) → MachineState
 state lines number pattern hold replaced queue ranges used tasks turns = record {
   lines = lines;
   number = number;
@@ -74,10 +74,10 @@ state lines number pattern hold replaced queue ranges used tasks turns = record 
 }
 
 module _ (more ls : List (List ℕ)) (n n' : ℕ) (h h' : List ℕ) (q : List Entry) (ra ra' : List Bool) (tu tu' k : ℕ) where
-  abbrev here : List ℕ → Bool → Option ℕ → State
+  abbrev here : List ℕ → Bool → Option ℕ → MachineState
   here p r u = state ls n p h r q ra u (do_at k ∷ []) tu
 
-  abbrev there : List ℕ → Bool → Option ℕ → State
+  abbrev there : List ℕ → Bool → Option ℕ → MachineState
   there p r u = state (ls ++ more) n' p h' r q ra' u (do_at k ∷ []) tu'
 
   goes_same : (writes : List (ℕ × ℕ)) (p : List ℕ) (r : Bool) (u u' : Option ℕ) → Both more (Some (record { next = here p r u; writes = writes })) (Some (record { next = there p r u'; writes = writes }))
@@ -142,7 +142,7 @@ command first negate a = record { first = first; second = None; negate = negate;
 abbrev choice : Bool → Bool → Option ℕ → Selection
 choice selected active used = record { yes = selected; end = false; active = active; used = used }
 
-same_text : (ts : List Task) (s t : State) → t.pattern ≡ s.pattern → t.replaced ≡ s.replaced → SameText ts s t
+same_text : (ts : List Task) (s t : MachineState) → t.pattern ≡ s.pattern → t.replaced ≡ s.replaced → SameText ts s t
 same_text [] s t e f = tt
 same_text (begin ∷ rest) s t e f = tt
 same_text (task ∷ rest) s t e f = (e, f)
@@ -158,10 +158,10 @@ AloneAt g None = Unit {0}
 AloneAt g (Some c) = looks_at_line g.substitutions c ≡ true
 
 module _ (g : Setting) (more ls : List (List ℕ)) (n n' : ℕ) (p h h' : List ℕ) (r : Bool) (q : List Entry) (ra ra' : List Bool) (u u' : Option ℕ) (tu tu' : ℕ) where
-  abbrev one : List Task → State
+  abbrev one : List Task → MachineState
   one ts = state ls n p h r q ra u ts tu
 
-  abbrev other : List Task → State
+  abbrev other : List Task → MachineState
   other ts = state (ls ++ more) n' p h' r q ra' u' ts tu'
 
   performs_both : (k : ℕ) (ts : List Task) (first : Option Address) (negate : Bool) (a : Action) (yes active active' : Bool) (v v' : Option ℕ) → stays_in_line g.substitutions a ≡ true →
@@ -221,30 +221,30 @@ alone_at g (c ∷ cs) h zero = (both (looks_at_line g.substitutions c) (list_all
 alone_at g (c ∷ cs) h (suc k) = alone_at g cs (both (looks_at_line g.substitutions c) (list_all (looks_at_line g.substitutions) cs) h).1 k
 
 -- where no line is left, a run ends at the beginning of a cycle
-ends_at : (g : Setting) (s : State) → s.tasks ≡ begin ∷ [] → s.lines ≡ [] → IsOutput g s []
+ends_at : (g : Setting) (s : MachineState) → s.tasks ≡ begin ∷ [] → s.lines ≡ [] → IsOutput g s []
 unfolding after written
 ends_at g s e none =
     let ends = move_at g s (begin ∷ []) e ∙ ap (begun_cycle s) none in
     record { moves = 1; ended = ap (λ o. (next_or_stay s o).tasks) ends; wrote = ap writes_of ends }
 
 -- the state begins a cycle, and no line is left; or both move
-abbrev Steps : List (List ℕ) → Setting → State → State → Type 0
+abbrev Steps : List (List ℕ) → Setting → MachineState → MachineState → Type 0
 Steps more g s t = ((s.tasks ≡ begin ∷ []) × (s.lines ≡ [])) ⊎ Both more (next_move g s) (next_move g t)
 
 same_fields : (ls ls' : List (List ℕ)) (p p' : List ℕ) (r r' : Bool) (q q' : List Entry) (ts ts' : List Task) (n : ℕ) (h : List ℕ) (ra : List Bool) (u : Option ℕ) (tu : ℕ) → ls ≡ ls' → p ≡ p' → r ≡ r' → q ≡ q' → ts ≡ ts' →
     state ls n p h r q ra u ts tu ≡ state ls' n p' h r' q' ra u ts' tu
 same_fields ls ls' p p' r r' q q' ts ts' n h ra u tu a b c d e = cc
 
-same_state : (t : State) (ls : List (List ℕ)) (p : List ℕ) (r : Bool) (q : List Entry) (ts : List Task) → t.lines ≡ ls → t.pattern ≡ p → t.replaced ≡ r → t.queue ≡ q → t.tasks ≡ ts →
+same_state : (t : MachineState) (ls : List (List ℕ)) (p : List ℕ) (r : Bool) (q : List Entry) (ts : List Task) → t.lines ≡ ls → t.pattern ≡ p → t.replaced ≡ r → t.queue ≡ q → t.tasks ≡ ts →
     t ≡ state ls t.number p t.hold r q t.ranges t.used ts t.turns
 same_state t ls p r q ts a b c d e = same_fields t.lines ls t.pattern p t.replaced r t.queue q t.tasks ts t.number t.hold t.ranges t.used t.turns a b c d e
 
-text_same : (task : Task) (rest : List Task) (s t : State) → GoesOn task → SameText (task ∷ rest) s t → (t.pattern ≡ s.pattern) × (t.replaced ≡ s.replaced)
+text_same : (task : Task) (rest : List Task) (s t : MachineState) → GoesOn task → SameText (task ∷ rest) s t → (t.pattern ≡ s.pattern) × (t.replaced ≡ s.replaced)
 text_same begin rest s t on h = absurd on
 text_same task rest s t on h = h
 
 module _ (g : Setting) (alone : AllAlone g) (more : List (List ℕ)) where
-  begins_both : (ls : List (List ℕ)) (s t : State) → s.lines ≡ ls → Alike more s t → s.tasks ≡ begin ∷ [] → Steps more g s t
+  begins_both : (ls : List (List ℕ)) (s t : MachineState) → s.lines ≡ ls → Alike more s t → s.tasks ≡ begin ∷ [] → Steps more g s t
   begins_both [] s t e a b = inl (b, e)
   begins_both (line ∷ rest) s t e a b =
       let here : next_move g s ≡ begun_cycle s (line ∷ rest) = move_at g s (begin ∷ []) b ∙ ap (begun_cycle s) e in
@@ -252,42 +252,42 @@ module _ (g : Setting) (alone : AllAlone g) (more : List (List ℕ)) where
       let both : Both more (begun_cycle s (line ∷ rest)) (begun_cycle t (line ∷ rest ++ more)) = (refl, record { lines = refl; queue = a.queue; tasks = refl; clean = refl; same = (refl, refl) }) in
       inr (subst (λ x. Both more x (next_move g t)) (sym here) (subst (λ y. Both more (begun_cycle s (line ∷ rest)) y) (sym there) both))
 
-  goes_both : (s t : State) → Alike more s t → (task : Task) (rest : List Task) → s.tasks ≡ task ∷ rest → GoesOn task → Both more (next_move g s) (next_move g t)
+  goes_both : (s t : MachineState) → Alike more s t → (task : Task) (rest : List Task) → s.tasks ≡ task ∷ rest → GoesOn task → Both more (next_move g s) (next_move g t)
   unfolding next_move
   goes_both s t a task rest e on =
       let texts = text_same task rest s t on (subst (λ ts. SameText ts s t) e a.same) in
       let here = same_state s s.lines s.pattern s.replaced s.queue (task ∷ rest) refl refl refl refl e in
       let there = same_state t (s.lines ++ more) s.pattern s.replaced s.queue (task ∷ rest) a.lines texts.0 texts.1 a.queue (a.tasks ∙ e) in
       let both = task_both g more s.lines s.number t.number s.pattern s.hold t.hold s.replaced s.queue s.ranges t.ranges s.used t.used s.turns t.turns (alone_at g g.commands alone) task rest on (subst (λ ts. Clean ts s.queue) e a.clean) in
-      subst (λ (x : State). Both more (next_move g x) (next_move g t)) (sym here) (subst (λ (y : State). Both more (next_move g (record s { tasks = task ∷ rest })) (next_move g y)) (sym there) both)
+      subst (λ (x : MachineState). Both more (next_move g x) (next_move g t)) (sym here) (subst (λ (y : MachineState). Both more (next_move g (record s { tasks = task ∷ rest })) (next_move g y)) (sym there) both)
 
-  steps_by : (s t : State) → Alike more s t → (ts : List Task) → s.tasks ≡ ts → Steps more g s t
+  steps_by : (s t : MachineState) → Alike more s t → (ts : List Task) → s.tasks ≡ ts → Steps more g s t
   steps_by s t a [] e = absurd (subst (λ ts. Clean ts s.queue) e a.clean)
   steps_by s t a (begin ∷ rest) e =
       let c : Clean (begin ∷ rest) s.queue = subst (λ ts. Clean ts s.queue) e a.clean in begins_both s.lines s t refl a (e ∙ ap (λ ts. begin ∷ ts) c.0)
   steps_by s t a (task ∷ rest) e = inr (goes_both s t a task rest e tt)
 
   -- a run over these lines alone ends; over more, the same moves lead to where the others are begun with
-  abbrev Apart : State → List (ℕ × ℕ) → Type 0
-  Apart t out = (u : State) × Goes g t u out × (u.tasks ≡ begin ∷ []) × (u.lines ≡ more) × (u.queue ≡ [])
+  abbrev Apart : MachineState → List (ℕ × ℕ) → Type 0
+  Apart t out = (u : MachineState) × Goes g t u out × (u.tasks ≡ begin ∷ []) × (u.lines ≡ more) × (u.queue ≡ [])
 
   -- a run that begins where no line is left writes nothing
-  nothing_more : (s : State) (n : ℕ) → s.tasks ≡ begin ∷ [] → s.lines ≡ [] → written g s n ≡ []
+  nothing_more : (s : MachineState) (n : ℕ) → s.tasks ≡ begin ∷ [] → s.lines ≡ [] → written g s n ≡ []
   unfolding written
   nothing_more s zero e none = refl
   nothing_more s (suc n) e none =
       let ends = move_at g s (begin ∷ []) e ∙ ap (begun_cycle s) none in
       written_next g s _ n ends ∙ stays_still g (record s { tasks = [] }) n (move_at g (record s { tasks = [] }) [] refl)
 
-  not_ended : (s t : State) → Alike more s t → s.tasks ≡ [] → ⊥
+  not_ended : (s t : MachineState) → Alike more s t → s.tasks ≡ [] → ⊥
   not_ended s t a e = subst (λ ts. Clean ts s.queue) e a.clean
 
-  parts_after : (n : ℕ) (s t : State) (o o' : Option Move) → next_move g s ≡ o → next_move g t ≡ o' → Both more o o' →
-      ((s t : State) → Alike more s t → (after g s n).tasks ≡ [] → Apart t (written g s n)) → (after g s (suc n)).tasks ≡ [] → Apart t (written g s (suc n))
+  parts_after : (n : ℕ) (s t : MachineState) (o o' : Option Move) → next_move g s ≡ o → next_move g t ≡ o' → Both more o o' →
+      ((s t : MachineState) → Alike more s t → (after g s n).tasks ≡ [] → Apart t (written g s n)) → (after g s (suc n)).tasks ≡ [] → Apart t (written g s (suc n))
   parts_after n s t None o' here there both on e = absurd both
   parts_after n s t (Some m) None here there both on e = absurd both
   parts_after n s t (Some m) (Some w) here there both on e =
-      let rest = on m.next w.next both.1 (ap (λ (x : State). x.tasks) (sym (after_next g s m n here)) ∙ e) in (
+      let rest = on m.next w.next both.1 (ap (λ (x : MachineState). x.tasks) (sym (after_next g s m n here)) ∙ e) in (
         rest.0,
         subst (Goes g t rest.0) (ap (λ bytes. bytes ++ written g m.next n) both.0 ∙ sym (written_next g s m n here)) (goes_on (goes_one there) rest.1),
         rest.2,
@@ -295,7 +295,7 @@ module _ (g : Setting) (alone : AllAlone g) (more : List (List ℕ)) where
         rest.4,
       )
 
-  parts : (n : ℕ) (s t : State) → Alike more s t → (after g s n).tasks ≡ [] → Apart t (written g s n)
+  parts : (n : ℕ) (s t : MachineState) → Alike more s t → (after g s n).tasks ≡ [] → Apart t (written g s n)
   unfolding after
   parts zero s t a e = absurd (not_ended s t a e)
   parts (suc n) s t a e = elim (steps_by s t a s.tasks refl) [
@@ -303,7 +303,7 @@ module _ (g : Setting) (alone : AllAlone g) (more : List (List ℕ)) where
     | inr both ↦ parts_after n s t (next_move g s) (next_move g t) refl refl both (parts n) e
   ]
     where
-      begins_clean : (s : State) → s.tasks ≡ begin ∷ [] → Clean s.tasks s.queue → s.queue ≡ []
+      begins_clean : (s : MachineState) → s.tasks ≡ begin ∷ [] → Clean s.tasks s.queue → s.queue ≡ []
       begins_clean s h c = (let d : Clean (begin ∷ []) s.queue = subst (λ ts. Clean ts s.queue) h c in d).1
 
 -- The run over some lines and the run over others, one after the other, are the run over all of them.

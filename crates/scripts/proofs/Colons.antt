@@ -16,7 +16,7 @@ use Rattle.sedscript.specs.Bytes.{past}
 use Rattle.sedscript.specs.Strings.{is_among}
 use Rattle.sedscript.specs.Items.{Reading, plainly, expression, ◌>>=◌, addresses_at, with_bang, argument_with, function_at, item_from, item_at, function_after, item_with}
 use Rattle.sedscript.specs.Letters.{verb_of, most_addresses, allowed}
-use Rattle.sedscript.specs.Script.{Gives, value, after_expression, CutScript, done, item, count_with, is_label, label_in}
+use Rattle.sedscript.specs.Script.{Gives, value, after_expression, CutScript, done, next_item, count_with, is_label, label_in}
 use Rattle.scripts.specs.OneText.{HasLabel}
 
 -- what is so of a value that is read
@@ -93,7 +93,7 @@ item_colon text count at = by_byte (slice_get text (past Separator text at))
 -- the items of a cut, and the label of a name among them
 label_colon : (text : List ℕ) (kind : Kind) (m count at to : ℕ) (is : List Item) (es : List WrittenExpression) (name : List ℕ) (n k : ℕ) → CutScript text kind m count at is es to → label_in text name n is ≡ Some k → (place : ℕ) × (slice_get text place ≡ Some 58)
 label_colon text kind m count at to _ _ name n k done e = absurd cc
-label_colon text kind m count at to _ _ name n k (item {next = next} {i = i} {is = is} es fs given rest) e =
+label_colon text kind m count at to _ _ name n k (next_item {next = next} {i = i} {is = is} es fs given rest) e =
     by_verb i.verb (gives_so (ColonHere text) text kind m (item_at text count at) es (Is i next) given (item_colon text count at)) e (λ e. label_colon text kind m (count + length es) next to is fs name (count_with n i) k rest e)
   where
     by_verb : (verb : Verb) → ColonAt text i.place verb → (if is_label text name verb i.argument then Some n else label_in text name (count_with n i) is) ≡ Some k → (label_in text name (count_with n i) is ≡ Some k → (place : ℕ) × (slice_get text place ≡ Some 58)) → (place : ℕ) × (slice_get text place ≡ Some 58)

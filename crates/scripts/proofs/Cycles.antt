@@ -1,7 +1,7 @@
 -- Moves one after another, and runs to their end.
 use Rattle.std.proofs.Common.{◌≡◌, ℕ, ◌+◌, List, [], ◌∷◌, ◌++◌, Bool, false, Option, refl, sym, ap, ap₂, subst, ◌∙◌, append_assoc, append-nil}
 use Rattle.std.specs.Prelude.{slice_get, if◌then◌else◌, None}
-use Rattle.sedengine.specs.State.{begin, do_at, flush, State, Setting}
+use Rattle.sedengine.specs.State.{begin, do_at, flush, MachineState, Setting}
 use Rattle.sedengine.specs.Move.{next_move, after, written, newline, to_sink, line_to, writing}
 use Rattle.sedengine.proofs.Moves.{after-add, written-add}
 use Rattle.sedengine.proofs.Gains.{to_sink-append}
@@ -10,29 +10,29 @@ use Rattle.scripts.specs.Edited.{text_of}
 use Rattle.sedengine.specs.Steps.{at_end, next_or_stay, writes_of}
 
 -- moves lead from a state to another one, and write this
-pub record Goes (g : Setting) (s now : State) (out : List (ℕ × ℕ)) : Type 0 where
+pub record Goes (g : Setting) (s now : MachineState) (out : List (ℕ × ℕ)) : Type 0 where
   pub moves : ℕ
   pub is : after g s moves ≡ now
   pub wrote : written g s moves ≡ out
 
 -- one move
-pub goes_one : {g : Setting} {s next : State} {out : List (ℕ × ℕ)} → next_move g s ≡ writing out next → Goes g s next out
+pub goes_one : {g : Setting} {s next : MachineState} {out : List (ℕ × ℕ)} → next_move g s ≡ writing out next → Goes g s next out
 unfolding after written
 goes_one {s = s} h = record { moves = 1; is = ap (next_or_stay s) h; wrote = ap writes_of h }
 
 module _ {g : Setting} where
-  pub goes_on : {s mid now : State} {out more : List (ℕ × ℕ)} → Goes g s mid out → Goes g mid now more → Goes g s now (out ++ more)
+  pub goes_on : {s mid now : MachineState} {out more : List (ℕ × ℕ)} → Goes g s mid out → Goes g mid now more → Goes g s now (out ++ more)
   goes_on {s = s} {now = now} {more = more} a b =
-      let c = subst (λ (x : State). Goes g x now more) (sym a.is) b in
+      let c = subst (λ (x : MachineState). Goes g x now more) (sym a.is) b in
       record { moves = a.moves + c.moves; is = after-add g s a.moves c.moves ∙ c.is; wrote = written-add g s a.moves c.moves ∙ ap₂ (λ x y. x ++ y) a.wrote c.wrote }
 
-  pub ends_on : {s mid : State} {out more : List (ℕ × ℕ)} → Goes g s mid out → IsOutput g mid more → IsOutput g s (out ++ more)
+  pub ends_on : {s mid : MachineState} {out more : List (ℕ × ℕ)} → Goes g s mid out → IsOutput g mid more → IsOutput g s (out ++ more)
   ends_on {s = s} {more = more} a b =
-      let c = subst (λ (x : State). IsOutput g x more) (sym a.is) b in
-      record { moves = a.moves + c.moves; ended = ap (λ (x : State). x.tasks) (after-add g s a.moves c.moves) ∙ c.ended; wrote = written-add g s a.moves c.moves ∙ ap₂ (λ x y. x ++ y) a.wrote c.wrote }
+      let c = subst (λ (x : MachineState). IsOutput g x more) (sym a.is) b in
+      record { moves = a.moves + c.moves; ended = ap (λ (x : MachineState). x.tasks) (after-add g s a.moves c.moves) ∙ c.ended; wrote = written-add g s a.moves c.moves ∙ ap₂ (λ x y. x ++ y) a.wrote c.wrote }
 
 -- a state between two cycles
-abbrev pub between : (lines : List (List ℕ)) (number : ℕ) (hold : List ℕ) (replaced : Bool) (ranges : List Bool) (used : Option ℕ) (turns : ℕ) → State
+abbrev pub between : (lines : List (List ℕ)) (number : ℕ) (hold : List ℕ) (replaced : Bool) (ranges : List Bool) (used : Option ℕ) (turns : ℕ) → MachineState
 between lines number hold replaced ranges used turns = record {
   lines = lines;
   number = number;
@@ -47,7 +47,7 @@ between lines number hold replaced ranges used turns = record {
 }
 
 -- a state within a cycle, which reaches command k
-abbrev pub within : (lines : List (List ℕ)) (number : ℕ) (pattern hold : List ℕ) (replaced : Bool) (ranges : List Bool) (used : Option ℕ) (k turns : ℕ) → State
+abbrev pub within : (lines : List (List ℕ)) (number : ℕ) (pattern hold : List ℕ) (replaced : Bool) (ranges : List Bool) (used : Option ℕ) (k turns : ℕ) → MachineState
 within lines number pattern hold replaced ranges used k turns =
     record (between lines number hold replaced ranges used turns) { pattern = pattern; tasks = do_at k ∷ [] }
 
@@ -77,7 +77,7 @@ pub ends_line : (g : Setting) (lines : List (List ℕ)) (number : ℕ) (pattern 
 ends_line g lines number pattern hold replaced ranges used k turns e =
     goes_on (script_ends g lines number pattern hold replaced ranges used k turns e) (line_ends g lines number pattern hold replaced ranges used k turns)
 
-abbrev pub deleted : (lines : List (List ℕ)) (number : ℕ) (hold : List ℕ) (replaced : Bool) (ranges : List Bool) (used : Option ℕ) (turns : ℕ) → State
+abbrev pub deleted : (lines : List (List ℕ)) (number : ℕ) (hold : List ℕ) (replaced : Bool) (ranges : List Bool) (used : Option ℕ) (turns : ℕ) → MachineState
 deleted lines number hold replaced ranges used turns = record (between lines number hold replaced ranges used turns) { tasks = flush ∷ begin ∷ [] }
 
 pub deletes_line : (g : Setting) (lines : List (List ℕ)) (number : ℕ) (hold : List ℕ) (replaced : Bool) (ranges : List Bool) (used : Option ℕ) (turns : ℕ) →
@@ -104,7 +104,7 @@ texts_first a b = sym (to_sink-append 0 (text_of a) (text_of b)) ∙ ap (to_sink
 
 -- Where each cycle takes a line, writes what is written of it, and leads to such a state again, the run writes all of that. `out`
 -- is what is written of lines after so many.
-pub each_line : {X : Type 0} (g : Setting) (at : List (List ℕ) → ℕ → X → State) (out : ℕ → List (List ℕ) → List (List ℕ)) (f : ℕ → List ℕ → List (List ℕ) → List (List ℕ)) →
+pub each_line : {X : Type 0} (g : Setting) (at : List (List ℕ) → ℕ → X → MachineState) (out : ℕ → List (List ℕ) → List (List ℕ)) (f : ℕ → List ℕ → List (List ℕ) → List (List ℕ)) →
     ((number : ℕ) → out number [] ≡ []) → ((number : ℕ) (line : List ℕ) (rest : List (List ℕ)) → out number (line ∷ rest) ≡ f number line rest ++ out (number + 1) rest) →
     ((number : ℕ) (x : X) → IsOutput g (at [] number x) []) →
     ((number : ℕ) (line : List ℕ) (rest : List (List ℕ)) (x : X) → (y : X) × Goes g (at (line ∷ rest) number x) (at rest (number + 1) y) (to_sink 0 (text_of (f number line rest)))) →

@@ -3,7 +3,7 @@ use Rattle.std.proofs.Common.{◌≡◌, ◌≢◌, ◌⊎◌, inl, inr, ℕ, ze
 use Rattle.std.specs.Prelude.{length, slice_get, slice_index_or, slice_set}
 use Rattle.std.proofs.lemmas.List.{get_or-set_other, get_or-set_same, length-set}
 use Rattle.sedscript.specs.declared.types.Command.{Command}
-use Rattle.sedengine.specs.State.{Task, do_at, State, Setting}
+use Rattle.sedengine.specs.State.{Task, do_at, MachineState, Setting}
 use Rattle.sedengine.specs.Move.{after, none_left, written}
 use Rattle.sedengine.proofs.Moves.{after-add, written-add}
 use Rattle.sededit.specs.Editing.{IsOutput}
@@ -13,7 +13,7 @@ use Rattle.examples.proofs.ComputedRun.{after_first as after_next}
 use Rattle.scripts.proofs.Edits.{Edit, Test, block, delete, change, effect, IsEdit, Within, Leads, LeadsOne, one_goes, one_leads, edit_leads}
 
 -- a run goes on from a state that its moves come to
-pub record EndsThen (g : Setting) (now : State) (before out : List (ℕ × ℕ)) : Type 0 where
+pub record EndsThen (g : Setting) (now : MachineState) (before out : List (ℕ × ℕ)) : Type 0 where
   pub more : List (ℕ × ℕ)
   pub ends : IsOutput g now more
   pub all : out ≡ before ++ more
@@ -21,19 +21,19 @@ pub record EndsThen (g : Setting) (now : State) (before out : List (ℕ × ℕ))
 some_task : (task : Task) (rest : List Task) → (◌≡◌ {A = List Task} (task ∷ rest) []) → ⊥
 some_task task rest e = cc
 
-pub ends_then : {g : Setting} {s now : State} {before out : List (ℕ × ℕ)} (task : Task) (rest : List Task) → Goes g s now before → now.tasks ≡ task ∷ rest → IsOutput g s out → EndsThen g now before out
+pub ends_then : {g : Setting} {s now : MachineState} {before out : List (ℕ × ℕ)} (task : Task) (rest : List Task) → Goes g s now before → now.tasks ≡ task ∷ rest → IsOutput g s out → EndsThen g now before out
 ends_then {g = g} {s = s} {now = now} {before = before} {out = out} task rest goes has ends = elim (before_or_not g s ends.moves goes.moves) [
   | inl less ↦
-      absurd (some_task task rest (sym has ∙ ap (λ (x : State). x.tasks) (sym goes.is ∙ ended_stays g s ends.moves goes.moves ends.ended (omega arith)) ∙ ends.ended))
+      absurd (some_task task rest (sym has ∙ ap (λ (x : MachineState). x.tasks) (sym goes.is ∙ ended_stays g s ends.moves goes.moves ends.ended (omega arith)) ∙ ends.ended))
   | inr more ↦
       let left : ℕ = ends.moves - goes.moves in
       let at : goes.moves + left ≡ ends.moves = omega arith in
-      let there : after g now left ≡ after g s ends.moves = ap (λ (x : State). after g x left) (sym goes.is) ∙ sym (after-add g s goes.moves left) ∙ ap (after g s) at in
+      let there : after g now left ≡ after g s ends.moves = ap (λ (x : MachineState). after g x left) (sym goes.is) ∙ sym (after-add g s goes.moves left) ∙ ap (after g s) at in
       let wrote : written g s ends.moves ≡ before ++ written g now left =
-      ap (written g s) (sym at) ∙ written-add g s goes.moves left ∙ ap (λ (bs : List (ℕ × ℕ)). bs ++ written g (after g s goes.moves) left) goes.wrote ∙ ap (λ (x : State). before ++ written g x left) goes.is in
+      ap (written g s) (sym at) ∙ written-add g s goes.moves left ∙ ap (λ (bs : List (ℕ × ℕ)). bs ++ written g (after g s goes.moves) left) goes.wrote ∙ ap (λ (x : MachineState). before ++ written g x left) goes.is in
       record {
         more = written g now left;
-        ends = record { moves = left; ended = ap (λ (x : State). x.tasks) there ∙ ends.ended; wrote = refl };
+        ends = record { moves = left; ended = ap (λ (x : MachineState). x.tasks) there ∙ ends.ended; wrote = refl };
         all = sym ends.wrote ∙ wrote;
       }
 ]
@@ -133,25 +133,25 @@ keeps_set : (to : ℕ → ℕ) (count : ℕ) (ra' : List Bool) (k : ℕ) (v : Bo
 keeps_set to count ra' k v less = record { long = length-set ra' (to k) v; others = λ j h. get_or-set_other ra' (to k) j v false (h k less) }
 
 -- the run of another script does the same
-pub record Follows (g' : Setting) (m : ℕ) (rest : List (List ℕ)) (to : ℕ → ℕ) (count : ℕ) (ranges old : List Bool) (e : Option (ℕ × List ℕ)) (t : State) : Type 0 where
+pub record Follows (g' : Setting) (m : ℕ) (rest : List (List ℕ)) (to : ℕ → ℕ) (count : ℕ) (ranges old : List Bool) (e : Option (ℕ × List ℕ)) (t : MachineState) : Type 0 where
   pub after : List Bool
   pub matches : RangesAgree to count ranges after
   pub keeps : Keeps to count old after
   pub leads : Leads g' m rest after e t
 
 -- one cycle of both
-pub record Cycle (Alike : AreAlike) (g g' : Setting) (count : ℕ) (to : ℕ → ℕ) (Good : List ℕ → Type 0) (n : ℕ) (ls : List (List ℕ)) (ra : List Bool) (k : ℕ) (w : List ℕ) (s : State) : Type 0 where
+pub record Cycle (Alike : AreAlike) (g g' : Setting) (count : ℕ) (to : ℕ → ℕ) (Good : List ℕ → Type 0) (n : ℕ) (ls : List (List ℕ)) (ra : List Bool) (k : ℕ) (w : List ℕ) (s : MachineState) : Type 0 where
   pub result : Option (List ℕ)
   pub good : GoodResult Good result
   pub ranges : List Bool
   pub here : Leads g n ls ranges (result_at count result) s
-  pub there : (m : ℕ) (rest : List (List ℕ)) (ra' : List Bool) (t : State) → Alike n ls m rest → RangesAgree to count ra ra' → Within m rest ra' (to k) w t →
+  pub there : (m : ℕ) (rest : List (List ℕ)) (ra' : List Bool) (t : MachineState) → Alike n ls m rest → RangesAgree to count ra ra' → Within m rest ra' (to k) w t →
       Follows g' m rest to count ranges ra' (result_at (to count) result) t
 
-leads_on : (g : Setting) (s now : State) (n : ℕ) (ls : List (List ℕ)) (ra : List Bool) (e : Option (ℕ × List ℕ)) → Goes g s now [] → Leads g n ls ra e now → Leads g n ls ra e s
+leads_on : (g : Setting) (s now : MachineState) (n : ℕ) (ls : List (List ℕ)) (ra : List Bool) (e : Option (ℕ × List ℕ)) → Goes g s now [] → Leads g n ls ra e now → Leads g n ls ra e s
 leads_on g s now n ls ra e goes on = (on.0, goes_on goes on.1, on.2)
 
-stays_there : (g : Setting) (s : State) → Goes g s s []
+stays_there : (g : Setting) (s : MachineState) → Goes g s s []
 unfolding after written
 stays_there g s = record { moves = 0; is = refl; wrote = refl }
 
@@ -179,7 +179,7 @@ module _ (Alike : AreAlike) (g g' : Setting) (count : ℕ) (to : ℕ → ℕ) (n
   less_or_same (suc k) (suc n) h = elim (less_or_same k n (omega arith)) [ inl less ↦ inl (omega arith) | inr same ↦ inr (ap suc same) ]
 
   -- at the end of the script
-  at_its_end : (n : ℕ) (ls : List (List ℕ)) (ra : List Bool) (w : List ℕ) (s : State) → Good w → Within n ls ra count w s → Cycle Alike g g' count to Good n ls ra count w s
+  at_its_end : (n : ℕ) (ls : List (List ℕ)) (ra : List Bool) (w : List ℕ) (s : MachineState) → Good w → Within n ls ra count w s → Cycle Alike g g' count to Good n ls ra count w s
   at_its_end n ls ra w s good at = record {
     result = Some w;
     good = good;
@@ -190,15 +190,15 @@ module _ (Alike : AreAlike) (g g' : Setting) (count : ℕ) (to : ℕ → ℕ) (n
 
   -- the cycle from a command on, of a run that ends after so many moves
   abbrev CycleWithin : ℕ → Type 0
-  CycleWithin i = (n : ℕ) (ls : List (List ℕ)) (ra : List Bool) (k : ℕ) (w : List ℕ) (s : State) → Within n ls ra k w s → k ≤ count → Good w → (after g s i).tasks ≡ [] → Cycle Alike g g' count to Good n ls ra k w s
+  CycleWithin i = (n : ℕ) (ls : List (List ℕ)) (ra : List Bool) (k : ℕ) (w : List ℕ) (s : MachineState) → Within n ls ra k w s → k ≤ count → Good w → (after g s i).tasks ≡ [] → Cycle Alike g g' count to Good n ls ra k w s
 
   -- by the effect of the first command
-  by_effect : (i : ℕ) → CycleWithin i → (n : ℕ) (ls : List (List ℕ)) (ra now : List Bool) (k : ℕ) (w : List ℕ) (s : State) (e : Option (ℕ × List ℕ)) → FitsEffect count Good e → LeadsOne g n ls now e s → (after g s (suc i)).tasks ≡ [] →
-      ((m : ℕ) (rest : List (List ℕ)) (ra' : List Bool) (t : State) → Alike n ls m rest → RangesAgree to count ra ra' → Within m rest ra' (to k) w t → Follows g' m rest to count now ra' (placed_effect to e) t) →
+  by_effect : (i : ℕ) → CycleWithin i → (n : ℕ) (ls : List (List ℕ)) (ra now : List Bool) (k : ℕ) (w : List ℕ) (s : MachineState) (e : Option (ℕ × List ℕ)) → FitsEffect count Good e → LeadsOne g n ls now e s → (after g s (suc i)).tasks ≡ [] →
+      ((m : ℕ) (rest : List (List ℕ)) (ra' : List Bool) (t : MachineState) → Alike n ls m rest → RangesAgree to count ra ra' → Within m rest ra' (to k) w t → Follows g' m rest to count now ra' (placed_effect to e) t) →
       Cycle Alike g g' count to Good n ls ra k w s
   by_effect i more n ls ra now k w s None fits here ended there = record { result = None; good = tt; ranges = now; here = one_leads g n ls now None s here; there = there }
   by_effect i more n ls ra now k w s (Some next) fits here ended there =
-      let c = more n ls now next.0 next.1 here.0.next here.3 fits.0 fits.1 (ap (λ (x : State). x.tasks) (sym (after_next g s here.0 i here.1)) ∙ ended) in
+      let c = more n ls now next.0 next.1 here.0.next here.3 fits.0 fits.1 (ap (λ (x : MachineState). x.tasks) (sym (after_next g s here.0 i here.1)) ∙ ended) in
       record {
         result = c.result;
         good = c.good;
@@ -215,12 +215,12 @@ module _ (Alike : AreAlike) (g g' : Setting) (count : ℕ) (to : ℕ → ℕ) (n
             };
       }
 
-  not_ended : (n : ℕ) (ls : List (List ℕ)) (ra : List Bool) (k : ℕ) (w : List ℕ) (s : State) → Within n ls ra k w s → s.tasks ≡ [] → ⊥
-  not_ended n ls ra k w s at e = some_task (do_at k) [] (sym (ap (λ (x : State). x.tasks) at.is) ∙ e)
+  not_ended : (n : ℕ) (ls : List (List ℕ)) (ra : List Bool) (k : ℕ) (w : List ℕ) (s : MachineState) → Within n ls ra k w s → s.tasks ≡ [] → ⊥
+  not_ended n ls ra k w s at e = some_task (do_at k) [] (sym (ap (λ (x : MachineState). x.tasks) at.is) ∙ e)
 
   -- the other run at such a command
   follows : (n : ℕ) (ls : List (List ℕ)) (ra : List Bool) (k : ℕ) (w : List ℕ) (less : k < count) (choice : Bool × Bool) → (each k less).on (slice_index_or ra k false) n (none_left ls) w ≡ choice →
-      (m : ℕ) (rest : List (List ℕ)) (ra' : List Bool) (t : State) → Alike n ls m rest → RangesAgree to count ra ra' → Within m rest ra' (to k) w t →
+      (m : ℕ) (rest : List (List ℕ)) (ra' : List Bool) (t : MachineState) → Alike n ls m rest → RangesAgree to count ra ra' → Within m rest ra' (to k) w t →
       Follows g' m rest to count (slice_set ra k choice.1) ra' (placed_effect to (effect choice.0 (each k less).edit k w)) t
   follows n ls ra k w less choice is m rest ra' t alike matches at =
       let b = each k less in

@@ -6,7 +6,7 @@ use Rattle.sedscript.specs.declared.types.Action.{Action}
 use Rattle.sedscript.specs.declared.types.Action.TheVariants as action
 use Rattle.sedscript.specs.declared.types.Simple.TheVariants as simple
 use Rattle.sedscript.specs.declared.substitution.Substitution.{Substitution}
-use Rattle.sedengine.specs.State.{State, Move, Setting}
+use Rattle.sedengine.specs.State.{MachineState, Move, Setting}
 use Rattle.sedengine.specs.Substitute.{Occurrence, replaced_from}
 use Rattle.sedengine.specs.Select.{Selection, selects, stands_for}
 use Rattle.sedengine.specs.Move.{acts, in_table, none_left, writes_text_at, next_move, goes_past, reach, replaces, substitutes, writing}
@@ -63,21 +63,21 @@ pub record IsEdit (g : Setting) (c : Command) (on : Test) (edit : Edit) : Type 0
 
 -- ---- states after so many lines, whatever the rest of them is
 
-pub record Between (n : ℕ) (ls : List (List ℕ)) (ranges : List Bool) (s : State) : Type 0 where
+pub record Between (n : ℕ) (ls : List (List ℕ)) (ranges : List Bool) (s : MachineState) : Type 0 where
   pub hold : List ℕ
   pub replaced : Bool
   pub used : Option ℕ
   pub turns : ℕ
   pub is : s ≡ between ls n hold replaced ranges used turns
 
-pub record Within (n : ℕ) (ls : List (List ℕ)) (ranges : List Bool) (k : ℕ) (w : List ℕ) (s : State) : Type 0 where
+pub record Within (n : ℕ) (ls : List (List ℕ)) (ranges : List Bool) (k : ℕ) (w : List ℕ) (s : MachineState) : Type 0 where
   pub hold : List ℕ
   pub replaced : Bool
   pub used : Option ℕ
   pub turns : ℕ
   pub is : s ≡ within ls n w hold replaced ranges used k turns
 
-pub record Deleted (n : ℕ) (ls : List (List ℕ)) (ranges : List Bool) (s : State) : Type 0 where
+pub record Deleted (n : ℕ) (ls : List (List ℕ)) (ranges : List Bool) (s : MachineState) : Type 0 where
   pub hold : List ℕ
   pub replaced : Bool
   pub used : Option ℕ
@@ -85,7 +85,7 @@ pub record Deleted (n : ℕ) (ls : List (List ℕ)) (ranges : List Bool) (s : St
   pub is : s ≡ deleted ls n hold replaced ranges used turns
 
 -- the state after such an effect
-abbrev pub Comes : ℕ → List (List ℕ) → List Bool → Option (ℕ × List ℕ) → State → Type 0
+abbrev pub Comes : ℕ → List (List ℕ) → List Bool → Option (ℕ × List ℕ) → MachineState → Type 0
 Comes n ls ranges None s = Deleted n ls ranges s
 Comes n ls ranges (Some next) s = Within n ls ranges next.0 next.1 s
 
@@ -94,27 +94,27 @@ Does n ls ranges e None = ⊥
 Does n ls ranges e (Some m) = (m.writes ≡ []) × Comes n ls ranges e m.next
 
 -- the state comes to one after such an effect, and nothing is written
-abbrev pub Leads : Setting → ℕ → List (List ℕ) → List Bool → Option (ℕ × List ℕ) → State → Type 0
-Leads g n ls ranges e s = (now : State) × Goes g s now [] × Comes n ls ranges e now
+abbrev pub Leads : Setting → ℕ → List (List ℕ) → List Bool → Option (ℕ × List ℕ) → MachineState → Type 0
+Leads g n ls ranges e s = (now : MachineState) × Goes g s now [] × Comes n ls ranges e now
 
 -- it does so by one move
-abbrev pub LeadsOne : Setting → ℕ → List (List ℕ) → List Bool → Option (ℕ × List ℕ) → State → Type 0
+abbrev pub LeadsOne : Setting → ℕ → List (List ℕ) → List Bool → Option (ℕ × List ℕ) → MachineState → Type 0
 LeadsOne g n ls ranges e s = (m : Move) × (next_move g s ≡ Some m) × (m.writes ≡ []) × Comes n ls ranges e m.next
 
-pub one_goes : (g : Setting) (n : ℕ) (ls : List (List ℕ)) (ranges : List Bool) (e : Option (ℕ × List ℕ)) (s : State) (h : LeadsOne g n ls ranges e s) → Goes g s h.0.next []
+pub one_goes : (g : Setting) (n : ℕ) (ls : List (List ℕ)) (ranges : List Bool) (e : Option (ℕ × List ℕ)) (s : MachineState) (h : LeadsOne g n ls ranges e s) → Goes g s h.0.next []
 one_goes g n ls ranges e s h = goes_one (h.1 ∙ ap (λ (bytes : List (ℕ × ℕ)). writing bytes h.0.next) h.2)
 
-abbrev pub one_leads : (g : Setting) (n : ℕ) (ls : List (List ℕ)) (ranges : List Bool) (e : Option (ℕ × List ℕ)) (s : State) → LeadsOne g n ls ranges e s → Leads g n ls ranges e s
+abbrev pub one_leads : (g : Setting) (n : ℕ) (ls : List (List ℕ)) (ranges : List Bool) (e : Option (ℕ × List ℕ)) (s : MachineState) → LeadsOne g n ls ranges e s → Leads g n ls ranges e s
 one_leads g n ls ranges e s h = (h.0.next, one_goes g n ls ranges e s h, h.3)
 
-leads_to : (g : Setting) (n : ℕ) (ls : List (List ℕ)) (ranges : List Bool) (e : Option (ℕ × List ℕ)) (s : State) (o : Option Move) → next_move g s ≡ o → Does n ls ranges e o → LeadsOne g n ls ranges e s
+leads_to : (g : Setting) (n : ℕ) (ls : List (List ℕ)) (ranges : List Bool) (e : Option (ℕ × List ℕ)) (s : MachineState) (o : Option Move) → next_move g s ≡ o → Does n ls ranges e o → LeadsOne g n ls ranges e s
 leads_to g n ls ranges e s None is does = absurd does
 leads_to g n ls ranges e s (Some m) is does = (m, is, does.0, does.1)
 
 module _ (g : Setting) (ls : List (List ℕ)) (n : ℕ) (h : List ℕ) (k : ℕ) where
   -- where a command that was reached leads on, with the ranges as they are then
   module _ (ra : List Bool) (tu : ℕ) where
-    abbrev here : List ℕ → Bool → Option ℕ → State
+    abbrev here : List ℕ → Bool → Option ℕ → MachineState
     here w r u = within ls n w h r ra u (k + 1) tu
 
     replaces_so : (t : Substitution) (ms : List Occurrence) (w : List ℕ) (r : Bool) (u : Option ℕ) → t.print ≡ false → t.file ≡ None →
@@ -145,7 +145,7 @@ module _ (g : Setting) (ls : List (List ℕ)) (n : ℕ) (h : List ℕ) (k : ℕ)
     passes_so (action.Transliterate i) (change f) w r u is = (refl, record { hold = h; replaced = r; used = u; turns = tu; is = refl })
     passes_so a edit w r u is = absurd is
 
-  abbrev at_it : List ℕ → Bool → List Bool → Option ℕ → ℕ → State
+  abbrev at_it : List ℕ → Bool → List Bool → Option ℕ → ℕ → MachineState
   at_it w r ra u tu = within ls n w h r ra u k tu
 
   performs_so : (c : Command) (edit : Edit) (w : List ℕ) (r : Bool) (ra : List Bool) (u : Option ℕ) (tu : ℕ) (yes end active : Bool) (v : Option ℕ) → Makes g c.action edit →
@@ -160,11 +160,11 @@ module _ (g : Setting) (ls : List (List ℕ)) (n : ℕ) (h : List ℕ) (k : ℕ)
       (performs_so c edit w r ra u tu choice.0 chosen.end choice.1 chosen.used is)
 
 -- a state that reaches such a command comes to one after its effect
-pub edit_leads : (g : Setting) (c : Command) (on : Test) (edit : Edit) (n : ℕ) (ls : List (List ℕ)) (ra : List Bool) (k : ℕ) (w : List ℕ) (s : State) → IsEdit g c on edit → slice_get g.commands k ≡ Some c → Within n ls ra k w s →
+pub edit_leads : (g : Setting) (c : Command) (on : Test) (edit : Edit) (n : ℕ) (ls : List (List ℕ)) (ra : List Bool) (k : ℕ) (w : List ℕ) (s : MachineState) → IsEdit g c on edit → slice_get g.commands k ≡ Some c → Within n ls ra k w s →
     LeadsOne g n ls (slice_set ra k (on (slice_index_or ra k false) n (none_left ls) w).1) (effect (on (slice_index_or ra k false) n (none_left ls) w).0 edit k w) s
 unfolding next_move
 edit_leads g c on edit n ls ra k w s is there at =
-    let explicit : State = within ls n w at.hold at.replaced ra at.used k at.turns in
+    let explicit : MachineState = within ls n w at.hold at.replaced ra at.used k at.turns in
     let choice : Bool × Bool = on (slice_index_or ra k false) n (none_left ls) w in
     let does = reach_so g ls n at.hold k c edit w at.replaced ra at.used at.turns choice (is.chooses (slice_index_or ra k false) n (none_left ls) w at.used) is.makes in
     let moved : next_move g explicit ≡ reach g explicit k (Some c) = ap (reach g explicit k) there in

@@ -7,7 +7,7 @@ use Rattle.sedscript.specs.declared.types.Simple.TheVariants.{Delete, Print}
 use Rattle.sedscript.specs.declared.types.Address.TheVariants.{Match}
 use Rattle.sedscript.specs.declared.substitution.Piece.{Piece}
 use Rattle.sedscript.specs.declared.substitution.Substitution.{Substitution}
-use Rattle.sedengine.specs.State.{State, Setting}
+use Rattle.sedengine.specs.State.{MachineState, Setting}
 use Rattle.sedengine.specs.Substitute.{Occurrence, each_occurrence, replaced_from, to_replace}
 use Rattle.sedengine.specs.Select.{selects}
 use Rattle.sedengine.specs.Move.{next_move, after, written, to_sink, line_to, in_table}
@@ -41,7 +41,7 @@ module _ (finds : ℕ → List ℕ → Bool) (search : ℕ → List ℕ → ℕ 
   }
 
   -- before a cycle, by whether something was replaced, the expression last used and the turns
-  abbrev pub seen_at : List (List ℕ) → ℕ → Bool × Option ℕ × ℕ → State
+  abbrev pub seen_at : List (List ℕ) → ℕ → Bool × Option ℕ × ℕ → MachineState
   seen_at lines number x = between lines number [] x.0 (false ∷ []) x.1 x.2
 
   -- ---- `/RE/d`, and `/RE/!p` with -n

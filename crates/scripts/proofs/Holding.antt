@@ -8,7 +8,7 @@ use Rattle.sedspace.specs.Lines.{is_newline}
 use Rattle.sedscript.specs.declared.types.Action.TheVariants.{Plain}
 use Rattle.sedscript.specs.declared.types.Simple.TheVariants.{AppendHold, AppendNext, Delete, DeleteFirst, Hold, PrintFirst}
 use Rattle.sedscript.specs.declared.types.Address.TheVariants.{Last, Line}
-use Rattle.sedengine.specs.State.{begin, rebegin, do_at, flush, State, Setting}
+use Rattle.sedengine.specs.State.{begin, rebegin, do_at, flush, MachineState, Setting}
 use Rattle.sedengine.specs.Substitute.{Occurrence}
 use Rattle.sedengine.specs.Select.{selects}
 use Rattle.sedengine.specs.Move.{next_move, after, written, newline, to_sink, line_to}
@@ -24,7 +24,7 @@ module _ (finds : ℕ → List ℕ → Bool) (search : ℕ → List ℕ → ℕ 
   abbrev pub turns_round : Setting
   turns_round = runs finds search files false (unless (at (Line 1) (Plain AppendHold)) ∷ always (Plain Hold) ∷ unless (at Last (Plain Delete)) ∷ [])
 
-  abbrev held_at : List (List ℕ) → ℕ → List ℕ → ℕ → State
+  abbrev held_at : List (List ℕ) → ℕ → List ℕ → ℕ → MachineState
   held_at lines number hold turns = between lines number hold false (false ∷ false ∷ false ∷ []) None turns
 
   -- what is in the pattern space once a line has come
@@ -85,7 +85,7 @@ module _ (finds : ℕ → List ℕ → Bool) (search : ℕ → List ℕ → ℕ 
   abbrev pub pairs : Setting
   pairs = runs finds search files false (unless (at Last (Plain AppendNext)) ∷ always (Plain PrintFirst) ∷ always (Plain DeleteFirst) ∷ [])
 
-  abbrev pair_at : ℕ → List (List ℕ) → ℕ → List ℕ → ℕ → State
+  abbrev pair_at : ℕ → List (List ℕ) → ℕ → List ℕ → ℕ → MachineState
   pair_at k lines number pattern turns = record (between lines number [] false (false ∷ false ∷ false ∷ []) None turns) { pattern = pattern; tasks = do_at k ∷ [] }
 
   pair_joins : (number : ℕ) (line next : List ℕ) (rest : List (List ℕ)) (turns : ℕ) →

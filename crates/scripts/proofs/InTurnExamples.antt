@@ -5,7 +5,7 @@ use Rattle.std.specs.Prelude.{codes, slice_get}
 use Rattle.sedre.specs.Brackets.{delimiter_at, list_at, list_end}
 use Rattle.sedre.specs.Tokens.{front_interval, token_at}
 use Rattle.sedre.specs.Sets.{only, set_of}
-use Rattle.sedre.specs.Tree.{Tree, set, tree_at, tree_within}
+use Rattle.sedre.specs.Tree.{Tree, byte_of, tree_at, tree_within}
 use Rattle.sedre.specs.declared.types.Kind.TheVariants.{Basic}
 use Rattle.sedscript.specs.declared.types.Action.TheVariants as action
 use Rattle.sedscript.specs.declared.types.Simple.TheVariants as simple
@@ -39,7 +39,7 @@ use Rattle.scripts.proofs.Meanings.{of_commands, meant}
 
 -- the expression of one byte
 abbrev byte : ℕ → Tree
-byte b = set (only b)
+byte b = byte_of (only b)
 
 abbrev first : Program
 first = record (of_commands (at (Match (Some 0)) (action.Plain simple.Delete) ∷ always (action.Substitute 0) ∷ []) []) {

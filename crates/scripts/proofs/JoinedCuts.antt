@@ -11,7 +11,7 @@ use Rattle.sedscript.specs.declared.items.Item.{Item}
 use Rattle.sedscript.specs.declared.items.ItemOrEnd.TheVariants.{Is}
 use Rattle.sedscript.specs.Bytes.{past, belongs}
 use Rattle.sedscript.specs.Items.{item_at, item_from}
-use Rattle.sedscript.specs.Script.{Gives, CutScript, done, item, IsEnd}
+use Rattle.sedscript.specs.Script.{Gives, CutScript, done, next_item, IsEnd}
 use Rattle.scripts.proofs.LongerText.{tail_of, get_drop, rest_on}
 use Rattle.scripts.proofs.LongerFunctions.{ArgumentIn}
 use Rattle.scripts.proofs.LongerReading.{move_item, item_on}
@@ -25,28 +25,28 @@ ItemsIn end (i ∷ is) = ArgumentIn end i.argument × ItemsIn end is
 pub cut_on : (before text : List ℕ) (more : Option (List ℕ)) (n : ℕ) (kind : Kind) (m count at to : ℕ) (is : List Item) (es : List WrittenExpression) → CutScript text kind m count at is es to → at ≤ length text →
     CutScript (before ++ (text ++ tail_of more)) kind m (n + count) (length before + at) (map (move_item (length before) n) is) es (length before + to) × ItemsIn (length text) is × (to ≤ length text)
 cut_on before text more n kind m count at to _ _ done le = (done, tt, le)
-cut_on before text more n kind m count at to _ _ (item {next = next} {i = i} {is = is} es fs given rest) le =
+cut_on before text more n kind m count at to _ _ (next_item {next = next} {i = i} {is = is} es fs given rest) le =
     let here = item_on before text more n kind m count at next es i le given in
     let behind = cut_on before text more n kind m (count + length es) next to is fs rest here.2 in
     let counted : n + (count + length es) ≡ n + count + length es = omega arith in
-    (item es fs here.0 (subst (λ (c : ℕ). CutScript (before ++ (text ++ tail_of more)) kind m c (length before + next) (map (move_item (length before) n) is) fs (length before + to)) counted behind.0), (here.1, behind.1), behind.2)
+    (next_item es fs here.0 (subst (λ (c : ℕ). CutScript (before ++ (text ++ tail_of more)) kind m c (length before + next) (map (move_item (length before) n) is) fs (length before + to)) counted behind.0), (here.1, behind.1), behind.2)
 
 -- one cut after another
 cut_then : (text : List ℕ) (kind : Kind) (m count number at mid to : ℕ) (is js : List Item) (es fs : List WrittenExpression) → CutScript text kind m count at is es mid → number ≡ count + length es → CutScript text kind m number mid js fs to →
     CutScript text kind m count at (is ++ js) (es ++ fs) to
 cut_then text kind m count number at mid to _ js _ fs done e rest =
     let same : number ≡ count = e ∙ omega arith in subst (λ (c : ℕ). CutScript text kind m c at js fs to) same rest
-cut_then text kind m count number at mid to _ js _ fs (item {next = next} {i = i} {is = is} es gs given left) e rest =
+cut_then text kind m count number at mid to _ js _ fs (next_item {next = next} {i = i} {is = is} es gs given left) e rest =
     subst (λ (z : List WrittenExpression). CutScript text kind m count at (i ∷ (is ++ js)) z to) (sym (append_assoc es gs fs))
-    (item es (gs ++ fs) given (cut_then text kind m (count + length es) number next mid to is js gs fs left (e ∙ (ap (λ (k : ℕ). count + k) (length-append es gs) ∙ omega arith)) rest))
+    (next_item es (gs ++ fs) given (cut_then text kind m (count + length es) number next mid to is js gs fs left (e ∙ (ap (λ (k : ℕ). count + k) (length-append es gs) ∙ omega arith)) rest))
 
 -- a cut may begin at another place, where only separators lie between the two
 cut_from : (text : List ℕ) (kind : Kind) (m count at place to : ℕ) (is : List Item) (es : List WrittenExpression) → past Separator text place ≡ past Separator text at → CutScript text kind m count at is es to → IsEnd text to →
     (till : ℕ) × CutScript text kind m count place is es till × IsEnd text till
 unfolding item_at
 cut_from text kind m count at place to _ _ e done ends = (place, done, ap (slice_get text) e ∙ ends)
-cut_from text kind m count at place to _ _ e (item {next = next} {i = i} {is = is} es fs given rest) ends =
-    (to, item es fs (subst (λ (k : ℕ). Gives text kind m (item_from text count k (slice_get text k)) es (Is i next)) (sym e) given) rest, ends)
+cut_from text kind m count at place to _ _ e (next_item {next = next} {i = i} {is = is} es fs given rest) ends =
+    (to, next_item es fs (subst (λ (k : ℕ). Gives text kind m (item_from text count k (slice_get text k)) es (Is i next)) (sym e) given) rest, ends)
 
 all_pass : (f : ℕ → Bool) (xs ys : List ℕ) → slice_get xs (prefix_len f xs) ≡ None → prefix_len f (xs ++ ys) ≡ length xs + prefix_len f ys
 all_pass f [] ys h = omega arith

@@ -12,7 +12,7 @@ use Rattle.sedscript.specs.declared.types.Simple.TheVariants.{AppendNext}
 use Rattle.sedscript.specs.declared.types.Address.TheVariants.{Last}
 use Rattle.sedscript.specs.declared.substitution.Piece.{Piece}
 use Rattle.sedscript.specs.declared.substitution.Piece.TheVariants.{Literal}
-use Rattle.sedengine.specs.State.{State, Setting}
+use Rattle.sedengine.specs.State.{MachineState, Setting}
 use Rattle.sedengine.specs.Substitute.{Occurrence, each_occurrence, occurrences_from, replaced_from, to_replace}
 use Rattle.sedengine.specs.SubstituteParts.{next_occurrence}
 use Rattle.sedengine.specs.Select.{selects}
@@ -103,7 +103,7 @@ module _ (search : ℕ → List ℕ → ℕ → Option Occurrence) (seeks_them :
     abbrev pub joins_all : Setting
     joins_all = seeks finds search files false (unless (at Last (Block 3)) ∷ always (Plain AppendNext) ∷ always (Branch Always 0) ∷ always (Substitute 0) ∷ []) (replacing 1 true commas ∷ []) []
 
-    abbrev loop_at : List (List ℕ) → ℕ → List ℕ → ℕ → ℕ → State
+    abbrev loop_at : List (List ℕ) → ℕ → List ℕ → ℕ → ℕ → MachineState
     loop_at lines number pattern k turns = within lines number pattern [] false (false ∷ false ∷ false ∷ false ∷ []) None k turns
 
     loops : (number : ℕ) (pattern next : List ℕ) (rest : List (List ℕ)) (turns : ℕ) →

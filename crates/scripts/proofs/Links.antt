@@ -10,7 +10,7 @@ use Rattle.sedscript.specs.declared.substitution.Substitution.{Substitution}
 use Rattle.sedscript.specs.Script.{Means}
 use Rattle.sedscript.specs.Program.{Program}
 use Rattle.sedspace.specs.Lines.{split_lines}
-use Rattle.sedengine.specs.State.{State, Setting, search_in, finds_in, occurrence_at_span}
+use Rattle.sedengine.specs.State.{MachineState, Setting, search_in, finds_in, occurrence_at_span}
 use Rattle.sedengine.specs.Move.{start}
 use Rattle.sededit.specs.Editing.{IsOutput}
 use Rattle.scripts.specs.Edited.{EditsInto}
@@ -37,7 +37,7 @@ setting commands texts substitutions tables quiet expressions files = record {
 }
 
 -- what is so of the runs of some commands with their texts, substitutions and tables is so of those of equal ones
-pub same_run : (P : Setting → State → Type 0) (c c' : List Command) (tx tx' : List (List ℕ)) (sb sb' : List Substitution) (tb tb' : List (List ℕ)) (q q' : Bool) (es : List WrittenExpression) (files : ℕ → List ℕ) (ls : List (List ℕ)) →
+pub same_run : (P : Setting → MachineState → Type 0) (c c' : List Command) (tx tx' : List (List ℕ)) (sb sb' : List Substitution) (tb tb' : List (List ℕ)) (q q' : Bool) (es : List WrittenExpression) (files : ℕ → List ℕ) (ls : List (List ℕ)) →
     c ≡ c' → tx ≡ tx' → sb ≡ sb' → tb ≡ tb' → q ≡ q' → P (setting c tx sb tb q es files) (start c ls) → P (setting c' tx' sb' tb' q' es files) (start c' ls)
 same_run P c c' tx tx' sb sb' tb tb' q q' es files ls a b d e f h =
     subst (λ c. P (setting c tx' sb' tb' q' es files) (start c ls)) a

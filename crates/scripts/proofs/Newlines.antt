@@ -3,7 +3,7 @@ use Rattle.std.proofs.Common.{◌≡◌, ℕ, zero, suc, ◌+◌, ◌-◌, ◌<�
 use Rattle.std.specs.Prelude.{slice_get, ◌==◌}
 use Rattle.std.specs.List.{list_any}
 use Rattle.std.proofs.Math.Nat.{suc-add}
-use Rattle.sedre.specs.Tree.{Tree, set}
+use Rattle.sedre.specs.Tree.{Tree, byte_of}
 use Rattle.sedre.specs.Sets.{only, has}
 use Rattle.sedre.specs.WordLaws.{has-set_of}
 use Rattle.sedre.proofs.ByteLemmas.{only_true}
@@ -13,7 +13,7 @@ use Rattle.sedmatch.specs.Matching.{leftmost_longest}
 use Rattle.sedmatch.proofs.MatchingLemmas.{found-iff, not_found-iff}
 
 abbrev pub newline_alone : Tree
-newline_alone = set (only 10)
+newline_alone = byte_of (only 10)
 
 has_ten : has (only 10) 10 ≡ true
 has_ten = has-set_of (λ c. c == 10) 10 (omega arith)

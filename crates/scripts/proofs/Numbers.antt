@@ -20,7 +20,7 @@ use Rattle.sedscript.specs.declared.letters.Verb.TheVariants.{Plain}
 use Rattle.sedscript.specs.declared.items.Argument.TheVariants.{Nothing}
 use Rattle.sedscript.specs.declared.types.Simple.{Simple}
 use Rattle.sedscript.specs.declared.types.Simple.TheVariants.{Quit, Delete}
-use Rattle.sedscript.specs.Script.{IsEnd, Means, item, done, is_quiet, Gives, value, target_fault}
+use Rattle.sedscript.specs.Script.{IsEnd, Means, next_item, done, is_quiet, Gives, value, target_fault}
 use Rattle.sedscript.specs.Arguments.{to_command_end}
 use Rattle.sedre.specs.Tree.{WrittenExpression}
 use Rattle.sedre.specs.declared.types.Kind.TheVariants.{Basic}
@@ -249,7 +249,7 @@ pub means_one : (text : List ℕ) (i : Item) (es : List WrittenExpression) (to :
 means_one text i es to gives ends settled loud = record {
   items = i ∷ [];
   to = to;
-  judged = record { cut = item es [] gives done; ends = ends; settled = settled };
+  judged = record { cut = next_item es [] gives done; ends = ends; settled = settled };
   commands = refl;
   texts = refl;
   substitutions = refl;

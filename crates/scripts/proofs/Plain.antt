@@ -8,7 +8,7 @@ use Rattle.sedscript.specs.declared.types.Action.TheVariants.{File, Plain}
 use Rattle.sedscript.specs.declared.types.FileUse.TheVariants.{Write}
 use Rattle.sedscript.specs.declared.types.Simple.TheVariants.{Delete, LineNumber, NextLine, Print, Quit}
 use Rattle.sedscript.specs.declared.types.Address.TheVariants.{Last, Line}
-use Rattle.sedengine.specs.State.{State, Setting}
+use Rattle.sedengine.specs.State.{MachineState, Setting}
 use Rattle.sedengine.specs.Substitute.{Occurrence}
 use Rattle.sedengine.specs.Select.{selects}
 use Rattle.sedengine.specs.Move.{next_move, after, written, to_sink, line_to}
@@ -33,10 +33,10 @@ module _ (finds : ℕ → List ℕ → Bool) (search : ℕ → List ℕ → ℕ 
   }
 
   -- before a cycle of a script without commands, and of one with one
-  abbrev none_at : List (List ℕ) → ℕ → ℕ → State
+  abbrev none_at : List (List ℕ) → ℕ → ℕ → MachineState
   none_at lines number turns = between lines number [] false [] None turns
 
-  abbrev one_at : List (List ℕ) → ℕ → ℕ → State
+  abbrev one_at : List (List ℕ) → ℕ → ℕ → MachineState
   one_at lines number turns = between lines number [] false (false ∷ []) None turns
 
   abbrev none_ends : (quiet : Bool) (number turns : ℕ) → IsOutput (runs quiet []) (none_at [] number turns) []
@@ -163,7 +163,7 @@ module _ (finds : ℕ → List ℕ → Bool) (search : ℕ → List ℕ → ℕ 
   abbrev cut : ℕ → ℕ → Setting
   cut n m = runs false (from_to (Line n) (Line m) (Plain Delete) ∷ [])
 
-  abbrev within_at : List (List ℕ) → ℕ → ℕ → State
+  abbrev within_at : List (List ℕ) → ℕ → ℕ → MachineState
   within_at lines number turns = between lines number [] false (true ∷ []) None turns
 
   other_cycle : (n m number : ℕ) (line : List ℕ) (rest : List (List ℕ)) (turns : ℕ) → nat_eq n (number + 1) ≡ false →
@@ -223,7 +223,7 @@ module _ (finds : ℕ → List ℕ → Bool) (search : ℕ → List ℕ → ℕ 
 
   -- ---- `n;d`
 
-  abbrev two_at : List (List ℕ) → ℕ → ℕ → State
+  abbrev two_at : List (List ℕ) → ℕ → ℕ → MachineState
   two_at lines number turns = between lines number [] false (false ∷ false ∷ []) None turns
 
   abbrev halves : Setting

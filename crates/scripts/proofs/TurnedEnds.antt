@@ -8,7 +8,7 @@ use Rattle.std.specs.List.{onto_first}
 use Rattle.sedspace.specs.Lines.{is_newline, split_lines}
 use Rattle.sedspace.proofs.LineLemmas.{lines_nil}
 use Rattle.scripts.proofs.Cutting.{lines_yes, lines_no}
-use Rattle.sedengine.specs.State.{Limits, Task, begin, flush, empty_pattern, State, Setting, finds_in, search_in, setting_of}
+use Rattle.sedengine.specs.State.{LimitsView, Task, begin, flush, empty_pattern, MachineState, Setting, finds_in, search_in, setting_of}
 use Rattle.sedengine.specs.Substitute.{Occurrence}
 use Rattle.sedengine.specs.Select.{selects}
 use Rattle.sedengine.specs.Move.{after, line_to, next_move, newline, start, to_sink, writing, written}
@@ -24,20 +24,20 @@ use Rattle.scripts.proofs.Links.{OneMeaning, same_run}
 use Rattle.scripts.proofs.Famous.{turned_means, turned_program}
 use Rattle.scripts.proofs.Holding.{turns_round, onto, held, onto_held, onto_last, more_turned, not_first}
 
-module _ (l : Limits) (finds : ℕ → List ℕ → Bool) (search : ℕ → List ℕ → ℕ → Option Occurrence) (files : ℕ → List ℕ) where
+module _ (l : LimitsView) (finds : ℕ → List ℕ → Bool) (search : ℕ → List ℕ → ℕ → Option Occurrence) (files : ℕ → List ℕ) where
   abbrev round : Setting
   round = turns_round finds search files
 
   abbrev three : List Bool
   three = false ∷ false ∷ false ∷ []
 
-  abbrev held_at : List (List ℕ) → ℕ → List ℕ → ℕ → State
+  abbrev held_at : List (List ℕ) → ℕ → List ℕ → ℕ → MachineState
   held_at ls number hold turns = between ls number hold false three None turns
 
-  abbrev in_line : List (List ℕ) → ℕ → List ℕ → List ℕ → ℕ → ℕ → State
+  abbrev in_line : List (List ℕ) → ℕ → List ℕ → List ℕ → ℕ → ℕ → MachineState
   in_line ls number pattern hold k turns = within ls number pattern hold false three None k turns
 
-  abbrev ending : ℕ → List ℕ → List ℕ → List Task → ℕ → State
+  abbrev ending : ℕ → List ℕ → List ℕ → List Task → ℕ → MachineState
   ending number pattern hold tasks turns = record (in_line [] number pattern hold 3 turns) { tasks = tasks }
 
   abbrev onto' : ℕ → List ℕ → List ℕ → List ℕ
@@ -96,10 +96,10 @@ module _ (l : Limits) (finds : ℕ → List ℕ → Bool) (search : ℕ → List
       WithinLimits l (record (in_line ls number pattern hold 0 turns) { tasks = tasks })
   fits p h t = record { pattern = p; hold = h; queue = omega arith; turns = t }
 
-  abbrev Comes : State → List (ℕ × ℕ) → Type 0
+  abbrev Comes : MachineState → List (ℕ × ℕ) → Type 0
   Comes s out = (t : ℕ) × RanWhole l round s out Done t
 
-  next : {s m : State} {bytes out : List (ℕ × ℕ)} → next_move round s ≡ writing bytes m → WithinLimits l s → Comes m out → Comes s (bytes ++ out)
+  next : {s m : MachineState} {bytes out : List (ℕ × ℕ)} → next_move round s ≡ writing bytes m → WithinLimits l s → Comes m out → Comes s (bytes ++ out)
   next go fit rest = (suc rest.0, whole_first go fit rest.1)
 
   at_last : (hold : List ℕ) (number turns : ℕ) → length hold ≤ l.space → turns ≤ l.turns → Comes (record (held_at [] number hold turns) { tasks = [] }) []
@@ -165,14 +165,14 @@ lines_size (line ∷ rest) = let more = lines_size rest in omega (arith, more)
 
 -- A run within ample limits ends in the ordinary way, and has written the lines in reverse order, where no device has failed or
 -- is full.
-pub turned_done : (l : Limits) (input : List ℕ) (finds : ℕ → List ℕ → Bool) (search : ℕ → List ℕ → ℕ → Option Occurrence) (files : ℕ → List ℕ) (out : List (ℕ × ℕ)) (end : Ended) (t : ℕ) → Ample l 4 input → NoDevice end →
+pub turned_done : (l : LimitsView) (input : List ℕ) (finds : ℕ → List ℕ → Bool) (search : ℕ → List ℕ → ℕ → Option Occurrence) (files : ℕ → List ℕ) (out : List (ℕ × ℕ)) (end : Ended) (t : ℕ) → Ample l 4 input → NoDevice end →
     IsCause l (turns_round finds search files) (between (split_lines input) 0 [] false (false ∷ false ∷ false ∷ []) None 0) out end t → (end ≡ Done) × (out ≡ to_sink 0 (text_of (reverse (split_lines input))))
 unfolding StaysWithin
 turned_done l input finds search files out end t ample free cause =
     let small = size_of_lines input in
     let few = lines_size (split_lines input) in
     let some : 0 < l.turns = omega (arith, ample.turns_left) in
-    let low : Limits = record l { turns = l.turns - 1 } in
+    let low : LimitsView = record l { turns = l.turns - 1 } in
     let fewer : 4 * length (split_lines input) ≤ l.turns - 1 = omega (arith, ample.turns_left, small, few) in
     let come = round_run low finds search files (split_lines input) (omega (arith, ample.space, small)) fewer in
     ends_done l (turns_round finds search files) (between (split_lines input) 0 [] false (false ∷ false ∷ false ∷ []) None 0) out come.0 (to_sink 0 (text_of (reverse (split_lines input)))) come.1.cause come.1.wrote
@@ -180,7 +180,7 @@ turned_done l input finds search files out end t ample free cause =
     (λ k h. let f = come.1.within k h in omega (arith, f.turns, some)) end t free cause
 
 -- the same of any script that the text means
-pub turned_ends : OneMeaning → (l : Limits) (p : Program) (files : ℕ → List ℕ) (input : List ℕ) (out : List (ℕ × ℕ)) (end : Ended) (t : ℕ) → Means (codes "1!G;h;$!d") Basic 65536 p → Ample l 4 input → NoDevice end →
+pub turned_ends : OneMeaning → (l : LimitsView) (p : Program) (files : ℕ → List ℕ) (input : List ℕ) (out : List (ℕ × ℕ)) (end : Ended) (t : ℕ) → Means (codes "1!G;h;$!d") Basic 65536 p → Ample l 4 input → NoDevice end →
     IsCause l (setting_of p files) (start p.commands (split_lines input)) out end t → (end ≡ Done) × (out ≡ to_sink 0 (text_of (reverse (split_lines input))))
 turned_ends one l p files input out end t m ample free cause =
     let q : Program = turned_program in

@@ -8,7 +8,7 @@ use Rattle.sedscript.specs.Script.{Means}
 use Rattle.sedscript.specs.Program.{Program}
 use Rattle.sedspace.specs.Lines.{split_lines}
 use Rattle.sedspace.specs.Failures.{Rose}
-use Rattle.sedengine.specs.State.{Limits, State, Setting, setting_of}
+use Rattle.sedengine.specs.State.{LimitsView, MachineState, Setting, setting_of}
 use Rattle.sedengine.specs.Move.{after, newline, to_sink, written}
 use Rattle.sedengine.specs.Ends.{GainedWithin, SourceAtEnd, bytes_of_sink, BrokenOff, IsCause, size_of}
 use Rattle.sedengine.specs.DevicesAfter.{SinksAtEnd}
@@ -58,7 +58,7 @@ size_turned (line ∷ rest) =
     let turned = ap size_of (reverse_onto rest line []) ∙ size_of_both (reverse rest) (line ∷ []) in omega (arith, more, turned)
 
 -- no moves of a run write more than the whole of it
-no_more_than : (g : Setting) (s : State) (out : List (ℕ × ℕ)) (t : ℕ) → IsOutput g s out → length (written g s t) ≤ length out
+no_more_than : (g : Setting) (s : MachineState) (out : List (ℕ × ℕ)) (t : ℕ) → IsOutput g s out → length (written g s t) ≤ length out
 no_more_than g s out t ends = elim (before_or_not g s t ends.moves) [
   | inl less ↦
       let left : ℕ = ends.moves - t in
@@ -85,7 +85,7 @@ module _ (old bytes : List ℕ) (was failed : ℕ) (nothing : old ≡ []) where
   holds_part most end out h = let e = rw nothing at (h.gained.each 0) in e
 
   -- the sink of an edit that writes less than the room isn't broken
-  not_broken : (most : Option ℕ) (l : Limits) (g : Setting) (s : State) (out cut_off : List (ℕ × ℕ)) (k t : ℕ) → IsOutput g s out → length out ≤ ample_room → (0 < failed → ample_room ≤ length bytes) →
+  not_broken : (most : Option ℕ) (l : LimitsView) (g : Setting) (s : MachineState) (out cut_off : List (ℕ × ℕ)) (k t : ℕ) → IsOutput g s out → length out ≤ ample_room → (0 < failed → ample_room ≤ length bytes) →
       SinksAtEnd most (failures was) (failures failed) (Err (OutputBroken k)) → GainedWithin most nothing_before (held old) (held bytes) (Err (OutputBroken k)) cut_off → BrokenOff l g s cut_off k t → ⊥
   not_broken most l g s out cut_off zero t ends fits full sinks gains cut =
       let rose : Rose was failed = sinks.0 in
@@ -99,7 +99,7 @@ module _ (old bytes : List ℕ) (was failed : ℕ) (nothing : old ≡ []) where
       omega (arith, filled, is, few, wrote, short, due, all, fits)
   not_broken most l g s out cut_off (suc k) t ends fits full sinks gains cut = let rose : Rose 0 0 = rw (is_not_zero k) at sinks.0 in omega (arith, rose)
 
-no_device : (l : Limits) (g : Setting) (s : State) (old bytes : List ℕ) (was failed : ℕ) (out gained : List (ℕ × ℕ)) (end : Ended) (t : ℕ) → old ≡ [] → l.output ≡ None → IsOutput g s out → length out ≤ ample_room → (0 < failed → ample_room ≤ length bytes) →
+no_device : (l : LimitsView) (g : Setting) (s : MachineState) (old bytes : List ℕ) (was failed : ℕ) (out gained : List (ℕ × ℕ)) (end : Ended) (t : ℕ) → old ≡ [] → l.output ≡ None → IsOutput g s out → length out ≤ ample_room → (0 < failed → ample_room ≤ length bytes) →
     SourceAtEnd 0 0 end → SinksAtEnd l.output (failures was) (failures failed) (Err end) → GainedWithin l.output nothing_before (held old) (held bytes) (Err end) gained → IsCause l g s gained end t → NoDevice end
 no_device l g s old bytes was failed out gained Done t nothing free ends fits full source sinks gains cause = tt
 no_device l g s old bytes was failed out gained (PatternFull n) t nothing free ends fits full source sinks gains cause = tt
@@ -116,7 +116,7 @@ no_device l g s old bytes was failed out gained (OutputFull k) t nothing free en
 pub no_files : OneMeaning → (p : Program) → Means (codes "1!G;h;$!d") Basic 65536 p → length p.wfiles < 1
 no_files one p m = let same = (one (codes "1!G;h;$!d") Basic 65536 p turned_program m turned_means).5 in let none = ap length same in omega (arith, none)
 
-pub whole_edit : OneMeaning → (l : Limits) (p : Program) (input old bytes : List ℕ) (was failed : ℕ) (end : Ended) (before left : Option (List ℕ)) → Means (codes "1!G;h;$!d") Basic 65536 p → IsAmple l → length input < ample_room → old ≡ [] →
+pub whole_edit : OneMeaning → (l : LimitsView) (p : Program) (input old bytes : List ℕ) (was failed : ℕ) (end : Ended) (before left : Option (List ℕ)) → Means (codes "1!G;h;$!d") Basic 65536 p → IsAmple l → length input < ample_room → old ≡ [] →
     (0 < failed → ample_room ≤ length bytes) → SourceAtEnd 0 0 end → SinksAtEnd l.output (failures was) (failures failed) (Err end) →
     (out : List (ℕ × ℕ)) × GainedWithin l.output nothing_before (held old) (held bytes) (Err end) out × EditEnds l (setting_of p (λ k. [])) (start_over p input) out before left end → (end ≡ Done) × (bytes ≡ text_of (reverse (split_lines input)))
 whole_edit one l p input old bytes was failed end before left m is small nothing full source sinks (out, gains, edits) =

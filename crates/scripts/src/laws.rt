@@ -7,7 +7,7 @@ ghost use Rattle.sedscript.specs.Pieces.{PieceGroupsWithin};
 ghost use Rattle.sedre.specs.declared.types.Kind.{Kind};
 ghost use Rattle.sedscript.specs.Script.{Means, with_part};
 ghost use Rattle.sedscript.specs.Program.{Program};
-ghost use Rattle.sedengine.specs.State.{Limits};
+ghost use Rattle.sedengine.specs.State.{LimitsView};
 ghost use Rattle.sedengine.specs.Move.{to_sink};
 ghost use Rattle.sedengine.specs.Types.{Ended, Done};
 ghost use Rattle.scripts.specs.Ampleness.{Ample, ComesTo};
@@ -192,7 +192,7 @@ pub fn words_one_after_other()
 /// Within ample limits, an edit by `1!G;h;$!d` in which no device fails or is full comes to the ordinary end, and its sinks have
 /// gained the lines in reverse order.
 pub fn turned_ends()
-    ensures { (l : Limits) (input : List ℕ) (old new : ℕ → Option (List ℕ)) (end : Ended) → Ample l 4 input → ComesTo l (codes "1!G;h;$!d") input old new end →
+    ensures { (l : LimitsView) (input : List ℕ) (old new : ℕ → Option (List ℕ)) (end : Ended) → Ample l 4 input → ComesTo l (codes "1!G;h;$!d") input old new end →
         (end ≡ Done) × SinksGain old new (to_sink 0 (text_of (reverse (split_lines input)))) }
 {
     one_meaning();

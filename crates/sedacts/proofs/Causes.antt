@@ -11,7 +11,7 @@ use Rattle.sedscript.specs.declared.types.TextUse.TheVariants.{Change}
 use Rattle.sedscript.specs.declared.types.BranchUse.TheVariants.{IfReplaced}
 use Rattle.sedscript.specs.declared.types.FileUse.TheVariants.{Read}
 use Rattle.sedscript.specs.declared.types.Simple.TheVariants as simple
-use Rattle.sedacts.specs.State.{Limits, Entry, text_entry, file_entry, Task, begin, do_at, flush, copy, fetch, join, State, Move, Setting}
+use Rattle.sedacts.specs.State.{LimitsView, Entry, text_entry, file_entry, Task, begin, do_at, flush, copy, fetch, join, MachineState, Move, Setting}
 use Rattle.sedacts.specs.Select.{selects, stands_for}
 use Rattle.sedacts.specs.Substitute.{Occurrence, each_occurrence, to_replace}
 use Rattle.sedacts.specs.Move.{acts, begun_cycle, copies_byte, current_of, first_task, flushes, next_move, none_left, goes_past, quietly, reach, having_reached, replaces, substitutes, takes_next_line, writes_text_at}
@@ -29,7 +29,7 @@ module _ (number turns : ℕ) where
   either a b true h k = h
   either a b false h k = k
 
-  either_state : (a b : State) (c : Bool) → Has number turns (quietly a) → Has number turns (quietly b) → Has number turns (quietly (if c then a else b))
+  either_state : (a b : MachineState) (c : Bool) → Has number turns (quietly a) → Has number turns (quietly b) → Has number turns (quietly (if c then a else b))
   either_state a b true h k = h
   either_state a b false h k = k
 
@@ -37,17 +37,17 @@ module _ (number turns : ℕ) where
   where_some f None h = tt
   where_some f (Some x) h = h x
 
-replaces_has : (s : State) (t : Substitution) (ms : List Occurrence) → Has s.number s.turns (replaces s t ms)
+replaces_has : (s : MachineState) (t : Substitution) (ms : List Occurrence) → Has s.number s.turns (replaces s t ms)
 replaces_has s t [] = (refl, refl)
 replaces_has s t (m ∷ ms) = (refl, refl)
 
-substitutes_has : (g : Setting) (s : State) (o : Option Substitution) → Has s.number s.turns (substitutes g s o)
+substitutes_has : (g : Setting) (s : MachineState) (o : Option Substitution) → Has s.number s.turns (substitutes g s o)
 substitutes_has g s None = (refl, refl)
 substitutes_has g s (Some t) =
     where_some s.number s.turns (λ e. replaces (record s { used = Some e }) t (to_replace t.number t.global (each_occurrence (g.search e s.pattern) (length s.pattern))))
     (stands_for t.expression s.used) (λ e. replaces_has (record s { used = Some e }) t _)
 
-acts_has : (g : Setting) (s : State) (w : Bool) (a : Action) → Has s.number s.turns (acts g s w a)
+acts_has : (g : Setting) (s : MachineState) (w : Bool) (a : Action) → Has s.number s.turns (acts g s w a)
 acts_has g s w (Text Change k) = (refl, refl)
 acts_has g s w (Branch IfReplaced target) = either_state s.number s.turns _ _ s.replaced (refl, refl) (refl, refl)
 acts_has g s w (Plain simple.DeleteFirst) = either_state s.number s.turns _ _ (list_any is_newline s.pattern) (refl, refl) (refl, refl)
@@ -56,11 +56,11 @@ acts_has g s w (File Read k) = (refl, refl)
 acts_has g s w (Substitute k) = substitutes_has g s (slice_get g.substitutions k)
 acts_has g s w other = (refl, refl)
 
-passes_has : (s : State) (a : Action) → Has s.number s.turns (goes_past s a)
+passes_has : (s : MachineState) (a : Action) → Has s.number s.turns (goes_past s a)
 passes_has s (Block next) = (refl, refl)
 passes_has s other = (refl, refl)
 
-reach_has : (g : Setting) (s : State) (k : ℕ) (c : Command) → Has s.number (s.turns + 1) (reach g s k (Some c))
+reach_has : (g : Setting) (s : MachineState) (k : ℕ) (c : Command) → Has s.number (s.turns + 1) (reach g s k (Some c))
 reach_has g s k c =
     where_some s.number (s.turns + 1) (performs g s k c) (selects (current_of g s) (slice_index_or s.ranges k false) c) (λ choice.
     either s.number (s.turns + 1) (acts g (having_reached s k choice) (writes_text_at c choice.end) c.action) (goes_past (having_reached s k choice) c.action) choice.yes
@@ -68,38 +68,38 @@ reach_has g s k c =
 
 -- What the move by a first task, where it has one, does to the turns and to the line number. Where it doesn't lead to that
 -- task's line, the pattern space stays, and where it leads to another line, the hold space and the queue do.
-abbrev Goes : Bool → ℕ → State → Option Move → Type 0
+abbrev Goes : Bool → ℕ → MachineState → Option Move → Type 0
 Goes takes line s None = Unit {0}
 Goes takes line s (Some m) =
     (m.next.turns ≡ (if takes then s.turns + 1 else s.turns)) × ((m.next.number ≡ line) ⊎ (m.next.pattern ≡ s.pattern))
     × ((m.next.number ≡ s.number) ⊎ ((m.next.hold ≡ s.hold) × (m.next.queue ≡ s.queue)))
 
-begins_goes : (s : State) (ls : List (List ℕ)) → Goes (not (none_left ls)) (s.number + 1) s (begun_cycle s ls)
+begins_goes : (s : MachineState) (ls : List (List ℕ)) → Goes (not (none_left ls)) (s.number + 1) s (begun_cycle s ls)
 begins_goes s [] = (refl, inr refl, inl refl)
 begins_goes s (line ∷ rest) = (refl, inl refl, inr (refl, refl))
 
-has_goes : (s : State) (o : Option Move) → Has s.number (s.turns + 1) o → Goes true s.number s o
+has_goes : (s : MachineState) (o : Option Move) → Has s.number (s.turns + 1) o → Goes true s.number s o
 has_goes s None h = tt
 has_goes s (Some m) h = (h.1, inl h.0, inl h.0)
 
-reach_goes : (g : Setting) (s : State) (k : ℕ) (o : Option Command) → Goes (is_some o) s.number s (reach g s k o)
+reach_goes : (g : Setting) (s : MachineState) (k : ℕ) (o : Option Command) → Goes (is_some o) s.number s (reach g s k o)
 reach_goes g s k None = (refl, inl refl, inl refl)
 reach_goes g s k (Some c) = has_goes s (reach g s k (Some c)) (reach_has g s k c)
 
-flushes_goes : (s : State) (rest : List Task) (queue : List Entry) → Goes false s.number s (flushes s rest queue)
+flushes_goes : (s : MachineState) (rest : List Task) (queue : List Entry) → Goes false s.number s (flushes s rest queue)
 flushes_goes s rest [] = (refl, inl refl, inl refl)
 flushes_goes s rest (text_entry bytes ∷ queue) = (refl, inl refl, inl refl)
 flushes_goes s rest (file_entry k ∷ queue) = (refl, inl refl, inl refl)
 
-copies_goes : (s : State) (rest : List Task) (k o : ℕ) (b : Option ℕ) → Goes (is_some b) s.number s (copies_byte s rest k o b)
+copies_goes : (s : MachineState) (rest : List Task) (k o : ℕ) (b : Option ℕ) → Goes (is_some b) s.number s (copies_byte s rest k o b)
 copies_goes s rest k o None = (refl, inl refl, inl refl)
 copies_goes s rest k o (Some b) = (refl, inl refl, inl refl)
 
-takes_line_goes : (s : State) (rest : List Task) (made : List ℕ → List ℕ) (ls : List (List ℕ)) → Goes false (s.number + 1) s (takes_next_line s rest made ls)
+takes_line_goes : (s : MachineState) (rest : List Task) (made : List ℕ → List ℕ) (ls : List (List ℕ)) → Goes false (s.number + 1) s (takes_next_line s rest made ls)
 takes_line_goes s rest made [] = (refl, inr refl, inl refl)
 takes_line_goes s rest made (line ∷ lines) = (refl, inl refl, inr (refl, refl))
 
-first_goes : (g : Setting) (s : State) (ts : List Task) → Goes (takes_turn g s ts) (line_at s ts) s (first_task g s ts)
+first_goes : (g : Setting) (s : MachineState) (ts : List Task) → Goes (takes_turn g s ts) (line_at s ts) s (first_task g s ts)
 first_goes g s [] = tt
 first_goes g s (begin ∷ rest) = begins_goes s s.lines
 first_goes g s (do_at k ∷ rest) = reach_goes g s k (slice_get g.commands k)
@@ -109,7 +109,7 @@ first_goes g s (fetch ∷ rest) = takes_line_goes s rest _ s.lines
 first_goes g s (join ∷ rest) = takes_line_goes s rest _ s.lines
 first_goes g s (other ∷ rest) = (refl, inl refl, inl refl)
 
-module _ (g : Setting) (s : State) where
+module _ (g : Setting) (s : MachineState) where
   move_goes : (m : Move) → next_move g s ≡ Some m → Goes (takes_turn g s s.tasks) (line_at s s.tasks) s (Some m)
   unfolding next_move
   move_goes m is = subst (Goes (takes_turn g s s.tasks) (line_at s s.tasks) s) is (first_goes g s s.tasks)
@@ -151,7 +151,7 @@ other_same : {A B C : Type 0} → A ⊎ (B × C) → A ⊎ C
 other_same (inl x) = inl x
 other_same (inr x) = inr x.1
 
-pub cause_is : (l : Limits) (g : Setting) (s : State) (end : Ended) → WithinLimits l s → StopsTask l g s end → StopsAt l g s end
+pub cause_is : (l : LimitsView) (g : Setting) (s : MachineState) (end : Ended) → WithinLimits l s → StopsTask l g s end → StopsAt l g s end
 cause_is l g s Done f h = h
 cause_is l g s (PatternFull n) f (at, turn, (m, is, more)) =
     let h = move_goes g s m is in

@@ -5,7 +5,7 @@ use Rattle.std.specs.Io.KnownBytes.{Keeps}
 use Rattle.std.proofs.Math.Seq.{take-suc}
 use Rattle.std.proofs.lemmas.Option.{slice_get_past, slice_get_within, slice_get-get_or}
 use Rattle.sedspace.specs.Reading.{ReadsAt}
-use Rattle.sedacts.specs.State.{Limits, Task, copy, State, Setting}
+use Rattle.sedacts.specs.State.{LimitsView, Task, copy, MachineState, Setting}
 use Rattle.sedacts.specs.Move.{next_move, after, written, to_sink, copies_byte, quietly}
 use Rattle.sedacts.specs.Meters.{WereSent, SinkView}
 use Rattle.sedacts.specs.Calls.{PutsBytes}
@@ -20,7 +20,7 @@ use Rattle.sedacts.proofs.Writing.{PutsBytes-append}
 use Rattle.sedacts.proofs.Moves.{chain, ran_quietly, stopped_here, move_at}
 
 -- the state in which the first o bytes of the file k were written
-abbrev copied : State → ℕ → List Task → ℕ → State
+abbrev copied : MachineState → ℕ → List Task → ℕ → MachineState
 copied s k rest o = record s { tasks = copy k o ∷ rest; turns = s.turns + o }
 
 length-to_sink : (k : ℕ) (bs : List ℕ) → length (to_sink k bs) ≡ length bs
@@ -70,15 +70,15 @@ put_on old mid new bytes piece o n r gained is put =
     rw (← all) (PutsBytes-append old mid new (to_sink 0 (take o bytes)) (to_sink 0 piece) r gained put)
 
 -- While bytes are written, lengths are as at the first of them.
-same_copied : (s now : State) (k : ℕ) (rest : List Task) (o : ℕ) → SameLengths s now → SameLengths (copied s k rest o) now
+same_copied : (s now : MachineState) (k : ℕ) (rest : List Task) (o : ℕ) → SameLengths s now → SameLengths (copied s k rest o) now
 same_copied s now k rest o h = record { pattern = h.pattern; hold = h.hold; queue = λ goes. cc; entries = h.entries }
 
 -- From the state s, whose first task writes the file k from its start on.
-module _ (g : Setting) (s : State) (k : ℕ) (rest : List Task) (at : s.tasks ≡ copy k 0 ∷ rest) where
+module _ (g : Setting) (s : MachineState) (k : ℕ) (rest : List Task) (at : s.tasks ≡ copy k 0 ∷ rest) where
   next_byte : (o : ℕ) → o < length (g.files k) →
       next_move g (copied s k rest o) ≡ Some (record { next = copied s k rest (suc o); writes = (0, get_or (g.files k) o 0) ∷ [] })
   next_byte o lt =
-      let m : State = copied s k rest o in
+      let m : MachineState = copied s k rest o in
       let more : o + 1 ≡ suc o = omega arith in
       let turns : s.turns + o + 1 ≡ s.turns + suc o = omega arith in
       let byte : slice_get (g.files k) o ≡ Some (get_or (g.files k) o 0) = slice_get-get_or (g.files k) o 0 lt in
@@ -86,12 +86,12 @@ module _ (g : Setting) (s : State) (k : ℕ) (rest : List Task) (at : s.tasks �
 
   at_end : (o : ℕ) → length (g.files k) ≤ o → next_move g (copied s k rest o) ≡ quietly (record s { tasks = rest; turns = s.turns + o })
   at_end o le =
-      let m : State = copied s k rest o in
+      let m : MachineState = copied s k rest o in
       move_at g m (copy k o ∷ rest) refl ∙ ap (copies_byte m rest k o) (slice_get_past (g.files k) o le)
 
   after_copied : (o : ℕ) → o ≤ length (g.files k) → after g s o ≡ copied s k rest o
   unfolding after
-  after_copied zero h = rw add-zero (ap (λ ts. let t : State = record s { tasks = ts } in t) at)
+  after_copied zero h = rw add-zero (ap (λ ts. let t : MachineState = record s { tasks = ts } in t) at)
   after_copied (suc o) h =
       ap (λ m. next_or_stay m (next_move g m)) (after_copied o (omega arith)) ∙ ap (next_or_stay (copied s k rest o)) (next_byte o (omega arith))
 
@@ -106,12 +106,12 @@ module _ (g : Setting) (s : State) (k : ℕ) (rest : List Task) (at : s.tasks �
   one_copied : (o : ℕ) → o ≤ length (g.files k) → InOneCycle g s (o + 1)
   one_copied o h = λ j some lt. let at_j = after_copied j (omega arith) in rw at_j refl
 
-  within_copied : (l : Limits) (o : ℕ) → o ≤ length (g.files k) → WithinLimits l s → s.turns + o ≤ l.turns → StaysWithin l g s o
+  within_copied : (l : LimitsView) (o : ℕ) → o ≤ length (g.files k) → WithinLimits l s → s.turns + o ≤ l.turns → StaysWithin l g s o
   unfolding StaysWithin
   within_copied l o h f turns = λ j le. let at_j = after_copied j (omega arith) in rw at_j (record { pattern = f.pattern; hold = f.hold; queue = f.queue; turns = omega arith })
 
   -- the file was written to its end
-  pub copied_all : (l : Limits) (old new : SinkView) (o turns : ℕ) → WithinLimits l s → turns ≡ s.turns + o → turns ≤ l.turns →
+  pub copied_all : (l : LimitsView) (old new : SinkView) (o turns : ℕ) → WithinLimits l s → turns ≡ s.turns + o → turns ≤ l.turns →
       o ≤ length (g.files k) → length (g.files k) ≤ o → WereSent old new (to_sink 0 (take o (g.files k))) →
       Ran l g s (record s { tasks = rest; turns = turns }) old new
   copied_all l old new o turns f are fits inside all gained =
@@ -122,10 +122,10 @@ module _ (g : Setting) (s : State) (k : ℕ) (rest : List Task) (at : s.tasks �
       (rw (written_copied o inside) gained) (rw (after_copied o inside) last))
 
   -- a further byte is due, and no turn is left
-  pub copied_spent : (l : Limits) (now : State) (old new : SinkView) (o : ℕ) → WithinLimits l s → s.turns + o ≡ l.turns → o < length (g.files k) →
+  pub copied_spent : (l : LimitsView) (now : MachineState) (old new : SinkView) (o : ℕ) → WithinLimits l s → s.turns + o ≡ l.turns → o < length (g.files k) →
       WereSent old new (to_sink 0 (take o (g.files k))) → SameLengths s now → s.lines ≡ now.lines → RanToEnd l g s now old new TurnsSpent
   copied_spent l now old new o f spent inside gained same lines =
-      let m : State = copied s k rest o in
+      let m : MachineState = copied s k rest o in
       let here : WithinLimits l m = record { pattern = f.pattern; hold = f.hold; queue = f.queue; turns = omega arith } in
       let due : takes_turn g m m.tasks ≡ true = ap is_some (slice_get-get_or (g.files k) o 0 inside) in
       let last = stopped_here l g m now new TurnsSpent here refl (spent, due) (same_copied s now k rest o same) lines in
@@ -133,7 +133,7 @@ module _ (g : Setting) (s : State) (k : ℕ) (rest : List Task) (at : s.tasks �
       (rw (written_copied o (omega arith)) gained) (rw (after_copied o (omega arith)) last)
 
   -- the sink took no more at one of the first n bytes
-  pub copied_broken : (l : Limits) (now : State) (old new : SinkView) (n : ℕ) (end : Ended) → WithinLimits l s → s.turns + n ≤ l.turns → n ≤ length (g.files k) →
+  pub copied_broken : (l : LimitsView) (now : MachineState) (old new : SinkView) (n : ℕ) (end : Ended) → WithinLimits l s → s.turns + n ≤ l.turns → n ≤ length (g.files k) →
       PutsBytes old new (to_sink 0 (take n (g.files k))) (Err end) → SameLengths s now → s.lines ≡ now.lines → RanToEnd l g s now old new end
   copied_broken l now old new n end f fits inside (j, b, byte, end_is, due, sent) same lines =
       let file : List ℕ = g.files k in
@@ -158,5 +158,5 @@ module _ (g : Setting) (s : State) (k : ℕ) (rest : List Task) (at : s.tasks �
         cause = rw end_is cut;
         holds = rw end_is (inl here);
         one = one_copied b less;
-        lines = ap (λ (x : State). x.lines) (after_copied b less) ∙ lines;
+        lines = ap (λ (x : MachineState). x.lines) (after_copied b less) ∙ lines;
       }

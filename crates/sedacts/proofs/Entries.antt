@@ -1,7 +1,7 @@
 -- Entries of the queue, written one after another.
 use Rattle.std.proofs.Common.{◌≡◌, ℕ, ◌+◌, ◌≤◌, false, List, [], ◌∷◌, length, Option, Some, None, Result, Ok, Err, refl, ap, ◌∙◌, arith}
 use Rattle.std.specs.Io.KnownBytes.{Keeps}
-use Rattle.sedacts.specs.State.{Limits, Entry, text_entry, file_entry, Task, flush, copy, State, Setting, GivesFiles}
+use Rattle.sedacts.specs.State.{LimitsView, Entry, text_entry, file_entry, Task, flush, copy, MachineState, Setting, GivesFiles}
 use Rattle.sedacts.specs.Move.{next_move, after, written, flushes, line_to}
 use Rattle.sedacts.specs.Meters.{WereSent, SinkView}
 use Rattle.sedacts.specs.Calls.{PutsBytes}
@@ -26,21 +26,21 @@ gives_on old new files shown keeps = λ k. kept (old k) (new k) (files k) (shown
     kept (Some xs) (Some ys) bytes is keeps = cc
 
 -- the state after the first entry: these are left
-abbrev pub at_entries : State → List Entry → List Task → ℕ → State
+abbrev pub at_entries : MachineState → List Entry → List Task → ℕ → MachineState
 at_entries s later tasks turns = record s { queue = later; tasks = tasks; turns = turns }
 
 -- what is left of the queue fits, and a state that has the lengths of the whole has its lengths too
-pub fits_later : (l : Limits) (s : State) (later : List Entry) (tasks : List Task) (turns : ℕ) → WithinLimits l s → length later ≤ length s.queue → turns ≤ l.turns → WithinLimits l (at_entries s later tasks turns)
+pub fits_later : (l : LimitsView) (s : MachineState) (later : List Entry) (tasks : List Task) (turns : ℕ) → WithinLimits l s → length later ≤ length s.queue → turns ≤ l.turns → WithinLimits l (at_entries s later tasks turns)
 fits_later l s later tasks turns f le most = record { pattern = f.pattern; hold = f.hold; queue = omega (arith, f.queue); turns = most }
 
-pub same_later : (s now : State) (later : List Entry) (rest : List Task) (turns : ℕ) → SameLengths s now → length later ≤ length s.queue → SameLengths (at_entries s later (flush ∷ rest) turns) now
+pub same_later : (s now : MachineState) (later : List Entry) (rest : List Task) (turns : ℕ) → SameLengths s now → length later ≤ length s.queue → SameLengths (at_entries s later (flush ∷ rest) turns) now
 same_later s now later rest turns h le = record { pattern = h.pattern; hold = h.hold; queue = λ goes. cc; entries = omega (arith, h.entries) }
 
-same_opened : (s now : State) (later : List Entry) (k : ℕ) (rest : List Task) → SameLengths s now → length later ≤ length s.queue → SameLengths (at_entries s later (copy k 0 ∷ rest) s.turns) now
+same_opened : (s now : MachineState) (later : List Entry) (k : ℕ) (rest : List Task) → SameLengths s now → length later ≤ length s.queue → SameLengths (at_entries s later (copy k 0 ∷ rest) s.turns) now
 same_opened s now later k rest h le = record { pattern = h.pattern; hold = h.hold; queue = λ goes. cc; entries = omega (arith, h.entries) }
 
 -- From the state s, which writes a queue with this first entry.
-module _ (l : Limits) (g : Setting) (s : State) (rest : List Task) (entry : Entry) (later : List Entry) (at : s.tasks ≡ flush ∷ rest) (queue : s.queue ≡ entry ∷ later) (f : WithinLimits l s) where
+module _ (l : LimitsView) (g : Setting) (s : MachineState) (rest : List Task) (entry : Entry) (later : List Entry) (at : s.tasks ≡ flush ∷ rest) (queue : s.queue ≡ entry ∷ later) (f : WithinLimits l s) where
   next_entry : next_move g s ≡ flushes s rest (entry ∷ later)
   next_entry = move_at g s (flush ∷ rest) at ∙ ap (flushes s rest) queue
 
@@ -48,7 +48,7 @@ module _ (l : Limits) (g : Setting) (s : State) (rest : List Task) (entry : Entr
   shorter = omega (arith, ap length queue)
 
   -- a text is written
-  pub text_written : (bytes : List ℕ) (now : State) (old new : SinkView) (turns : ℕ) (r : Result Unit Ended) → entry ≡ text_entry bytes → turns ≡ s.turns → SameLengths s now → s.lines ≡ now.lines →
+  pub text_written : (bytes : List ℕ) (now : MachineState) (old new : SinkView) (turns : ℕ) (r : Result Unit Ended) → entry ≡ text_entry bytes → turns ≡ s.turns → SameLengths s now → s.lines ≡ now.lines →
       PutsBytes old new (line_to 0 bytes) r → MovesTo l g s (at_entries s later (flush ∷ rest) turns) now old new r
   text_written bytes now old new turns (Ok u) is same_turns same lines put =
       let next = at_entries s later (flush ∷ rest) s.turns in
@@ -59,7 +59,7 @@ module _ (l : Limits) (g : Setting) (s : State) (rest : List Task) (entry : Entr
       (same_later s now later rest s.turns same shorter) lines put
 
   -- a file is written, by a call from the state in which it comes first
-  pub file_written : (k : ℕ) (now : State) (old new : SinkView) (turns : ℕ) (r : Result Unit Ended) → entry ≡ file_entry k → SameLengths s now →
+  pub file_written : (k : ℕ) (now : MachineState) (old new : SinkView) (turns : ℕ) (r : Result Unit Ended) → entry ≡ file_entry k → SameLengths s now →
       (WithinLimits l (at_entries s later (copy k 0 ∷ flush ∷ rest) s.turns) → SameLengths (at_entries s later (copy k 0 ∷ flush ∷ rest) s.turns) now →
       MovesTo l g (at_entries s later (copy k 0 ∷ flush ∷ rest) s.turns) (at_entries s later (flush ∷ rest) turns) now old new r) →
       MovesTo l g s (at_entries s later (flush ∷ rest) turns) now old new r
@@ -76,36 +76,36 @@ module _ (l : Limits) (g : Setting) (s : State) (rest : List Task) (entry : Entr
       go (Err end) opened h = MakesMoves-then l g s _ _ old old new (Err end) opened refl h
 
 -- The first t moves from the state s led to the state m. None of them starts a cycle.
-pub record Reached (l : Limits) (g : Setting) (s m : State) (old new : SinkView) : Type 0 where
+pub record Reached (l : LimitsView) (g : Setting) (s m : MachineState) (old new : SinkView) : Type 0 where
   pub t : ℕ
   pub is : after g s t ≡ m
   pub one : InOneCycle g s (t + 1)
   pub within : StaysWithin l g s t
   pub gained : WereSent old new (written g s t)
 
-pub reached_none : (l : Limits) (g : Setting) (s : State) (sinks : SinkView) → WithinLimits l s → Reached l g s s sinks sinks
+pub reached_none : (l : LimitsView) (g : Setting) (s : MachineState) (sinks : SinkView) → WithinLimits l s → Reached l g s s sinks sinks
 reached_none l g s sinks f = record { t = 0; is = after_none g s; one = one_single g s; within = within_none l g s f; gained = rw written_none (WereSent-none sinks) }
 
 -- a call that makes moves from there, within the cycle
-pub reached_more : (l : Limits) (g : Setting) (s m m' : State) (old mid new : SinkView) → Reached l g s m old mid → Ran l g m m' mid new → starts_cycle m'.tasks ≡ false → Reached l g s m' old new
+pub reached_more : (l : LimitsView) (g : Setting) (s m m' : MachineState) (old mid new : SinkView) → Reached l g s m old mid → Ran l g m m' mid new → starts_cycle m'.tasks ≡ false → Reached l g s m' old new
 reached_more l g s m m' old mid new a b goes =
     let h : Ran l g (after g s a.t) m' mid new = rw a.is b in
     let at = after-add g s a.t h.t ∙ h.is in
     record {
       t = a.t + h.t;
       is = at;
-      one = InOneCycle-more g s (a.t + h.t) (InOneCycle-add g s a.t h.t a.one h.one) (ap (λ (m : State). starts_cycle m.tasks) at ∙ goes);
+      one = InOneCycle-more g s (a.t + h.t) (InOneCycle-add g s a.t h.t a.one h.one) (ap (λ (m : MachineState). starts_cycle m.tasks) at ∙ goes);
       within = StaysWithin-add l g s a.t h.t a.within h.within;
       gained = rw written-add (WereSent-append a.gained h.sinks);
     }
 
 -- the last call
-pub reached_last : (l : Limits) (g : Setting) (s m now : State) (old mid new : SinkView) (r : Result Unit Ended) → Reached l g s m old mid → MakesMoves l g m now mid new r → MakesMoves l g s now old new r
+pub reached_last : (l : LimitsView) (g : Setting) (s m now : MachineState) (old mid new : SinkView) (r : Result Unit Ended) → Reached l g s m old mid → MakesMoves l g m now mid new r → MakesMoves l g s now old new r
 reached_last l g s m now old mid new r a b =
     chain l g s now old mid new a.t r a.within a.one a.gained (rw a.is b)
 
 -- a queue before its first entry is written
-pub flush_begun : (l : Limits) (g : Setting) (s : State) (later : List Entry) (rest : List Task) (turns : ℕ) (sinks : SinkView) → s.tasks ≡ flush ∷ rest → s.queue ≡ later → s.turns ≡ turns → WithinLimits l s →
+pub flush_begun : (l : LimitsView) (g : Setting) (s : MachineState) (later : List Entry) (rest : List Task) (turns : ℕ) (sinks : SinkView) → s.tasks ≡ flush ∷ rest → s.queue ≡ later → s.turns ≡ turns → WithinLimits l s →
     Reached l g s (at_entries s later (flush ∷ rest) turns) sinks sinks
 flush_begun l g s later rest turns sinks at queue same f =
     let is : s ≡ at_entries s later (flush ∷ rest) turns =
@@ -113,7 +113,7 @@ flush_begun l g s later rest turns sinks at queue same f =
     rw (← is) (reached_none l g s sinks f)
 
 -- a queue whose entries all were written
-pub flush_done : (l : Limits) (g : Setting) (s : State) (later : List Entry) (rest : List Task) (turns : ℕ) (old new : SinkView) → WithinLimits l s → turns ≤ l.turns → later ≡ [] →
+pub flush_done : (l : LimitsView) (g : Setting) (s : MachineState) (later : List Entry) (rest : List Task) (turns : ℕ) (old new : SinkView) → WithinLimits l s → turns ≤ l.turns → later ≡ [] →
     Reached l g s (at_entries s later (flush ∷ rest) turns) old new → Ran l g s (at_entries s [] rest turns) old new
 flush_done l g s later rest turns old new f most none a =
     let m = at_entries s [] (flush ∷ rest) turns in

@@ -3,7 +3,7 @@
 use Rattle.std.specs.Prelude.{ℕ, Bool, true, false, not, Option, Some, None, nat_lt, nat_le, nat_eq, slice_index_or, if◌then◌else◌}
 use Rattle.sedacts.specs.Types.{Address, Line, Last, Match, Command}
 use Rattle.sedacts.specs.Select.{Selection, ends_at_once}
-use Rattle.sedacts.specs.State.{Move, Setting, State}
+use Rattle.sedacts.specs.State.{Move, Setting, MachineState}
 use Rattle.sedacts.specs.Move.{acts, goes_past, having_reached, writes_text_at}
 use Rattle.sedacts.specs.declared.select.Chosen.{Chosen}
 
@@ -48,11 +48,11 @@ yes_by_number (Some (Line n)) None negate number = Some (if negate then not (nat
 yes_by_number other second negate number = None
 
 -- whether the range of command k is active
-abbrev pub is_active : State → ℕ → Bool
+abbrev pub is_active : MachineState → ℕ → Bool
 is_active s k = slice_index_or s.ranges k false
 
 -- what a command does, given what its addresses select
-abbrev pub performs : Setting → State → ℕ → Command → Selection → Option Move
+abbrev pub performs : Setting → MachineState → ℕ → Command → Selection → Option Move
 performs g s k c choice =
     if choice.yes then acts g (having_reached s k choice) (writes_text_at c choice.end) c.action
     else goes_past (having_reached s k choice) c.action

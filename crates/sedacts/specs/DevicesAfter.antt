@@ -2,7 +2,7 @@
 use Rattle.std.specs.Prelude.{◌≡◌, ◌≢◌, ℕ, ◌+◌, Option, Result, Ok, Err, List, ◌++◌}
 use Rattle.sedacts.specs.Types.{Ended, InputBroken, OutputBroken, PatternFull}
 use Rattle.sedspace.specs.Reading.{TakesAtMost}
-use Rattle.sedacts.specs.State.{State, Setting, Limits}
+use Rattle.sedacts.specs.State.{MachineState, Setting, LimitsView}
 use Rattle.sedacts.specs.Move.{after}
 use Rattle.sedacts.specs.Ends.{size_of, SinkAtEnd}
 
@@ -22,14 +22,14 @@ abbrev pub SameSinks : {O : Type 0} → (O → ℕ) → (O → List (List ℕ)) 
 SameSinks count names old new = (count new ≡ count old) × (names new ≡ names old)
 
 -- The first t moves took these lines. Their bytes were taken from the source, and at most `more` besides.
-pub record TakesInput (g : Setting) (s : State) (old new : Option (List ℕ)) (more : ℕ) (t : ℕ) : Type 0 where
+pub record TakesInput (g : Setting) (s : MachineState) (old new : Option (List ℕ)) (more : ℕ) (t : ℕ) : Type 0 where
   pub lines : List (List ℕ)
   pub are : s.lines ≡ lines ++ (after g s t).lines
   pub bytes : TakesAtMost old new (size_of lines + more)
 
 -- How many bytes may be taken besides the lines: those that are read ahead and, where the run may have stopped in the middle
 -- of a line, those of that line, at most one more than a space holds.
-abbrev pub more_at : Limits → Ended → ℕ
+abbrev pub more_at : LimitsView → Ended → ℕ
 more_at l (PatternFull n) = l.space + 1 + l.look
 more_at l InputBroken = l.space + 1 + l.look
 more_at l other = l.look

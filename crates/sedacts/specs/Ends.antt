@@ -6,7 +6,7 @@ use Rattle.sedspace.specs.Failures.{Rose}
 use Rattle.sedacts.specs.Types.{Ended, InputBroken, OutputBroken, OutputFull, Done, PatternFull, HoldFull, QueueFull, TurnsSpent, NoPrevious, Address, Last, Command, Action}
 use Rattle.sedscript.specs.declared.types.Action.TheVariants.{Plain}
 use Rattle.sedscript.specs.declared.types.Simple.TheVariants as simple
-use Rattle.sedacts.specs.State.{Limits, Task, begin, do_at, fetch, join, State, Move, Setting}
+use Rattle.sedacts.specs.State.{LimitsView, Task, begin, do_at, fetch, join, MachineState, Move, Setting}
 use Rattle.sedacts.specs.Move.{next_move, after, written}
 use Rattle.sedspace.specs.Lines.{HasNoNewline}
 
@@ -43,14 +43,14 @@ SinkAtEnd most old new (OutputFull k) = most ≢ None
 SinkAtEnd most old new other = Unit {0}
 
 -- a state within the limits
-pub record WithinLimits (l : Limits) (s : State) : Type 0 where
+pub record WithinLimits (l : LimitsView) (s : MachineState) : Type 0 where
   pub pattern : length s.pattern ≤ l.space
   pub hold : length s.hold ≤ l.space
   pub queue : length s.queue ≤ l.queue
   pub turns : s.turns ≤ l.turns
 
 -- each state up to the one after t moves is
-unfoldable pub StaysWithin : Limits → Setting → State → ℕ → Type 0
+unfoldable pub StaysWithin : LimitsView → Setting → MachineState → ℕ → Type 0
 StaysWithin l g s t = (k : ℕ) → k ≤ t → WithinLimits l (after g s k)
 
 -- whether an address is `$`
@@ -76,7 +76,7 @@ reads g (do_at k ∷ rest) = option_map_or asks_if_last (slice_get g.commands k)
 reads g other = false
 
 -- the next move takes no turn too many, and leads to line n and to a state of which this is so
-abbrev pub LeadsWithin : Limits → Setting → State → ℕ → (State → Type 0) → Type 0
+abbrev pub LeadsWithin : LimitsView → Setting → MachineState → ℕ → (MachineState → Type 0) → Type 0
 LeadsWithin l g s n P = (m : Move) × (next_move g s ≡ Some m) × (n ≡ m.next.number) × (m.next.turns ≤ l.turns) × P m.next
 
 -- the sink that an end names, as broken or as full
@@ -86,7 +86,7 @@ named_sink (OutputFull k) = Some k
 named_sink other = None
 
 -- The cause of an end that names no sink, at the state where it comes; `BrokenOff` is that of a broken or a full output.
-abbrev pub StopsAt : Limits → Setting → State → Ended → Type 0
+abbrev pub StopsAt : LimitsView → Setting → MachineState → Ended → Type 0
 StopsAt l g s Done = s.tasks ≡ []
 StopsAt l g s (PatternFull n) = LeadsWithin l g s n (λ now. l.space < length now.pattern)
 StopsAt l g s (HoldFull n) = LeadsWithin l g s n (λ now. l.space < length now.hold)
@@ -98,13 +98,13 @@ StopsAt l g s InputBroken = reads g s.tasks ≡ true
 StopsAt l g s other = ⊥
 
 -- The end comes after t moves, and the output is all that these moves write.
-pub record RanWhole (l : Limits) (g : Setting) (s : State) (out : List (ℕ × ℕ)) (end : Ended) (t : ℕ) : Type 0 where
+pub record RanWhole (l : LimitsView) (g : Setting) (s : MachineState) (out : List (ℕ × ℕ)) (end : Ended) (t : ℕ) : Type 0 where
   pub within : StaysWithin l g s t
   pub wrote : written g s t ≡ out
   pub cause : StopsAt l g (after g s t) end
 
 -- The end comes in the next move, and names sink k. The output is the first b of the bytes, and the next one is for it.
-pub record BrokenOff (l : Limits) (g : Setting) (s : State) (out : List (ℕ × ℕ)) (k : ℕ) (t : ℕ) : Type 0 where
+pub record BrokenOff (l : LimitsView) (g : Setting) (s : MachineState) (out : List (ℕ × ℕ)) (k : ℕ) (t : ℕ) : Type 0 where
   pub within : StaysWithin l g s (suc t)
   pub b : ℕ
   pub byte : ℕ
@@ -113,7 +113,7 @@ pub record BrokenOff (l : Limits) (g : Setting) (s : State) (out : List (ℕ × 
   pub wrote : take b (written g s (suc t)) ≡ out
 
 -- The end has its cause after t moves from the state s, and `out` is the output till then: the bytes, each with its sink.
-abbrev pub IsCause : Limits → Setting → State → List (ℕ × ℕ) → Ended → ℕ → Type 0
+abbrev pub IsCause : LimitsView → Setting → MachineState → List (ℕ × ℕ) → Ended → ℕ → Type 0
 IsCause l g s out end t = MatchOption (named_sink end) (RanWhole l g s out end t) (λ k. BrokenOff l g s out k t)
 
 -- the bytes of lines, a newline counted with each
@@ -129,6 +129,6 @@ LosesPartAfter (Some xs) (Some ys) n m =
     (gone : List ℕ) × (xs ≡ gone ++ ys) × HasNoNewline (drop n gone) × (length gone ≤ n + m)
 
 -- A source that failed gave, after the lines that the first t moves took, a part of one line, of at most `space` bytes.
-abbrev pub BreaksInLine : Setting → State → Option (List ℕ) → Option (List ℕ) → ℕ → ℕ → Type 0
+abbrev pub BreaksInLine : Setting → MachineState → Option (List ℕ) → Option (List ℕ) → ℕ → ℕ → Type 0
 BreaksInLine g s old new space t =
     (lines : List (List ℕ)) × (s.lines ≡ lines ++ (after g s t).lines) × LosesPartAfter old new (size_of lines) space

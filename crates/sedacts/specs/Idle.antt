@@ -145,12 +145,13 @@ pub record IsLineOf (line all : List ℕ) : Type 0 where
   pub behind : List ℕ
   pub is : all ≡ before ++ (line ++ newline ∷ behind)
 
--- the first lines of a block, at most so many
+-- the first lines of a block: so many, or all where there are fewer
 pub record IsExtent (bytes : List ℕ) (most : ℕ) (x : Extent) : Type 0 where
   pub within : x.bytes ≤ length bytes
   pub whole : AreWholeLines (take x.bytes bytes)
   pub count : x.lines ≡ length (split_lines (take x.bytes bytes))
   pub few : x.lines ≤ most
+  pub many : (x.lines ≡ most) ⊎ (x.bytes ≡ length bytes)
 
 -- no line of the text that ends before a place has a match of this expression
 abbrev pub ClearTo : List WrittenExpression → ℕ → List ℕ → ℕ → Type 0

@@ -1,9 +1,9 @@
 -- Which numbers are limits (this project's own).
 use Rattle.std.specs.Prelude.{ℕ, None, ◌≤◌, ◌^◌}
-use Rattle.sedacts.specs.State.{Limits}
+use Rattle.sedacts.specs.State.{LimitsView}
 
 -- the limits of these numbers, without one on the output
-abbrev pub limits_of : ℕ → ℕ → ℕ → ℕ → ℕ → Limits
+abbrev pub limits_of : ℕ → ℕ → ℕ → ℕ → ℕ → LimitsView
 limits_of space queue look turns nodes = record {
   space = space;
   queue = queue;
@@ -14,7 +14,7 @@ limits_of space queue look turns nodes = record {
 }
 
 -- each number is in its range
-pub record AreLimits (l : Limits) : Type 0 where
+pub record AreLimits (l : LimitsView) : Type 0 where
   pub some_space : 1 ≤ l.space
   pub most_space : l.space ≤ 2 ^ 30
   pub most_queue : l.queue ≤ 2 ^ 24

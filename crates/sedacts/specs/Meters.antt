@@ -39,7 +39,7 @@ GrowsBy (Some a) (Some b) n = b ≡ a + n
 
 -- What no write changes: how many sinks there are and how many counts, the limit, the names of the files among the sinks,
 -- and which references hold the sinks and the meter, so that their lender learns what became of them.
-pub record Frame : Type 0 where
+pub record SinksFrame : Type 0 where
   pub sinks : ℕ
   pub counts : ℕ
   pub most : Option ℕ
@@ -52,7 +52,7 @@ pub record SinkView : Type 0 where
   pub contents : ℕ → Option (List ℕ)
   pub failures : ℕ → ℕ
   pub sent : ℕ → Option ℕ
-  pub frame : Frame
+  pub frame : SinksFrame
 
 -- the sinks have gained these bytes, and they were counted
 pub record WereSent (old new : SinkView) (out : List (ℕ × ℕ)) : Type 0 where

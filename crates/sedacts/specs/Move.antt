@@ -12,7 +12,7 @@ use Rattle.sedscript.specs.declared.types.Simple.TheVariants as simple
 use Rattle.sedacts.specs.Select.{◌>>=◌, CurrentLine, Selection, selects, stands_for}
 use Rattle.sedacts.specs.Listing.{listed}
 use Rattle.sedacts.specs.Substitute.{Occurrence, each_occurrence, to_replace, replaced_from}
-use Rattle.sedacts.specs.State.{Entry, text_entry, file_entry, Task, begin, rebegin, do_at, print_pattern, empty_pattern, flush, copy, fetch, join, State, Move, Setting}
+use Rattle.sedacts.specs.State.{Entry, text_entry, file_entry, Task, begin, rebegin, do_at, print_pattern, empty_pattern, flush, copy, fetch, join, MachineState, Move, Setting}
 
 abbrev pub newline : ℕ
 newline = 10
@@ -27,43 +27,43 @@ abbrev pub line_to : ℕ → List ℕ → List (ℕ × ℕ)
 line_to k bs = to_sink k (bs ++ newline ∷ [])
 
 -- a move that writes these bytes, and one that writes nothing
-abbrev pub writing : List (ℕ × ℕ) → State → Option Move
+abbrev pub writing : List (ℕ × ℕ) → MachineState → Option Move
 writing bytes s = Some (record { next = s; writes = bytes })
 
-abbrev pub quietly : State → Option Move
+abbrev pub quietly : MachineState → Option Move
 quietly s = writing [] s
 
 -- the state with these tasks
-abbrev pub then_do : List Task → State → State
+abbrev pub then_do : List Task → MachineState → MachineState
 then_do tasks s = record s { tasks = tasks }
 
 -- the next line has come: the line number counts it, and the function t forgets
-abbrev pub with_line : List ℕ → List (List ℕ) → State → State
+abbrev pub with_line : List ℕ → List (List ℕ) → MachineState → MachineState
 with_line pattern rest s = record s { lines = rest; number = s.number + 1; pattern = pattern; replaced = false }
 
 -- a cycle starts with the next line; where there is none the run ends
-abbrev pub begun_cycle : State → List (List ℕ) → Option Move
+abbrev pub begun_cycle : MachineState → List (List ℕ) → Option Move
 begun_cycle s [] = quietly (then_do [] s)
 begun_cycle s (line ∷ rest) = quietly (then_do (do_at 0 ∷ []) (record (with_line line rest s) { turns = s.turns + 1 }))
 
 -- the queue is written in the order in which its entries were made
-abbrev pub flushes : State → List Task → List Entry → Option Move
+abbrev pub flushes : MachineState → List Task → List Entry → Option Move
 flushes s rest [] = quietly (then_do rest s)
 flushes s rest (text_entry bytes ∷ queue) = writing (line_to 0 bytes) (record s { queue = queue; tasks = flush ∷ rest })
 flushes s rest (file_entry k ∷ queue) = quietly (record s { queue = queue; tasks = copy k 0 ∷ flush ∷ rest })
 
 -- A file's bytes, with no newline added; where it can't be read, or no further, those read till then (this project's own).
-abbrev pub copies_byte : State → List Task → ℕ → ℕ → Option ℕ → Option Move
+abbrev pub copies_byte : MachineState → List Task → ℕ → ℕ → Option ℕ → Option Move
 copies_byte s rest k o None = quietly (then_do rest s)
 copies_byte s rest k o (Some b) = writing ((0, b) ∷ []) (record s { tasks = copy k (o + 1) ∷ rest; turns = s.turns + 1 })
 
 -- the next line, of which `made` makes the pattern space; without one, to which no run comes here, the run ends (this project's own)
-abbrev pub takes_next_line : State → List Task → (List ℕ → List ℕ) → List (List ℕ) → Option Move
+abbrev pub takes_next_line : MachineState → List Task → (List ℕ → List ℕ) → List (List ℕ) → Option Move
 takes_next_line s rest made [] = quietly (then_do [] s)
 takes_next_line s rest made (line ∷ lines) = quietly (then_do rest (with_line (made line) lines s))
 
 -- These occurrences are replaced, if any. What this makes is written with `p`, then with `w` to the file (order: this project's own).
-abbrev pub replaces : State → Substitution → List Occurrence → Option Move
+abbrev pub replaces : MachineState → Substitution → List Occurrence → Option Move
 replaces s t [] = quietly s
 replaces s t (m ∷ ms) =
     let w = replaced_from s.pattern t.replacement 0 (m ∷ ms) in
@@ -71,7 +71,7 @@ replaces s t (m ∷ ms) =
     (record s { pattern = w; replaced = true })
 
 -- Its expression, or what an empty one stands for, is then the one last used. Where it stands for none is no move (this project's own).
-abbrev pub substitutes : Setting → State → Option Substitution → Option Move
+abbrev pub substitutes : Setting → MachineState → Option Substitution → Option Move
 substitutes g s None = quietly s
 substitutes g s (Some t) = do
   e ← stands_for t.expression s.used
@@ -88,7 +88,7 @@ none_left (line ∷ lines) = false
 
 -- What a command that applies does (XCU sed, "Editing Commands in sed"). The state has taken the turn, and goes on
 -- after the command unless a case says otherwise. `writes_text` says whether `c` writes its text here.
-abbrev pub acts : Setting → State → Bool → Action → Option Move
+abbrev pub acts : Setting → MachineState → Bool → Action → Option Move
 -- `{`: "Execute a list of sed editing commands only when the pattern space is selected", so they come next
 acts g s writes_text (Block next) = quietly s
 -- `a`: "Write text to standard output as described previously": it waits in the queue
@@ -156,16 +156,16 @@ acts g s writes_text (File Write k) = writing (line_to k s.pattern) s
 acts g s writes_text (Transliterate k) = quietly (record s { pattern = map (in_table (slice_get g.tables k)) s.pattern })
 
 -- What a command that doesn't apply does: `{` passes over its block.
-abbrev pub goes_past : State → Action → Option Move
+abbrev pub goes_past : MachineState → Action → Option Move
 goes_past s (Block next) = quietly (then_do (do_at next ∷ []) s)
 goes_past s other = quietly s
 
 -- what addresses are judged by in this state
-abbrev pub current_of : Setting → State → CurrentLine
+abbrev pub current_of : Setting → MachineState → CurrentLine
 current_of g s = record { number = s.number; last = none_left s.lines; pattern = s.pattern; finds = g.finds; used = s.used }
 
 -- the state that has reached command k: the turn is taken, its addresses are judged, and the next task is the next command
-abbrev pub having_reached : State → ℕ → Selection → State
+abbrev pub having_reached : MachineState → ℕ → Selection → MachineState
 having_reached s k c =
     record s { ranges = slice_set s.ranges k c.active; used = c.used; tasks = do_at (k + 1) ∷ []; turns = s.turns + 1 }
 
@@ -174,7 +174,7 @@ abbrev pub writes_text_at : Command → Bool → Bool
 writes_text_at c end = is_none c.second || end || c.negate
 
 -- A command, or the end of the script. A command that needs an expression which isn't there has no move.
-abbrev pub reach : Setting → State → ℕ → Option Command → Option Move
+abbrev pub reach : Setting → MachineState → ℕ → Option Command → Option Move
 reach g s k None = quietly (then_do (print_pattern ∷ flush ∷ empty_pattern ∷ begin ∷ []) s)
 reach g s k (Some c) = do
   choice ← selects (current_of g s) (slice_index_or s.ranges k false) c
@@ -182,7 +182,7 @@ reach g s k (Some c) = do
       else goes_past (having_reached s k choice) c.action
 
 -- by the first task
-abbrev pub first_task : Setting → State → List Task → Option Move
+abbrev pub first_task : Setting → MachineState → List Task → Option Move
 first_task g s [] = None
 first_task g s (begin ∷ rest) = begun_cycle s s.lines
 -- no line is read, so that what `t` asks for stays (this project's own)
@@ -196,21 +196,21 @@ first_task g s (fetch ∷ rest) = takes_next_line s rest (λ line. line) s.lines
 first_task g s (join ∷ rest) = takes_next_line s rest (λ line. s.pattern ++ newline ∷ line) s.lines
 
 -- A state that has ended has no move. One that has tasks and no move needs an expression that isn't there.
-unfoldable pub next_move : Setting → State → Option Move
+unfoldable pub next_move : Setting → MachineState → Option Move
 next_move g s = first_task g s s.tasks
 
 -- the state after t moves; one that has no move stays, and writes nothing
-unfoldable pub after : Setting → State → ℕ → State
+unfoldable pub after : Setting → MachineState → ℕ → MachineState
 after g s zero = s
 after g s (suc t) = option_map_or (λ m. m.next) (next_move g (after g s t)) (after g s t)
 
 -- what the first t moves write, for all sinks jointly
-unfoldable pub written : Setting → State → ℕ → List (ℕ × ℕ)
+unfoldable pub written : Setting → MachineState → ℕ → List (ℕ × ℕ)
 written g s zero = []
 written g s (suc t) = written g s t ++ option_map_or (λ m. m.writes) (next_move g (after g s t)) []
 
 -- where a run starts
-abbrev pub start : List Command → List (List ℕ) → State
+abbrev pub start : List Command → List (List ℕ) → MachineState
 start commands lines = record {
   lines = lines;
   number = 0;

@@ -7,7 +7,7 @@ use Rattle.sedre.specs.Tree.{WrittenExpression, expression_tree}
 use Rattle.sedmatch.specs.Matching.{leftmost_longest, reported_groups}
 use Rattle.sedscript.specs.Program.{Program}
 
-pub record Limits : Type 0 where
+pub record LimitsView : Type 0 where
   pub space : ℕ  -- bytes in each of the spaces
   pub queue : ℕ  -- entries of the queue
   pub look : ℕ  -- bytes read ahead
@@ -33,7 +33,7 @@ pub data Task : Type 0 where
   join : Task  -- append a newline and the next line to the pattern space
 
 -- A state without tasks has ended.
-pub record State : Type 0 where
+pub record MachineState : Type 0 where
   pub lines : List (List ℕ)  -- the lines left
   pub number : ℕ  -- the line number
   pub pattern : List ℕ  -- the pattern space
@@ -47,7 +47,7 @@ pub record State : Type 0 where
 
 -- a move: the state that it leads to, and the bytes that it writes, each with the number of its sink
 pub record Move : Type 0 where
-  pub next : State
+  pub next : MachineState
   pub writes : List (ℕ × ℕ)
 
 -- what doesn't change in a run

@@ -3,7 +3,7 @@
 use Rattle.std.specs.Prelude.{◌≡◌, ℕ, true, ◌+◌, ◌<◌, Bool, false, Option, Some, None, Result, Ok, Err, List, [], ◌∷◌, is_some, length, not, slice_get, ◌≤◌}
 use Rattle.std.specs.Option.{MatchOption, option_map_or}
 use Rattle.sedacts.specs.Types.{Command, Action, Ended, Done, HoldFull, InputBroken, NoPrevious, PatternFull, QueueFull, TurnsSpent}
-use Rattle.sedacts.specs.State.{Limits, Task, begin, rebegin, do_at, print_pattern, empty_pattern, flush, copy, fetch, join, State, Move, Setting, Entry, GivesFiles}
+use Rattle.sedacts.specs.State.{LimitsView, Task, begin, rebegin, do_at, print_pattern, empty_pattern, flush, copy, fetch, join, MachineState, Move, Setting, Entry, GivesFiles}
 use Rattle.sedacts.specs.Meters.{WereSent, SinkView}
 use Rattle.sedacts.specs.Move.{next_move, after, none_left, written}
 use Rattle.sedacts.specs.Ends.{StaysWithin, IsCause, named_sink, reads, RanWhole, BrokenOff, WithinLimits}
@@ -14,14 +14,14 @@ use Rattle.sedspace.specs.Spaces.{SpaceView}
 use Rattle.sedacts.specs.Calls.{DeliversAlone}
 
 -- a state that has no move stays, and writes nothing
-abbrev pub next_or_stay : State → Option Move → State
+abbrev pub next_or_stay : MachineState → Option Move → MachineState
 next_or_stay s o = option_map_or (λ m. m.next) o s
 
 abbrev pub writes_of : Option Move → List (ℕ × ℕ)
 writes_of o = option_map_or (λ m. m.writes) o []
 
 -- an end that is whole, or broken off where a sink takes no more
-abbrev pub WholeOrBrokenOff : Limits → Setting → State → List (ℕ × ℕ) → Ended → ℕ → Option ℕ → Type 0
+abbrev pub WholeOrBrokenOff : LimitsView → Setting → MachineState → List (ℕ × ℕ) → Ended → ℕ → Option ℕ → Type 0
 WholeOrBrokenOff l g s out end t o = MatchOption o (RanWhole l g s out end t) (λ k. BrokenOff l g s out k t)
 
 -- what is done at the end of the script
@@ -29,7 +29,7 @@ abbrev pub at_end : List Task
 at_end = print_pattern ∷ flush ∷ empty_pattern ∷ begin ∷ []
 
 -- whether the first task takes a turn: the start of a cycle that has a line, a command, a byte of a file
-abbrev pub takes_turn : Setting → State → List Task → Bool
+abbrev pub takes_turn : Setting → MachineState → List Task → Bool
 takes_turn g s (begin ∷ rest) = not (none_left s.lines)
 takes_turn g s (rebegin ∷ rest) = true
 takes_turn g s (do_at k ∷ rest) = is_some (slice_get g.commands k)
@@ -37,11 +37,11 @@ takes_turn g s (copy k o ∷ rest) = is_some (slice_get (g.files k) o)
 takes_turn g s other = false
 
 -- a first task that takes a turn has one left
-abbrev pub HasTurn : Limits → Setting → State → Type 0
+abbrev pub HasTurn : LimitsView → Setting → MachineState → Type 0
 HasTurn l g s = takes_turn g s s.tasks ≡ true → s.turns < l.turns
 
 -- the line that the first task is about: that of the state, or the one that it fetches
-abbrev pub line_at : State → List Task → ℕ
+abbrev pub line_at : MachineState → List Task → ℕ
 line_at s (begin ∷ rest) = s.number + 1
 line_at s (fetch ∷ rest) = s.number + 1
 line_at s (join ∷ rest) = s.number + 1
@@ -57,7 +57,7 @@ abbrev pub Leads : Option Move → (Move → Type 0) → Type 0
 Leads o P = (m : Move) × (o ≡ Some m) × P m
 
 -- The cause of an end by the first task. In a state within the limits it is `IsCause`.
-abbrev pub StopsTask : Limits → Setting → State → Ended → Type 0
+abbrev pub StopsTask : LimitsView → Setting → MachineState → Ended → Type 0
 StopsTask l g s Done = s.tasks ≡ []
 StopsTask l g s (PatternFull n) =
     (n ≡ line_at s s.tasks) × HasTurn l g s × Leads (next_move g s) (λ m. l.space < length m.next.pattern)
@@ -69,7 +69,7 @@ StopsTask l g s InputBroken = reads g s.tasks ≡ true
 StopsTask l g s other = ⊥
 
 -- Moves were made, which led to this state. Only the last of them may have led to the start of a cycle.
-pub record Ran (l : Limits) (g : Setting) (s now : State) (old new : SinkView) : Type 0 where
+pub record Ran (l : LimitsView) (g : Setting) (s now : MachineState) (old new : SinkView) : Type 0 where
   pub t : ℕ
   pub some : 0 < t
   pub is : after g s t ≡ now
@@ -78,7 +78,7 @@ pub record Ran (l : Limits) (g : Setting) (s now : State) (old new : SinkView) :
   pub sinks : WereSent old new (written g s t)
 
 -- Moves were made, and then the end came.
-pub record RanToEnd (l : Limits) (g : Setting) (s now : State) (old new : SinkView) (end : Ended) : Type 0 where
+pub record RanToEnd (l : LimitsView) (g : Setting) (s now : MachineState) (old new : SinkView) (end : Ended) : Type 0 where
   pub t : ℕ
   pub out : List (ℕ × ℕ)
   pub sinks : WereSent old new out
@@ -88,12 +88,12 @@ pub record RanToEnd (l : Limits) (g : Setting) (s now : State) (old new : SinkVi
   pub lines : (after g s t).lines ≡ now.lines
 
 -- What a call that makes moves answers: Ok where they were made, and else the end.
-abbrev pub MakesMoves : Limits → Setting → State → State → SinkView → SinkView → Result Unit Ended → Type 0
+abbrev pub MakesMoves : LimitsView → Setting → MachineState → MachineState → SinkView → SinkView → Result Unit Ended → Type 0
 MakesMoves l g s now old new (Ok u) = Ran l g s now old new
 MakesMoves l g s now old new (Err end) = RanToEnd l g s now old new end
 
 -- The same where the moves lead to the state `there`, and an end is reported of the state `now`.
-abbrev pub MovesTo : Limits → Setting → State → State → State → SinkView → SinkView → Result Unit Ended → Type 0
+abbrev pub MovesTo : LimitsView → Setting → MachineState → MachineState → MachineState → SinkView → SinkView → Result Unit Ended → Type 0
 MovesTo l g s there now old new (Ok u) = Ran l g s there old new
 MovesTo l g s there now old new (Err end) = RanToEnd l g s now old new end
 
@@ -104,10 +104,10 @@ HasAction (Some c) action = c.action ≡ action
 
 -- What a call answers that writes the queue, or a part of it: which tasks and entries there are before and after it, whatever
 -- tasks and entries come after those. An end is reported of the state `now`. The call takes turns, within the limit.
-pub record FlushesPart {O T : Type 0} (tally : O → SinkView) (count : O → ℕ) (text : T → ℕ → Option (List ℕ)) (l : Limits)
+pub record FlushesPart {O T : Type 0} (tally : O → SinkView) (count : O → ℕ) (text : T → ℕ → Option (List ℕ)) (l : LimitsView)
     (from to : List Task → List Entry → List Task × List Entry) (turns turns' : ℕ) (build build' : SpaceView)
     (outputs outputs' : O) (texts texts' : T) (result : Result Unit Ended) : Type 0 where
-  pub moves : (g : Setting) → GivesFiles (text texts) g.files → (s now : State) (rest : List Task) (later : List Entry) →
+  pub moves : (g : Setting) → GivesFiles (text texts) g.files → (s now : MachineState) (rest : List Task) (later : List Entry) →
       s.tasks ≡ (from rest later).0 → s.queue ≡ (from rest later).1 → s.turns ≡ turns → WithinLimits l s →
       SameLengths s now → s.lines ≡ now.lines →
       MovesTo l g s (record s { tasks = (to rest later).0; queue = (to rest later).1; turns = turns' }) now

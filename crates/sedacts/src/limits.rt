@@ -16,10 +16,10 @@ pub struct Limits {
 }
 
 impl Model for Limits {
-    ghost use Rattle.sedacts.specs.State.{Limits};
+    ghost use Rattle.sedacts.specs.State.{LimitsView};
     ghost use Rattle.sedacts.specs.LimitRanges.{AreLimits, limits_of};
 
-    ghost Value = { Limits };
+    ghost Value = { LimitsView };
 
     ghost view = { λ s. record (limits_of s.most_space s.most_queue s.most_look s.most_turns s.most_nodes) {
       output = s.most_output;

@@ -5,7 +5,7 @@ use Rattle.std.specs.Prelude.{IfSome}
 use Rattle.std.specs.Io.KnownBytes.{prepend_known}
 use Rattle.sedspace.specs.Lines.{split_lines}
 use Rattle.sedscript.specs.Program.{Program}
-use Rattle.sedengine.specs.State.{Limits, State, Setting, setting_of}
+use Rattle.sedengine.specs.State.{LimitsView, MachineState, Setting, setting_of}
 use Rattle.sedengine.specs.Move.{start, written}
 use Rattle.sedengine.specs.Ends.{bytes_of_sink, FillsSink, GainedWithin}
 use Rattle.sedengine.specs.Run.{RunState, CameToEnd, InputLeft, Sends, at_lines, run_setting}
@@ -16,7 +16,7 @@ use Rattle.sededit.specs.Ahead.{EditEnded}
 use Rattle.sedengine.specs.Steps.{WholeOrBrokenOff}
 
 -- an engine that was opened
-abbrev pub opened : Limits → Program → RunState
+abbrev pub opened : LimitsView → Program → RunState
 opened l p = record { script = p; limits = l; state = start p.commands []; sent = replicate (length p.wfiles + 1) 0; ended = None }
 
 get_or_none : (n k : ℕ) → ◌≡◌ {A = ℕ} (get_or (replicate n 0) k 0) 0
@@ -34,7 +34,7 @@ full_from_start most n out (Err (OutputFull k)) h = rw (get_or_none n k) at h
 full_from_start most n out (Err other) h = tt
 
 -- since the engine was opened sinks have gained what they gained in this run
-from_start : (l : Limits) (p : Program) (e' : RunState) (old new : ℕ → Option (List ℕ)) (r : Result Unit Ended) (out : List (ℕ × ℕ)) → Sends (opened l p) e' old new r out → GainedWithin l.output nothing_before old new r out
+from_start : (l : LimitsView) (p : Program) (e' : RunState) (old new : ℕ → Option (List ℕ)) (r : Result Unit Ended) (out : List (ℕ × ℕ)) → Sends (opened l p) e' old new r out → GainedWithin l.output nothing_before old new r out
 from_start l p e' old new r out h = record {
   gained = h.gains.gained;
   within = within_from_start l.output (length p.wfiles + 1) out h.gains.within;
@@ -42,7 +42,7 @@ from_start l p e' old new r out h = record {
 }
 
 -- a run of an opened engine over all lines is an edit, which leaves ahead what is ahead of the lines
-pub Edits-run : (l : Limits) (p : Program) (files : ℕ → List ℕ) (e e' : RunState) (x : List ℕ) (sinks sinks' : ℕ → Option (List ℕ)) (old new : Option (List ℕ)) (before after : InputLeft) (now : State) (end : Ended) (bytes : List ℕ) (count : ℕ) →
+pub Edits-run : (l : LimitsView) (p : Program) (files : ℕ → List ℕ) (e e' : RunState) (x : List ℕ) (sinks sinks' : ℕ → Option (List ℕ)) (old new : Option (List ℕ)) (before after : InputLeft) (now : MachineState) (end : Ended) (bytes : List ℕ) (count : ℕ) →
     e ≡ opened l p → before.source ≡ old → before.all ≡ old → after.source ≡ new → after.all ≡ prepend_known bytes after.source → count ≡ length bytes →
     (out : List (ℕ × ℕ)) × Sends e e' sinks sinks' (Err end) out × CameToEnd e.limits (run_setting e files) (at_lines e (split_lines x)) out before after now end →
     EditEnded l (setting_of p files) (start_over p x) old new sinks sinks' count end
@@ -70,10 +70,10 @@ Edits-run l p files e e' x sinks sinks' old new before after now end bytes count
     }
 
 -- the output at an end is a beginning of what is written
-pub BeginsOutput-at : (l : Limits) (g : Setting) (s : State) (out : List (ℕ × ℕ)) (end : Ended) (t : ℕ) (k : Option ℕ) → WholeOrBrokenOff l g s out end t k → BeginsOutput g s out
+pub BeginsOutput-at : (l : LimitsView) (g : Setting) (s : MachineState) (out : List (ℕ × ℕ)) (end : Ended) (t : ℕ) (k : Option ℕ) → WholeOrBrokenOff l g s out end t k → BeginsOutput g s out
 BeginsOutput-at l g s out end t None w = (t, length (written g s t), rw take-length w.wrote)
 BeginsOutput-at l g s out end t (Some k) w = (suc t, w.b, w.wrote)
 
 -- at the ordinary end the whole
-pub IsOutput-at : (l : Limits) (g : Setting) (s : State) (out : List (ℕ × ℕ)) (old new : Option (List ℕ)) (end : Ended) → end ≡ Done → EditEnds l g s out old new end → IsOutput g s out
+pub IsOutput-at : (l : LimitsView) (g : Setting) (s : MachineState) (out : List (ℕ × ℕ)) (old new : Option (List ℕ)) (end : Ended) → end ≡ Done → EditEnds l g s out old new end → IsOutput g s out
 IsOutput-at l g s out old new end is h = let w = rw is at h.cause in record { moves = h.t; ended = w.cause; wrote = w.wrote }

@@ -3,7 +3,7 @@ use Rattle.std.proofs.Common.{◌≡◌, ◌≢◌, ◌∙◌, ◌≤◌, ◌⊎
 use Rattle.std.specs.Option.{ForSome}
 use Rattle.sedspace.specs.Failures.{Rose}
 use Rattle.sedscript.specs.Program.{Program}
-use Rattle.sedengine.specs.State.{Limits, Setting, State, GivesFiles, setting_of}
+use Rattle.sedengine.specs.State.{LimitsView, Setting, MachineState, GivesFiles, setting_of}
 use Rattle.sedengine.specs.DevicesAfter.{OthersStay, SinksAtEnd}
 use Rattle.sedengine.specs.Ends.{SinksGain, GainedWithin, SourceAtEnd, BreaksInLine, SinkAtEnd}
 use Rattle.sededit.specs.Types.{Done, Ended, InputBroken, OutputBroken, OutputFull}
@@ -18,14 +18,14 @@ use Rattle.sededit.proofs.EditLemmas.{BeginsOutput-at, IsOutput-at}
 use Rattle.sedfiles.proofs.JoinLemmas.{all_joined}
 
 -- what sinks that held this and hold that have gained is so of the run's output
-abbrev Writes : (Setting → State → List (ℕ × ℕ) → Type 0) → KnownRun → (old new : ℕ → Option (List ℕ)) → Type 0
+abbrev Writes : (Setting → MachineState → List (ℕ × ℕ) → Type 0) → KnownRun → (old new : ℕ → Option (List ℕ)) → Type 0
 Writes P run old new = WhereKnown run (λ g s. (out : List (ℕ × ℕ)) × SinksGain old new out × P g s out)
 
 -- what sinks gained stays so where they hold the same afterwards
 pub SinksGain-same : (old mid new : ℕ → Option (List ℕ)) (out : List (ℕ × ℕ)) → ((k : ℕ) → new k ≡ mid k) → SinksGain old mid out → SinksGain old new out
 SinksGain-same old mid new out same h = record { each = λ k. rw (same k) (h.each k) }
 
-pub GainedWithin-same : (l : Limits) (old mid new : ℕ → Option (List ℕ)) (end : Ended) (out : List (ℕ × ℕ)) → ((k : ℕ) → new k ≡ mid k) → GainedWithin l.output nothing_before old mid (Err end) out → GainedWithin l.output nothing_before old new (Err end) out
+pub GainedWithin-same : (l : LimitsView) (old mid new : ℕ → Option (List ℕ)) (end : Ended) (out : List (ℕ × ℕ)) → ((k : ℕ) → new k ≡ mid k) → GainedWithin l.output nothing_before old mid (Err end) out → GainedWithin l.output nothing_before old new (Err end) out
 GainedWithin-same l old mid new end out same h = record { gained = SinksGain-same old mid new out same h.gained; within = h.within; full = h.full }
 
 Rose-more : (a b c : ℕ) → Rose a b → b ≤ c → Rose a c
@@ -69,7 +69,7 @@ some_refused true old new is h = h
 some_refused false old new is h = absurd cc
 
 -- an edit, and the flush behind it, as they are observed
-module _ (l : Limits) (p : Program) (input more : Option (List ℕ)) (texts c0 c1 c2 : ℕ → Option (List ℕ)) (n0 n1 n2 : ℕ → ℕ) (r0 r1 i0 i1 ahead : ℕ) (end : Ended) (rest : Option (List ℕ) → Type 0)
+module _ (l : LimitsView) (p : Program) (input more : Option (List ℕ)) (texts c0 c1 c2 : ℕ → Option (List ℕ)) (n0 n1 n2 : ℕ → ℕ) (r0 r1 i0 i1 ahead : ℕ) (end : Ended) (rest : Option (List ℕ) → Type 0)
     (edits : ForSome input (λ bytes. (files : ℕ → List ℕ) → GivesFiles texts files → EditEnded l (setting_of p files) (start_over p bytes) input more c0 c1 ahead end))
     (same : (k : ℕ) → c2 k ≡ c1 k) (source : SourceAtEnd i0 i1 end) (sinks : SinksAtEnd l.output n0 n1 (Err end)) (stays : rest more) where
   abbrev run : KnownRun
@@ -131,7 +131,7 @@ module _ (l : Limits) (p : Program) (input more : Option (List ℕ)) (texts c0 c
   }
 
 -- the same of the same input and numbers under other names
-pub Ran-as : (l : Limits) (p : Program) (texts c0 c1 : ℕ → Option (List ℕ)) (n0 n1 : ℕ → ℕ) (rest : Option (List ℕ) → Type 0) (status : ℕ) (x y : Option (List ℕ)) (r0 r1 i0 i1 r0' r1' i0' i1' : ℕ) →
+pub Ran-as : (l : LimitsView) (p : Program) (texts c0 c1 : ℕ → Option (List ℕ)) (n0 n1 : ℕ → ℕ) (rest : Option (List ℕ) → Type 0) (status : ℕ) (x y : Option (List ℕ)) (r0 r1 i0 i1 r0' r1' i0' i1' : ℕ) →
     y ≡ x → r0' ≡ r0 → r1' ≡ r1 → i0' ≡ i0 → i1' ≡ i1 →
     HasRun l (record { refusals = r0; reads = i0; contents = c0; failures = n0 }) (record { refusals = r1; reads = i1; contents = c1; failures = n1 }) rest (record { script = p; input = x; texts = texts }) status →
     HasRun l (record { refusals = r0'; reads = i0'; contents = c0; failures = n0 }) (record { refusals = r1'; reads = i1'; contents = c1; failures = n1 }) rest (record { script = p; input = y; texts = texts }) status
@@ -153,13 +153,13 @@ SinksGain-from a b new out same h = record { each = λ k. rw (← same k) (h.eac
 abbrev over_files : Program → Option (List (Option (List ℕ))) → (ℕ → Option (List ℕ)) → KnownRun
 over_files p files texts = record { script = p; input = all_joined files; texts = texts }
 
-pub WritesAs-from : (P : Setting → State → List (ℕ × ℕ) → Type 0) (p : Program) (f0 f1 : Option (List (Option (List ℕ)))) (t0 t1 s0 s1 new : ℕ → Option (List ℕ)) → Ready f0 f1 t0 t1 s0 s1 →
+pub WritesAs-from : (P : Setting → MachineState → List (ℕ × ℕ) → Type 0) (p : Program) (f0 f1 : Option (List (Option (List ℕ)))) (t0 t1 s0 s1 new : ℕ → Option (List ℕ)) → Ready f0 f1 t0 t1 s0 s1 →
     Writes P (over_files p f1 t1) s1 new → Writes P (over_files p f0 t0) s0 new
 WritesAs-from P p f0 f1 t0 t1 s0 s1 new r h = λ bytes known files shows.
     let w = h bytes (shown f0 f1 bytes r.kept known) files (λ k. r.same_texts k ∙ shows k) in
     (w.0, SinksGain-from s0 s1 new _ r.same_sinks w.1, w.2)
 
-GainedWithin-from : (l : Limits) (a b new : ℕ → Option (List ℕ)) (end : Ended) (out : List (ℕ × ℕ)) → ((k : ℕ) → b k ≡ a k) → GainedWithin l.output nothing_before b new (Err end) out → GainedWithin l.output nothing_before a new (Err end) out
+GainedWithin-from : (l : LimitsView) (a b new : ℕ → Option (List ℕ)) (end : Ended) (out : List (ℕ × ℕ)) → ((k : ℕ) → b k ≡ a k) → GainedWithin l.output nothing_before b new (Err end) out → GainedWithin l.output nothing_before a new (Err end) out
 GainedWithin-from l a b new end out same h = record { gained = SinksGain-from a b new out same h.gained; within = h.within; full = h.full }
 
 sink-from : (most : Option ℕ) (n0 n1 n : ℕ → ℕ) (end : Ended) → ((k : ℕ) → n1 k ≡ n0 k) → SinkAtEnd most n1 n end → SinkAtEnd most n0 n end
@@ -168,7 +168,7 @@ sink-from most n0 n1 n (OutputFull k) same h = h
 sink-from most n0 n1 n _ same h = tt
 
 -- what is observed before the run, before it was made ready, and after it
-module _ (l : Limits) (p : Program) (q : Option (List ℕ) → Type 0) (f0 f1 : Option (List (Option (List ℕ)))) (t0 t1 s0 s1 new : ℕ → Option (List ℕ)) (r0 r1 r i0 i1 i : ℕ) (n0 n1 n : ℕ → ℕ) (ready : Ready f0 f1 t0 t1 s0 s1) (refused : r1 ≡ r0) (read : i1 ≡ i0)
+module _ (l : LimitsView) (p : Program) (q : Option (List ℕ) → Type 0) (f0 f1 : Option (List (Option (List ℕ)))) (t0 t1 s0 s1 new : ℕ → Option (List ℕ)) (r0 r1 r i0 i1 i : ℕ) (n0 n1 n : ℕ → ℕ) (ready : Ready f0 f1 t0 t1 s0 s1) (refused : r1 ≡ r0) (read : i1 ≡ i0)
     (same : (k : ℕ) → n1 k ≡ n0 k) where
   abbrev first : Observed
   first = record { refusals = r0; reads = i0; contents = s0; failures = n0 }

@@ -2,13 +2,13 @@
 use Rattle.std.proofs.Common.{◌≡◌, ◌≢◌, ◌⊎◌, ◌∙◌, inl, inr, ℕ, List, Option, sym}
 use Rattle.clap.specs.Words.{Text}
 use Rattle.sedspace.specs.Failures.{Rose}
-use Rattle.sedengine.specs.State.{Limits}
+use Rattle.sedengine.specs.State.{LimitsView}
 use Rattle.sedengine.specs.Ends.{SinksGain}
 use Rattle.sedengine.specs.Move.{to_sink}
 use Rattle.sededit.specs.Editing.{BeginsOutput, IsOutput}
 use Rattle.sededit.specs.Program.{AsksHelp, HelpMeans, Observed, KnownRun, RunsAs, SinkFailed, StatusMeans, StopsEarly, KnownFiles, WritesAs, run_of}
 
-module _ (shown : KnownFiles) (nodes : ℕ) (words : List Text) (Created : KnownRun → Type 0) (limits : Limits) (old new : Observed)
+module _ (shown : KnownFiles) (nodes : ℕ) (words : List Text) (Created : KnownRun → Type 0) (limits : LimitsView) (old new : Observed)
     (rest : Option (List ℕ) → Type 0) (Untouched : Type 0) (status : ℕ) where
   -- the run that the words ask for created its files, and is so
   abbrev RunsSo : (KnownRun → Type 0) → Type 0

@@ -6,7 +6,7 @@ use Rattle.sedspace.specs.Failures.{Rose}
 use Rattle.sedscript.specs.Script.{Means, with_part}
 use Rattle.sedscript.specs.Program.{Program}
 use Rattle.sedengine.specs.Ends.{SinksGain, GainedWithin, SourceAtEnd, SinkAtEnd, IsCause, BreaksInLine}
-use Rattle.sedengine.specs.State.{Limits, Setting, State, GivesFiles, setting_of}
+use Rattle.sedengine.specs.State.{LimitsView, Setting, MachineState, GivesFiles, setting_of}
 use Rattle.sedengine.specs.Move.{to_sink}
 use Rattle.sededit.specs.Types.{Basic, DisplayHelp, Done, Ended, Extended, File, InputBroken, Kind, Line, Part, Script}
 use Rattle.sedfiles.specs.CommandLine.{IsCommandLine, IsLine, sed_command}
@@ -80,12 +80,12 @@ observe refusals reads contents failures inputs sinks =
     record { refusals = refusals inputs; reads = reads inputs; contents = contents sinks; failures = failures sinks }
 
 -- where a run's input and texts are known, its setting and its start are as `P` says
-abbrev pub WhereKnown : KnownRun → (Setting → State → Type 0) → Type 0
+abbrev pub WhereKnown : KnownRun → (Setting → MachineState → Type 0) → Type 0
 WhereKnown run P = ForSome run.input (λ bytes. (files : ℕ → List ℕ) → GivesFiles run.texts files →
     P (setting_of run.script files) (start_over run.script bytes))
 
 -- what the sinks have gained is as `P` says of the run's output: all of it by `IsOutput`, a beginning of it by `BeginsOutput`
-abbrev pub WritesAs : (Setting → State → List (ℕ × ℕ) → Type 0) → KnownRun → (old new : Observed) → Type 0
+abbrev pub WritesAs : (Setting → MachineState → List (ℕ × ℕ) → Type 0) → KnownRun → (old new : Observed) → Type 0
 WritesAs P run old new = WhereKnown run (λ g s. (out : List (ℕ × ℕ)) × SinksGain old.contents new.contents out × P g s out)
 
 -- some sink has failed in this call
@@ -95,7 +95,7 @@ SinkFailed old new = (k : ℕ) × Rose (old k) (new k)
 -- The run came to another end than the ordinary one. The device that the end names has failed, and the input at no other end. Where
 -- input and texts are known, the end has its cause, after some moves, with what the sinks gained as its output, within the
 -- limit. No whole line is lost where the input failed; `rest` says what it has still to give.
-abbrev pub StopsEarly : Limits → (old new : Observed) → (Option (List ℕ) → Type 0) → KnownRun → Type 0
+abbrev pub StopsEarly : LimitsView → (old new : Observed) → (Option (List ℕ) → Type 0) → KnownRun → Type 0
 StopsEarly limits old new rest run =
     (end : Ended) × (end ≢ Done)
     × (SourceAtEnd old.reads new.reads end × SinkAtEnd limits.output old.failures new.failures end)
@@ -105,7 +105,7 @@ StopsEarly limits old new rest run =
     × (end ≡ InputBroken → (more : Option (List ℕ)) × rest more × BreaksInLine g s run.input more limits.space t))
 
 -- What a run's exit status says (XCU sed, "Exit Status"; which number above 0: this project's own); `rest`: what the input has still to give.
-pub record StatusMeans (limits : Limits) (old new : Observed) (rest : Option (List ℕ) → Type 0) (status : ℕ) (run : KnownRun) :
+pub record StatusMeans (limits : LimitsView) (old new : Observed) (rest : Option (List ℕ) → Type 0) (status : ℕ) (run : KnownRun) :
     Type 0 where
   -- 0: all was written that the script writes, no input file was missed, and no read of the input failed
   pub whole : status ≡ 0 → WritesAs IsOutput run old new × (new.refusals ≡ old.refusals) × (new.reads ≡ old.reads)

@@ -1,7 +1,7 @@
 -- What commands that take no line do is a move.
 use Rattle.std.proofs.Common.{◌≡◌, ℕ, ◌+◌, ◌<◌, ◌≤◌, Bool, true, false, cond, List, [], ◌∷◌, ◌++◌, length, map, Option, Result, Ok, Err, refl, sym, ◌∙◌, arith, length-append}
 use Rattle.std.proofs.lemmas.List.{length-map}
-use Rattle.sedacts.specs.State.{Entry, Task, do_at, State, Move, Setting}
+use Rattle.sedacts.specs.State.{Entry, Task, do_at, MachineState, Move, Setting}
 use Rattle.sedacts.specs.Move.{writing, quietly, then_do, in_table}
 use Rattle.sedacts.specs.Ends.{WithinLimits}
 use Rattle.sedacts.specs.Meters.{SinkView}
@@ -18,25 +18,25 @@ use Rattle.sedacts.proofs.Streams.{names_long, names_ok}
 use Rattle.sedengine.proofs.SubstituteMoves.{reached_line}
 
 -- the state with these contents of its spaces
-abbrev pub holding : State → List ℕ → List ℕ → State
+abbrev pub holding : MachineState → List ℕ → List ℕ → MachineState
 holding s pattern hold = record s { pattern = pattern; hold = hold }
 
 -- after a `t`, which goes to the target or doesn't
-abbrev pub tested : State → ℕ → Bool → State
+abbrev pub tested : MachineState → ℕ → Bool → MachineState
 tested s target goes = cond goes (record s { tasks = do_at target ∷ []; replaced = false }) s
 
 -- what a command makes of an engine is this move, by the lines that are left
-abbrev pub IsMove : (Setting → State → Option Move) → RunState → (List (List ℕ) → Option Move) → Type 0
+abbrev pub IsMove : (Setting → MachineState → Option Move) → RunState → (List (List ℕ) → Option Move) → Type 0
 IsMove made e move = (files : ℕ → List ℕ) (ls : List (List ℕ)) → made (run_setting e files) (at_lines e ls) ≡ move ls
 
 module _ {O T : Type 0} {tally : O → SinkView} {count : O → ℕ} {text : T → ℕ → Option (List ℕ)} where
   -- what is known of the move by another name
-  pub acts_by : {A : Type 0} (made : A → Setting → State → Option Move) {a b : A} {e e' : RunState} {o o' : O} {t t' : T} {r : Result Unit Ended} → a ≡ b →
+  pub acts_by : {A : Type 0} (made : A → Setting → MachineState → Option Move) {a b : A} {e e' : RunState} {o o' : O} {t t' : T} {r : Result Unit Ended} → a ≡ b →
       ActsHere tally count text (made b) e e' o o' t t' r → ActsHere tally count text (made a) e e' o o' t t' r
   acts_by made is h = rw is h
 
   -- A command of an engine within its limits, which makes the move `made`.
-  module _ {made : Setting → State → Option Move} {o : O} {t : T} (e : RunState) (within : (ls : List (List ℕ)) → WithinLimits e.limits (at_lines e ls)) where
+  module _ {made : Setting → MachineState → Option Move} {o : O} {t : T} (e : RunState) (within : (ls : List (List ℕ)) → WithinLimits e.limits (at_lines e ls)) where
     -- one that writes alone
     pub acts_writing : {o' : O} {out : List (ℕ × ℕ)} {r : Result Unit Ended} → IsMove made e (λ ls. writing out (at_lines e ls)) → WritesAll tally count o o' out r → ActsHere tally count text made e e o o' t t r
     acts_writing {o'} {out} {r} is h = record {
@@ -46,12 +46,12 @@ module _ {O T : Type 0} {tally : O → SinkView} {count : O → ℕ} {text : T �
     }
 
     -- one that leads to another state and writes nothing
-    pub acts_leading : (s' : State) (e' : RunState) → e' ≡ record e { state = s' } → s'.turns ≡ e.state.turns → costs s'.tasks ≤ costs e.state.tasks + 8 → WithinLimits e.limits s' →
+    pub acts_leading : (s' : MachineState) (e' : RunState) → e' ≡ record e { state = s' } → s'.turns ≡ e.state.turns → costs s'.tasks ≤ costs e.state.tasks + 8 → WithinLimits e.limits s' →
         IsMove made e (λ ls. quietly (record s' { lines = ls })) → ActsHere tally count text made e e' o o t t (Ok tt)
     acts_leading s' e' same turns few f is = rw same (record {
       acts = λ files shown ls s c first. ran_quietly e.limits (run_setting e files) s (record s' { lines = ls }) (tally o) c.fits (first ∙ is files ls) (record { pattern = f.pattern; hold = f.hold; queue = f.queue; turns = f.turns });
       falls = omega arith;
-      leaves = leaves_quiet names_ok (record { script = refl; limits = refl });
+      leaves = leaves_quiet names_ok (record { script = refl; same_limits = refl });
     })
 
     -- one that ends the run

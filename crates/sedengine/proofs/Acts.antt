@@ -9,7 +9,7 @@ use Rattle.sedscript.specs.declared.types.Action.{Action}
 use Rattle.sedscript.specs.declared.types.Action.TheVariants.{Block}
 use Rattle.sedspace.specs.Stream.{Stream, left, lines_left}
 use Rattle.sedspace.specs.Reading.{TakesAtMost}
-use Rattle.sedacts.specs.State.{Limits, do_at, State, Move, Setting}
+use Rattle.sedacts.specs.State.{LimitsView, do_at, MachineState, Move, Setting}
 use Rattle.sedacts.specs.Select.{Selection, selects}
 use Rattle.sedacts.specs.Move.{next_move, reach, acts, goes_past, none_left, writes_text_at}
 use Rattle.sedacts.specs.Ends.{WithinLimits, reads, asks_if_last, is_next_line}
@@ -38,7 +38,7 @@ use Rattle.std.specs.Option.{option_map_or}
 
 module _ {R O T : Type 0} {remaining : R → Option (List ℕ)} {failures : R → ℕ} {reference : R → List GName} {tally : O → SinkView} {count : O → ℕ} {text : T → ℕ → Option (List ℕ)} {e e' : RunState} {o o' : O} {t t' : T} {r : Result Unit Ended} where
   -- what a command that takes no line does leaves the lines
-  pub acts_here : {made : Setting → State → Option Move} {l : Stream R} (asks : Bool) → ActsHere tally count text made e e' o o' t t' r → ActsLines remaining failures reference tally count text made asks e e' l l o o' t t' r
+  pub acts_here : {made : Setting → MachineState → Option Move} {l : Stream R} (asks : Bool) → ActsHere tally count text made e e' o o' t t' r → ActsLines remaining failures reference tally count text made asks e e' l l o o' t t' r
   acts_here {made} {l} asks h = record {
     acts = λ sound ls known files shown s c asked first. looked_moves remaining l l ls e.limits (run_setting e files) s e' (tally o) (tally o') r (lines_same remaining l ls known) c.lines (h.acts files shown ls s c first);
     falls = h.falls;
@@ -46,12 +46,12 @@ module _ {R O T : Type 0} {remaining : R → Option (List ℕ)} {failures : R �
   }
 
   -- what is known of a command by another name
-  pub lines_by : (made : Action → Setting → State → Option Move) {a b : Action} {l l' : Stream R} → a ≡ b →
+  pub lines_by : (made : Action → Setting → MachineState → Option Move) {a b : Action} {l l' : Stream R} → a ≡ b →
       ActsLines remaining failures reference tally count text (made b) (is_next_line b) e e' l l' o o' t t' r → ActsLines remaining failures reference tally count text (made a) (is_next_line a) e e' l l' o o' t t' r
   lines_by made is h = rw is h
 
 -- an engine passes over a command
-passes_on : (l : Limits) (g : Setting) (s : State) (e : RunState) (ls : List (List ℕ)) (action : Action) (sinks : SinkView) → WithinLimits l s → WithinLimits l (at_lines e ls) → next_move g s ≡ goes_past (at_lines e ls) action →
+passes_on : (l : LimitsView) (g : Setting) (s : MachineState) (e : RunState) (ls : List (List ℕ)) (action : Action) (sinks : SinkView) → WithinLimits l s → WithinLimits l (at_lines e ls) → next_move g s ≡ goes_past (at_lines e ls) action →
     Ran l g s (at_lines (passed_over e action) ls) sinks sinks
 passes_on l g s e ls (Block next) sinks f f' first = ran_quietly l g s (at_lines (passed_over e (Block next)) ls) sinks f first (record { pattern = f'.pattern; hold = f'.hold; queue = f'.queue; turns = f'.turns })
 passes_on l g s e ls other sinks f f' first = ran_quietly l g s (at_lines e ls) sinks f first f'
@@ -138,7 +138,7 @@ module _ {R : Type 0} (remaining : R → Option (List ℕ)) (old new : Stream R)
         PerformsSteps remaining new to ls e1.limits (run_setting e1 files) (acts (run_setting e1 files) (at_lines e1 ls) writes_text c.action) (is_next_line c.action) (at_lines e1 ls) e2 sinks sinks' r → StepsOf remaining old to ls e.limits (run_setting e files) e e2 sinks sinks' r
     reach_acting to sinks sinks' r writes_text chosen answers_is h =
         let Q : RunState → Type 0 = λ e1. PerformsSteps remaining new to ls e1.limits (run_setting e1 files) (acts (run_setting e1 files) (at_lines e1 ls) writes_text c.action) (is_next_line c.action) (at_lines e1 ls) e2 sinks sinks' r in
-        let now : State = at_lines (reached_with e k (slice_set e.state.ranges k choice.active) used) ls in
+        let now : MachineState = at_lines (reached_with e k (slice_set e.state.ranges k choice.active) used) ls in
         let S : Bool → Type 0 = λ b. PerformsSteps remaining new to ls e.limits (run_setting e files) (acts (run_setting e files) now b c.action) (is_next_line c.action) now e2 sinks sinks' r in
         let there = subst S answers_is (subst Q came h) in
         looked_then remaining old new to ls e.limits (run_setting e files) (at_lines e ls) e2 sinks sinks' r taken (there (at_lines e ls) here_reaches (λ asks. ap (reads (run_setting e files)) t ∙ ap (λ o. option_map_or asks_if_last o false) (command_seen a e k c seen is) ∙ or_right (names_last c) (is_next_line c.action) asks) (moves_as true chosen))

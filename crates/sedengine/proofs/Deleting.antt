@@ -8,7 +8,7 @@ use Rattle.sedscript.specs.declared.types.Simple.TheVariants.{Delete, DeleteFirs
 use Rattle.sedscript.specs.declared.types.TextUse.TheVariants.{Change}
 use Rattle.sedspace.specs.Spaces.{SpaceView}
 use Rattle.sedspace.specs.Lines.{HasNoNewline, is_newline}
-use Rattle.sedacts.specs.State.{begin, rebegin, flush, State, Move, Setting, GivesFiles}
+use Rattle.sedacts.specs.State.{begin, rebegin, flush, MachineState, Move, Setting, GivesFiles}
 use Rattle.sedacts.specs.Move.{acts, line_to, quietly, then_do, writing}
 use Rattle.sedacts.specs.Ends.{WithinLimits}
 use Rattle.sedacts.specs.Meters.{WereSent, SinkView}
@@ -48,11 +48,11 @@ pub deletes : (a : Inside) (e e2 : RunState) (files : ℕ → List ℕ) (ls : Li
     MakesMove e.limits (run_setting e files) o (at_lines e ls) (at_lines e2 ls) old new r
 deletes a e e2 files ls o next_step c1 old mid new out r seen is gained h =
     let Q : RunState → Type 0 = λ e. o ≡ writing out (then_do (flush ∷ tasks_of next_step) (at_lines (with_pattern e c1.bytes) ls)) → MakesMove e.limits (run_setting e files) o (at_lines e ls) (at_lines e2 ls) old new r in
-    let m : State = then_do (flush ∷ tasks_of next_step) (at_lines (run_state_of (record a { pattern = c1 })) ls) in
+    let m : MachineState = then_do (flush ∷ tasks_of next_step) (at_lines (run_state_of (record a { pattern = c1 })) ls) in
     subst Q seen (λ is. acts_then a.limits (run_setting (run_state_of a) files) o (at_lines (run_state_of a) ls) m (at_lines e2 ls) old mid new out r is (moves_fits a.limits (run_setting (run_state_of a) files) m (at_lines e2 ls) mid new r h) gained refl h) is
 
 -- The same with what the call that ends the cycle says of its weight, and of how it leaves what it was given.
-pub acts_deleting : {O T : Type 0} {tally : O → SinkView} {count : O → ℕ} {text : T → ℕ → Option (List ℕ)} {made : Setting → State → Option Move} {o o1 o2 : O} {t t2 : T} (a : Inside) (e e2 : RunState) (next_step : NextStep) (c1 : SpaceView) (out : List (ℕ × ℕ)) (r : Result Unit Ended) →
+pub acts_deleting : {O T : Type 0} {tally : O → SinkView} {count : O → ℕ} {text : T → ℕ → Option (List ℕ)} {made : Setting → MachineState → Option Move} {o o1 o2 : O} {t t2 : T} (a : Inside) (e e2 : RunState) (next_step : NextStep) (c1 : SpaceView) (out : List (ℕ × ℕ)) (r : Result Unit Ended) →
     run_state_of a ≡ e → ((files : ℕ → List ℕ) (ls : List (List ℕ)) → made (run_setting e files) (at_lines e ls) ≡ writing out (then_do (flush ∷ tasks_of next_step) (at_lines (with_pattern e c1.bytes) ls))) →
     WritesAll tally count o o1 out (Ok tt) →
     ((files : ℕ → List ℕ) → GivesFiles (text t) files → (ls : List (List ℕ)) → MakesMoves a.limits (run_setting (run_state_of a) files) (then_do (flush ∷ tasks_of next_step) (at_lines (run_state_of (record a { pattern = c1 })) ls)) (at_lines e2 ls) (tally o1) (tally o2) r) →
@@ -69,7 +69,7 @@ pub change_stops : (a : Inside) (e : RunState) (files : ℕ → List ℕ) (ls : 
     MakesMove e.limits (run_setting e files) o (at_lines e ls) (at_lines (run_state_of (record a { pattern = c1 })) ls) old new (Err end)
 change_stops a e files ls o c1 old new out end seen i none is put =
     let Q : RunState → Type 0 = λ e. o ≡ writing out (then_do (flush ∷ begin ∷ []) (at_lines (with_pattern e c1.bytes) ls)) → MakesMove e.limits (run_setting e files) o (at_lines e ls) (at_lines (run_state_of (record a { pattern = c1 })) ls) old new (Err end) in
-    let m : State = then_do (flush ∷ begin ∷ []) (at_lines (run_state_of (record a { pattern = c1 })) ls) in
+    let m : MachineState = then_do (flush ∷ begin ∷ []) (at_lines (run_state_of (record a { pattern = c1 })) ls) in
     let f = fits_of a ls i in
     let empty = ap length none in
     let fm : WithinLimits a.limits m = record { pattern = omega arith; hold = f.hold; queue = f.queue; turns = f.turns } in

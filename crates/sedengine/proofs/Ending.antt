@@ -4,7 +4,7 @@ use Rattle.std.specs.Prelude.{OnOk, OnErr, slice_get}
 use Rattle.std.proofs.lemmas.Option.{slice_get_past}
 use Rattle.sedspace.specs.Spaces.{QueueView}
 use Rattle.sedspace.specs.declared.errors.Full.{Full}
-use Rattle.sedacts.specs.State.{Limits, Entry, Task, begin, rebegin, do_at, print_pattern, empty_pattern, flush, State, Move, Setting}
+use Rattle.sedacts.specs.State.{LimitsView, Entry, Task, begin, rebegin, do_at, print_pattern, empty_pattern, flush, MachineState, Move, Setting}
 use Rattle.sedacts.specs.Move.{reach, writing, then_do, line_to}
 use Rattle.sedacts.specs.Ends.{WithinLimits}
 use Rattle.sedacts.specs.Held.{SameLengths}
@@ -30,23 +30,23 @@ pub fits_seen : (a : Inside) (e : RunState) (ls : List (List ℕ)) → run_state
 fits_seen a e ls seen i = rw (← seen) (fits_of a ls i)
 
 -- a state that has these tasks already
-pub then_same : (s : State) (ts : List Task) → s.tasks ≡ ts → then_do ts s ≡ s
+pub then_same : (s : MachineState) (ts : List Task) → s.tasks ≡ ts → then_do ts s ≡ s
 then_same s ts h = rw (← h) refl
 
 -- The queue of an engine with the fields a is written.
 pub flush_moves : (a : Inside) (e e' : RunState) (g : Setting) (ls : List (List ℕ)) (rest : List Task) (turns : ℕ) (sinks sinks' : SinkView) (r : Result Unit Ended) → run_state_of a ≡ e → IsConsistent a →
-    ((s now : State) (rest : List Task) (later : List Entry) → s.tasks ≡ flush ∷ rest → s.queue ≡ entries_of a.script a.queue.items → s.turns ≡ a.turns → WithinLimits a.limits s → SameLengths s now → s.lines ≡ now.lines →
+    ((s now : MachineState) (rest : List Task) (later : List Entry) → s.tasks ≡ flush ∷ rest → s.queue ≡ entries_of a.script a.queue.items → s.turns ≡ a.turns → WithinLimits a.limits s → SameLengths s now → s.lines ≡ now.lines →
     MovesTo a.limits g s (record s { tasks = rest; queue = []; turns = turns }) now sinks sinks' r) →
     OnOk r (e' ≡ flushed e turns) → OnErr r (e' ≡ with_turns e turns) →
     MakesMoves e.limits g (then_do (flush ∷ rest) (at_lines e ls)) (then_do rest (at_lines e' ls)) sinks sinks' r
 flush_moves a e e' g ls rest turns sinks sinks' (Ok u) seen i h ok err =
     let f = fits_tasks a.limits (at_lines (run_state_of a) ls) (flush ∷ rest) (fits_of a ls i) in
-    let s : State = then_do (flush ∷ rest) (at_lines (run_state_of a) ls) in
+    let s : MachineState = then_do (flush ∷ rest) (at_lines (run_state_of a) ls) in
     rw ok (rw (← seen) (h s s rest [] refl refl refl f (same_self s) refl))
 flush_moves a e e' g ls rest turns sinks sinks' (Err end) seen i h ok err =
     let f = fits_tasks a.limits (at_lines (run_state_of a) ls) (flush ∷ rest) (fits_of a ls i) in
-    let s : State = then_do (flush ∷ rest) (at_lines (run_state_of a) ls) in
-    let now : State = then_do rest (at_lines (with_turns (run_state_of a) turns) ls) in
+    let s : MachineState = then_do (flush ∷ rest) (at_lines (run_state_of a) ls) in
+    let now : MachineState = then_do rest (at_lines (with_turns (run_state_of a) turns) ls) in
     rw err (rw (← seen) (h s now rest [] refl refl refl f (record { pattern = refl; hold = refl; queue = λ goes. refl; entries = omega arith }) refl))
 
 -- The pattern space is written, and then what comes after it.
@@ -66,7 +66,7 @@ print_stops e files ls rest old new end f put =
     (fits_tasks _ (at_lines e ls) _ f) (move_at _ _ _ refl) (fits_tasks _ (at_lines e ls) _ f) (record { pattern = refl; hold = refl; queue = λ _. refl; entries = omega arith }) refl put
 
 -- The end of the script: command k isn't there. What follows the first move is h.
-pub end_moves : (e : RunState) (files : ℕ → List ℕ) (ls : List (List ℕ)) (k : ℕ) (now : State) (old new : SinkView) (r : Result Unit Ended) → WithinLimits e.limits (at_lines e ls) → e.state.tasks ≡ do_at k ∷ [] → length e.script.commands ≤ k →
+pub end_moves : (e : RunState) (files : ℕ → List ℕ) (ls : List (List ℕ)) (k : ℕ) (now : MachineState) (old new : SinkView) (r : Result Unit Ended) → WithinLimits e.limits (at_lines e ls) → e.state.tasks ≡ do_at k ∷ [] → length e.script.commands ≤ k →
     MakesMoves e.limits (run_setting e files) (then_do at_end (at_lines e ls)) now old new r → MakesMoves e.limits (run_setting e files) (at_lines e ls) now old new r
 end_moves e files ls k now old new r f at over h =
     quietly_then e.limits (run_setting e files) (at_lines e ls) (then_do at_end (at_lines e ls)) now old new r f
@@ -82,7 +82,7 @@ pub finished : (e e' final : RunState) (files : ℕ → List ℕ) (ls : List (Li
     MakesMoves e.limits (run_setting e files) (at_lines e ls) (at_lines final ls) old new (Ok tt)
 finished e e' final files ls k old new at over h is =
     let g : Setting = run_setting e files in
-    let m : State = then_do (empty_pattern ∷ begin ∷ []) (at_lines e' ls) in
+    let m : MachineState = then_do (empty_pattern ∷ begin ∷ []) (at_lines e' ls) in
     let f = moves_fits e.limits g (then_do at_end (at_lines e ls)) m old new (Ok tt) h in
     let f' = ran_fits_now e.limits g (then_do at_end (at_lines e ls)) m old new h in
     rw is (end_moves e files ls k (at_lines (emptied e') ls) old new (Ok tt) (record { pattern = f.pattern; hold = f.hold; queue = f.queue; turns = f.turns }) at over
@@ -99,7 +99,7 @@ finish_stopped e e' files ls k rest old new end at over h =
     (end_moves e files ls k (then_do rest (at_lines e' ls)) old new (Err end) (record { pattern = f.pattern; hold = f.hold; queue = f.queue; turns = f.turns }) at over h)
 
 -- the run has ended, or the end came before
-pub quits : (e e' : RunState) (g : Setting) (ls : List (List ℕ)) (sinks sinks' : SinkView) (now : State) (r : Result Unit Ended) → e.state.tasks ≡ print_pattern ∷ flush ∷ [] →
+pub quits : (e e' : RunState) (g : Setting) (ls : List (List ℕ)) (sinks sinks' : SinkView) (now : MachineState) (r : Result Unit Ended) → e.state.tasks ≡ print_pattern ∷ flush ∷ [] →
     MakesMoves e.limits g (then_do (print_pattern ∷ flush ∷ []) (at_lines e ls)) now sinks sinks' r → MakesMoves e.limits g (at_lines e ls) now sinks sinks' r
 quits e e' g ls sinks sinks' now r at h =
     rw (← (then_same (at_lines e ls) (print_pattern ∷ flush ∷ []) at)) h
@@ -120,12 +120,12 @@ rebegin_spent a e g ls sinks seen i at spent =
     stopped_here e.limits g (at_lines e ls) (at_lines e ls) sinks TurnsSpent f refl (rw (← seen) spent, rw at refl) (record { pattern = refl; hold = refl; queue = λ _. refl; entries = omega arith }) refl
 
 -- A command that makes a move which writes these bytes, and then what h says.
-pub acts_then : (l : Limits) (g : Setting) (o : Option Move) (there m now : State) (old mid new : SinkView) (out : List (ℕ × ℕ)) (r : Result Unit Ended) → o ≡ writing out m → WithinLimits l m → WereSent old mid out → starts_cycle m.tasks ≡ false →
+pub acts_then : (l : LimitsView) (g : Setting) (o : Option Move) (there m now : MachineState) (old mid new : SinkView) (out : List (ℕ × ℕ)) (r : Result Unit Ended) → o ≡ writing out m → WithinLimits l m → WereSent old mid out → starts_cycle m.tasks ≡ false →
     MakesMoves l g m now mid new r → MakesMove l g o there now old new r
 acts_then l g o there m now old mid new out r is f gained goes h = λ s c first. moves_then l g s m now old mid new out r c.fits (first ∙ is) f gained goes h
 
 -- The sink failed in that move.
-pub acts_stopping : (l : Limits) (g : Setting) (o : Option Move) (there m now : State) (old new : SinkView) (out : List (ℕ × ℕ)) (end : Ended) → o ≡ writing out m → WithinLimits l m → SameLengths m now → there.lines ≡ now.lines →
+pub acts_stopping : (l : LimitsView) (g : Setting) (o : Option Move) (there m now : MachineState) (old new : SinkView) (out : List (ℕ × ℕ)) (end : Ended) → o ≡ writing out m → WithinLimits l m → SameLengths m now → there.lines ≡ now.lines →
     PutsBytes old new out (Err end) → MakesMove l g o there now old new (Err end)
 acts_stopping l g o there m now old new out end is f same lines put = λ s c first. stopped_writing l g s m now old new out end c.fits (first ∙ is) f same (c.lines ∙ lines) put
 
@@ -182,7 +182,7 @@ place_costs other = omega arith
 pub weight_ended : (e e' : RunState) (next_step : NextStep) → e'.limits ≡ e.limits → e.state.turns ≤ e'.state.turns → e'.state.tasks ≡ tasks_of next_step → weight e' ≤ weight e + 8
 weight_ended e e' next_step limits later tasks =
     let few : costs e'.state.tasks ≤ 2 = rw tasks (place_costs next_step) in
-    let same = ap (λ (l : Limits). l.turns) limits in
+    let same = ap (λ (l : LimitsView). l.turns) limits in
     omega arith
 
 -- the run ends, after what is done last
@@ -190,7 +190,7 @@ pub falls_ended : (e e' : RunState) (r : Result Unit Ended) → e.state.tasks �
 falls_ended e e' (Ok u) last limits later tasks =
     let was : costs e.state.tasks ≡ 2 = ap costs last in
     let now : costs e'.state.tasks ≡ 0 = ap costs tasks in
-    let same = ap (λ (l : Limits). l.turns) limits in
+    let same = ap (λ (l : LimitsView). l.turns) limits in
     omega arith
 falls_ended e e' (Err end) last limits later tasks = tt
 
@@ -212,16 +212,16 @@ tasks_kept e e' (Ok u) ok err = ap (λ (e : RunState). e.state.tasks) ok
 tasks_kept e e' (Err end) ok err = ap (λ (e : RunState). e.state.tasks) err
 
 pub run_kept : (e e' : RunState) (r : Result Unit Ended) → OnOk r (e' ≡ flushed e e'.state.turns) → OnErr r (e' ≡ with_turns e e'.state.turns) → SameRun e e'
-run_kept e e' (Ok u) ok err = record { script = ap (λ (e : RunState). e.script) ok; limits = ap (λ (e : RunState). e.limits) ok }
-run_kept e e' (Err end) ok err = record { script = ap (λ (e : RunState). e.script) err; limits = ap (λ (e : RunState). e.limits) err }
+run_kept e e' (Ok u) ok err = record { script = ap (λ (e : RunState). e.script) ok; same_limits = ap (λ (e : RunState). e.limits) ok }
+run_kept e e' (Err end) ok err = record { script = ap (λ (e : RunState). e.script) err; same_limits = ap (λ (e : RunState). e.limits) err }
 
 -- These tasks were done by an engine that had its next place already.
 pub placed_ended : (a : Inside) (e e' : RunState) (next_step : NextStep) (files : ℕ → List ℕ) (ls : List (List ℕ)) (ts : List Task) (sinks sinks' : SinkView) (r : Result Unit Ended) → run_state_of a ≡ e → e'.state.tasks ≡ tasks_of next_step →
     MakesMoves a.limits (run_setting (run_state_of a) files) (then_do ts (at_lines (run_state_of a) ls)) (then_do (tasks_of next_step) (at_lines e' ls)) sinks sinks' r →
     MakesMoves e.limits (run_setting e files) (then_do ts (at_lines e ls)) (at_lines e' ls) sinks sinks' r
 placed_ended a e e' next_step files ls ts sinks sinks' r seen at h =
-    rw (← seen) (subst (λ (now : State). MakesMoves a.limits (run_setting (run_state_of a) files) (then_do ts (at_lines (run_state_of a) ls)) now sinks sinks' r) (then_same (at_lines e' ls) (tasks_of next_step) at) h)
+    rw (← seen) (subst (λ (now : MachineState). MakesMoves a.limits (run_setting (run_state_of a) files) (then_do ts (at_lines (run_state_of a) ls)) now sinks sinks' r) (then_same (at_lines e' ls) (tasks_of next_step) at) h)
 
 -- an end that came while the queue was written is one of the engine, whatever it was to do next
-pub stopped_anyway : (l : Limits) (g : Setting) (s : State) (e : RunState) (ls : List (List ℕ)) (rest : List Task) (sinks sinks' : SinkView) (end : Ended) → MakesMoves l g s (then_do rest (at_lines e ls)) sinks sinks' (Err end) → MakesMoves l g s (at_lines e ls) sinks sinks' (Err end)
+pub stopped_anyway : (l : LimitsView) (g : Setting) (s : MachineState) (e : RunState) (ls : List (List ℕ)) (rest : List Task) (sinks sinks' : SinkView) (end : Ended) → MakesMoves l g s (then_do rest (at_lines e ls)) sinks sinks' (Err end) → MakesMoves l g s (at_lines e ls) sinks sinks' (Err end)
 stopped_anyway l g s e ls rest sinks sinks' end h = RanToEnd-as l g s (then_do rest (at_lines e ls)) (at_lines e ls) sinks sinks' end refl refl refl refl h

@@ -4,7 +4,7 @@ use Rattle.std.specs.Borrow.{GName}
 use Rattle.std.proofs.KnownBytes.{Keeps-refl, Keeps-trans}
 use Rattle.sedspace.specs.Stream.{Stream}
 use Rattle.std.specs.Prelude.{OnOk}
-use Rattle.sedacts.specs.State.{do_at, State}
+use Rattle.sedacts.specs.State.{do_at, MachineState}
 use Rattle.sedengine.specs.SubstituteCalls.{same_but_replaced}
 use Rattle.sedscript.specs.declared.types.Action.{Action}
 use Rattle.sedscript.specs.declared.types.Action.TheVariants.{Block}
@@ -27,7 +27,7 @@ use Rattle.sedacts.proofs.Writing.{Delivers-none, Delivers-quiet, Delivers-then,
 
 module _ {R O T : Type 0} {remaining : R → Option (List ℕ)} {failures : R → ℕ} {reference : R → List GName} {tally : O → SinkView} {count : O → ℕ} {text : T → ℕ → Option (List ℕ)} where
   pub leaves_none : {e : RunState} {l : Stream R} {o : O} {t : T} → LeavesLines remaining failures reference tally count text e e l l o o t t (Ok tt)
-  leaves_none = record { input = ReadsLines-none _ _ _ _; output = Delivers-none _ _ _; same = record { script = refl; limits = refl }; kept = λ j. Keeps-refl _ }
+  leaves_none = record { input = ReadsLines-none _ _ _ _; output = Delivers-none _ _ _; same = record { script = refl; same_limits = refl }; kept = λ j. Keeps-refl _ }
 
   pub leaves_then : {e1 e2 e3 : RunState} {l1 l2 l3 : Stream R} {o1 o2 o3 : O} {t1 t2 t3 : T} {r : Result Unit Ended} → LeavesLines remaining failures reference tally count text e1 e2 l1 l2 o1 o2 t1 t2 (Ok tt) →
       LeavesLines remaining failures reference tally count text e2 e3 l2 l3 o2 o3 t2 t3 r → LeavesLines remaining failures reference tally count text e1 e3 l1 l3 o1 o3 t1 t3 r
@@ -55,11 +55,11 @@ module _ {O T : Type 0} {tally : O → SinkView} {count : O → ℕ} {text : T �
 
   -- one that ends the run where it is
   pub leaves_stopped : {e : RunState} {o : O} {t : T} {end : Ended} → NamesNone {T = Unit {0}} (Err end) → LeavesGiven tally count text e e o o t t (Err end)
-  leaves_stopped h = leaves_quiet h (record { script = refl; limits = refl })
+  leaves_stopped h = leaves_quiet h (record { script = refl; same_limits = refl })
 
   -- one that writes alone
   pub leaves_written : {e : RunState} {o o' : O} {t : T} {out : List (ℕ × ℕ)} {r : Result Unit Ended} → WritesAll tally count o o' out r → LeavesGiven tally count text e e o o' t t r
-  leaves_written h = record { devices = writes_alone h; same = record { script = refl; limits = refl }; kept = λ j. Keeps-refl _ }
+  leaves_written h = record { devices = writes_alone h; same = record { script = refl; same_limits = refl }; kept = λ j. Keeps-refl _ }
 
   -- a call on an engine of the same script and limits, made of the fields a
   pub leaves_seen : (a : Inside) (e e1 : RunState) {e' : RunState} {o o' : O} {t t' : T} {r : Result Unit Ended} → run_state_of a ≡ e → e1.script ≡ a.script → e1.limits ≡ a.limits → LeavesGiven tally count text e1 e' o o' t t' r → LeavesGiven tally count text e e' o o' t t' r
@@ -82,7 +82,7 @@ falls_reached e e1 e2 k ranges used (Ok u) came at more h =
 falls_reached e e1 e2 k ranges used (Err end) came at more h = tt
 
 pub same_reached : (e e1 : RunState) (k : ℕ) (ranges : List Bool) (used : Option ℕ) → e1 ≡ reached_with e k ranges used → SameRun e e1
-same_reached e e1 k ranges used came = rw came (record { script = refl; limits = refl })
+same_reached e e1 k ranges used came = rw came (record { script = refl; same_limits = refl })
 
 -- a command was passed over
 pub falls_passed : (e e' : RunState) (action : Action) → e' ≡ passed_over e action → weight e' ≤ weight e + 8
@@ -90,15 +90,15 @@ falls_passed e e' (Block next) is = rw is (omega arith)
 falls_passed e e' other is = rw is falls_none
 
 pub same_passed : (e e' : RunState) (action : Action) → e' ≡ passed_over e action → SameRun e e'
-same_passed e e' (Block next) is = rw is (record { script = refl; limits = refl })
-same_passed e e' other is = rw is (record { script = refl; limits = refl })
+same_passed e e' (Block next) is = rw is (record { script = refl; same_limits = refl })
+same_passed e e' other is = rw is (record { script = refl; same_limits = refl })
 
 -- a substitution replaced something, or nothing
-pub falls_replaced : (e e' : RunState) (s : State) → e' ≡ same_but_replaced e s → weight e' ≤ weight e
+pub falls_replaced : (e e' : RunState) (s : MachineState) → e' ≡ same_but_replaced e s → weight e' ≤ weight e
 falls_replaced e e' s is = rw is (omega arith)
 
-pub same_replaced : (e e' : RunState) (s : State) → e' ≡ same_but_replaced e s → SameRun e e'
-same_replaced e e' s is = rw is (record { script = refl; limits = refl })
+pub same_replaced : (e e' : RunState) (s : MachineState) → e' ≡ same_but_replaced e s → SameRun e e'
+same_replaced e e' s is = rw is (record { script = refl; same_limits = refl })
 
 -- an engine that weighs as much as the one that the fields a stand for
 pub falls_seen : (a : Inside) (e e1 e' : RunState) → run_state_of a ≡ e → weight e1 ≡ weight (run_state_of a) → weight e' ≤ weight e1 + 8 → weight e' ≤ weight e + 8
@@ -118,19 +118,19 @@ pub falls_flushed : (e e' : RunState) (turns : ℕ) → e' ≡ flushed e turns �
 falls_flushed e e' turns is later = rw is (omega arith)
 
 pub same_flushed : (e e' : RunState) (turns : ℕ) → e' ≡ flushed e turns → SameRun e e'
-same_flushed e e' turns is = rw is (record { script = refl; limits = refl })
+same_flushed e e' turns is = rw is (record { script = refl; same_limits = refl })
 
 -- turns were taken, and then the end came
 pub falls_turned : (e e' : RunState) (turns : ℕ) → e' ≡ with_turns e turns → e.state.turns ≤ turns → weight e' ≤ weight e
 falls_turned e e' turns is later = rw is (omega arith)
 
 pub same_turned : (e e' : RunState) (turns : ℕ) → e' ≡ with_turns e turns → SameRun e e'
-same_turned e e' turns is = rw is (record { script = refl; limits = refl })
+same_turned e e' turns is = rw is (record { script = refl; same_limits = refl })
 
 -- a line was brought, or there was none
 pub same_brought : (e e' : RunState) (got : Got) → e' ≡ brought e got → SameRun e e'
-same_brought e e' Line is = rw is (record { script = refl; limits = refl })
-same_brought e e' End is = rw is (record { script = refl; limits = refl })
+same_brought e e' Line is = rw is (record { script = refl; same_limits = refl })
+same_brought e e' End is = rw is (record { script = refl; same_limits = refl })
 
 pub falls_brought : (e e' : RunState) (got : Got) → e' ≡ brought e got → weight e' ≤ weight e
 falls_brought e e' Line is = rw is (omega arith)

@@ -2,12 +2,12 @@
 use Rattle.std.proofs.Common.{◌≡◌, ℕ, suc, zero, ◌+◌, ◌<◌, ◌≤◌, min, List, [], ◌∷◌, length, get_or, Option, Some, None, Result, Ok, Err, refl, subst, sym, ap, ◌∙◌, arith}
 use Rattle.std.specs.Prelude.{IfSome, IsNone, OnOk}
 use Rattle.sedscript.specs.Program.{Program}
-use Rattle.sedacts.specs.State.{Limits}
+use Rattle.sedacts.specs.State.{LimitsView}
 use Rattle.std.specs.List.{All}
 use Rattle.sedacts.specs.Ends.{bytes_of_sink, FillsSink, GainedWithin}
 use Rattle.sedacts.specs.DevicesAfter.{SinksAtEnd}
 use Rattle.sedacts.specs.Calls.{Delivers, FailedSink}
-use Rattle.sedacts.specs.Meters.{Frame, FullSink, InLimit, Meter, WereSent, SinkView, counted_bytes}
+use Rattle.sedacts.specs.Meters.{SinksFrame, FullSink, InLimit, Meter, WereSent, SinkView, counted_bytes}
 use Rattle.sedacts.specs.Run.{Cycles, CameToEnd, InputLeft, RunState, SameRun, Sends, at_lines, as_moves_answer, run_setting}
 use Rattle.sedacts.specs.declared.ends.Ended.{Ended}
 use Rattle.sedacts.specs.declared.ends.Ended.TheVariants.{OutputBroken, OutputFull}
@@ -20,10 +20,10 @@ within_limit n (x ∷ xs) zero h = h 0 0 (omega arith)
 within_limit n (x ∷ xs) (suc k) h = within_limit n xs k (λ j d lt. h (suc j) d (omega (arith, lt)))
 
 -- sinks with these contents, failures and counts
-abbrev pub tally_of : (ℕ → Option (List ℕ)) → (ℕ → ℕ) → Option ℕ → List ℕ → Frame → SinkView
+abbrev pub tally_of : (ℕ → Option (List ℕ)) → (ℕ → ℕ) → Option ℕ → List ℕ → SinksFrame → SinkView
 tally_of contents failures most sent frame = record { contents = contents; failures = failures; sent = counted_bytes most sent; frame = frame }
 
-module _ (sent sent' : List ℕ) (old new : ℕ → Option (List ℕ)) (f f' : ℕ → ℕ) (a a' : Frame) (out : List (ℕ × ℕ)) where
+module _ (sent sent' : List ℕ) (old new : ℕ → Option (List ℕ)) (f f' : ℕ → ℕ) (a a' : SinksFrame) (out : List (ℕ × ℕ)) where
   counts_on : (most : Option ℕ) → WereSent (tally_of old f most sent a) (tally_of new f' most sent' a') out → IfSome most (λ n. (k : ℕ) → get_or sent' k 0 ≡ get_or sent k 0 + length (bytes_of_sink k out))
   counts_on None h = tt
   counts_on (Some n) h = h.counts
@@ -51,7 +51,7 @@ sinks_at_end tally count s s' failures before after now most limit r is out fail
     at_end (Err other) failed full = (tt, failed)
 
 -- what the machine's sinks have gained by the meter is what the engine's have
-pub sends : (e e' : RunState) (m m' : Meter) (old new : ℕ → Option (List ℕ)) (f f' : ℕ → ℕ) (a a' : Frame) (r : Result Unit Ended) (out : List (ℕ × ℕ)) → m.most ≡ e.limits.output → m'.most ≡ m.most → a'.most ≡ m'.most →
+pub sends : (e e' : RunState) (m m' : Meter) (old new : ℕ → Option (List ℕ)) (f f' : ℕ → ℕ) (a a' : SinksFrame) (r : Result Unit Ended) (out : List (ℕ × ℕ)) → m.most ≡ e.limits.output → m'.most ≡ m.most → a'.most ≡ m'.most →
     m.sent ≡ e.sent → m'.sent ≡ e'.sent → InLimit m'.most m'.sent → FullSink (tally_of new f' m'.most m'.sent a') r → WereSent (tally_of old f m.most m.sent a) (tally_of new f' m'.most m'.sent a') out → Sends e e' old new r out
 sends e e' m m' old new f f' a a' r out limit same frame before now within full h =
     let W : Option ℕ → Type 0 = λ o. InLimit o m'.sent in
@@ -74,7 +74,7 @@ sends e e' m m' old new f f' a a' r out limit same frame before now within full 
     }
 
 -- A call of the machine m by the meter, which became m' and led to the machine m', is one of the engine that is seen as e.
-module _ {O : Type 0} (contents : O → ℕ → Option (List ℕ)) (m m' : RunState) (meter meter' : Meter) (ended ended' : Option Ended) (e : RunState) (before after now : O) (f f' : ℕ → ℕ) (a a' : Frame) (files : ℕ → List ℕ) (ls : List (List ℕ)) (old new : InputLeft)
+module _ {O : Type 0} (contents : O → ℕ → Option (List ℕ)) (m m' : RunState) (meter meter' : Meter) (ended ended' : Option Ended) (e : RunState) (before after now : O) (f f' : ℕ → ℕ) (a a' : SinksFrame) (files : ℕ → List ℕ) (ls : List (List ℕ)) (old new : InputLeft)
     (seen : record m { sent = meter.sent; ended = ended } ≡ e) (limit : meter.most ≡ m.limits.output) (is : now ≡ after) (same : meter'.most ≡ meter.most) (frame : a'.most ≡ meter'.most) (within : InLimit meter'.most meter'.sent) where
   sends_all : (r : Result Unit Ended) → FullSink (tally_of (contents after) f' meter'.most meter'.sent a') r → (out : List (ℕ × ℕ)) →
       WereSent (tally_of (contents before) f meter.most meter.sent a) (tally_of (contents after) f' meter'.most meter'.sent a') out →
@@ -114,11 +114,11 @@ sink_counts m e sent now ended n seen all less =
 pub meter_fits : (m m' : RunState) (meter meter' : Meter) → SameRun m m' → meter'.most ≡ meter.most → length meter'.sent ≡ length meter.sent → (meter.most ≡ m.limits.output) × (length meter.sent ≡ length m.script.wfiles + 1) →
     (meter'.most ≡ m'.limits.output) × (length meter'.sent ≡ length m'.script.wfiles + 1)
 meter_fits m m' meter meter' same most counts (limit, all) =
-    (most ∙ limit ∙ ap (λ (l : Limits). l.output) (sym same.limits), counts ∙ all ∙ ap (λ (p : Program). length p.wfiles + 1) (sym same.script))
+    (most ∙ limit ∙ ap (λ (l : LimitsView). l.output) (sym same.same_limits), counts ∙ all ∙ ap (λ (p : Program). length p.wfiles + 1) (sym same.script))
 
 pub same_metered : (m m' e : RunState) (sent sent' : List ℕ) (ended ended' : Option Ended) → record m { sent = sent; ended = ended } ≡ e → SameRun m m' → SameRun e (record m' { sent = sent'; ended = ended' })
 same_metered m m' e sent sent' ended ended' seen same =
-    subst (λ (e : RunState). SameRun e (record m' { sent = sent'; ended = ended' })) seen (record { script = same.script; limits = same.limits })
+    subst (λ (e : RunState). SameRun e (record m' { sent = sent'; ended = ended' })) seen (record { script = same.script; same_limits = same.same_limits })
 
 -- where a next cycle is due, what holds where the run goes on
 pub sound_more : {A : Type 0} (r : Progress) → OnOk (as_moves_answer r) A → r ≡ progress.More → A

@@ -5,7 +5,7 @@ use Rattle.sedspace.specs.Spaces.{SpaceView}
 use Rattle.sedspace.specs.Stream.{Stream, left, LosesPart}
 use Rattle.sedspace.specs.declared.lines.Got.{Got}
 use Rattle.sedspace.specs.declared.lines.Got.TheVariants.{Line, End}
-use Rattle.sedacts.specs.State.{Limits, Task, print_pattern, flush, empty_pattern, fetch, join, State, Move, Setting}
+use Rattle.sedacts.specs.State.{LimitsView, Task, print_pattern, flush, empty_pattern, fetch, join, MachineState, Move, Setting}
 use Rattle.sedacts.specs.Move.{next_move, newline, none_left, quietly, then_do, with_line}
 use Rattle.sedacts.specs.Ends.{WithinLimits, named_sink, reads}
 use Rattle.sedacts.specs.Held.{SameLengths}
@@ -27,7 +27,7 @@ use Rattle.sedengine.proofs.Tasks.{fits_of, fits_tasks, halts_here}
 use Rattle.sedacts.proofs.BroughtLines.{none_taken, shown}
 
 -- moves, and then a call that may take lines
-pub steps_then : {R : Type 0} (remaining : R → Option (List ℕ)) (o n : Stream R) (ls : List (List ℕ)) (l : Limits) (g : Setting) (s m : State) (e' : RunState) (old mid new : SinkView) (r : Result Unit Ended) →
+pub steps_then : {R : Type 0} (remaining : R → Option (List ℕ)) (o n : Stream R) (ls : List (List ℕ)) (l : LimitsView) (g : Setting) (s m : MachineState) (e' : RunState) (old mid new : SinkView) (r : Result Unit Ended) →
     Ran l g s m old mid → starts_cycle m.tasks ≡ false → s.lines ≡ m.lines → StepsFrom remaining o n ls l g m e' mid new r → StepsFrom remaining o n ls l g s e' old new r
 steps_then {R} remaining o n ls l g s m e' old mid new (Ok u) ran goes same (rest, taken, h) = (rest, taken, MakesMoves-then l g s m (at_lines e' rest) old mid new (Ok tt) ran goes h)
 steps_then {R} remaining o n ls l g s m e' old mid new (Err end) ran goes same h = record {
@@ -39,7 +39,7 @@ steps_then {R} remaining o n ls l g s m e' old mid new (Err end) ran goes same h
 }
 
 -- a call that looks at the input and takes no line, and then moves
-pub looked_moves : {R : Type 0} (remaining : R → Option (List ℕ)) (o n : Stream R) (ls : List (List ℕ)) (l : Limits) (g : Setting) (s : State) (e' : RunState) (sinks sinks' : SinkView) (r : Result Unit Ended) →
+pub looked_moves : {R : Type 0} (remaining : R → Option (List ℕ)) (o n : Stream R) (ls : List (List ℕ)) (l : LimitsView) (g : Setting) (s : MachineState) (e' : RunState) (sinks sinks' : SinkView) (r : Result Unit Ended) →
     TakesLines remaining o n ls ls → s.lines ≡ ls → MakesMoves l g s (at_lines e' ls) sinks sinks' r → StepsFrom remaining o n ls l g s e' sinks sinks' r
 looked_moves {R} remaining o n ls l g s e' sinks sinks' (Ok u) taken are h = (ls, taken, h)
 looked_moves {R} remaining o n ls l g s e' sinks sinks' (Err end) taken are h = record {
@@ -51,7 +51,7 @@ looked_moves {R} remaining o n ls l g s e' sinks sinks' (Err end) taken are h = 
 }
 
 -- a call that looks at the input and takes no line, and then one that may take lines
-pub looked_then : {R : Type 0} (remaining : R → Option (List ℕ)) (a b c : Stream R) (ls : List (List ℕ)) (l : Limits) (g : Setting) (s : State) (e' : RunState) (sinks sinks' : SinkView) (r : Result Unit Ended) →
+pub looked_then : {R : Type 0} (remaining : R → Option (List ℕ)) (a b c : Stream R) (ls : List (List ℕ)) (l : LimitsView) (g : Setting) (s : MachineState) (e' : RunState) (sinks sinks' : SinkView) (r : Result Unit Ended) →
     TakesLines remaining a b ls ls → StepsFrom remaining b c ls l g s e' sinks sinks' r → StepsFrom remaining a c ls l g s e' sinks sinks' r
 looked_then {R} remaining a b c ls l g s e' sinks sinks' (Ok u) taken (rest, more, h) = (rest, TakesLines-then remaining a b c ls ls rest taken more, h)
 looked_then {R} remaining a b c ls l g s e' sinks sinks' (Err end) taken h = record {
@@ -74,7 +74,7 @@ AfterBringing e c e' (Err end) = e' ≡ with_pattern e c.bytes
 -- The next line is brought to the pattern space of the engine e, in place of it or after it and a newline; s is the state
 -- at which this is due. Its move is `one` where a line is left, and `none` where there is none.
 module _ {R : Type 0} (remaining : R → Option (List ℕ)) (old new : Stream R) (ls : List (List ℕ)) (g : Setting) (e e' : RunState) (sinks : SinkView) (before : List ℕ) (c c' : SpaceView)
-    (f : WithinLimits e.limits (at_lines e ls)) (limit : c.limit ≡ e.limits.space) (pattern : c.bytes ≡ e.state.pattern) (s : State) (same_lines : s.lines ≡ ls) (fits : WithinLimits e.limits s)
+    (f : WithinLimits e.limits (at_lines e ls)) (limit : c.limit ≡ e.limits.space) (pattern : c.bytes ≡ e.state.pattern) (s : MachineState) (same_lines : s.lines ≡ ls) (fits : WithinLimits e.limits s)
     (hold : s.hold ≡ e.state.hold) (spaces : s.pattern ≡ e.state.pattern) (queue : s.queue ≡ e.state.queue)
     (line_is : line_at s s.tasks ≡ e.state.number + 1) (no_turn : takes_turn g s s.tasks ≡ false) (may_read : reads g s.tasks ≡ true)
     (one : (line : List ℕ) (rest : List (List ℕ)) → ls ≡ line ∷ rest → next_move g s ≡ quietly (with_line (before ++ line) rest (at_lines e ls)))
@@ -100,7 +100,7 @@ module _ {R : Type 0} (remaining : R → Option (List ℕ)) (old new : Stream R)
       ))
   brings_steps (Ok End) after (are, taken, is) =
       let bytes : c'.bytes ≡ e.state.pattern = ap (λ (c : SpaceView). c.bytes) is ∙ pattern in
-      let over : State = then_do [] (at_lines e []) in
+      let over : MachineState = then_do [] (at_lines e []) in
       rw after (rw bytes ([], taken, ran_quietly e.limits g s over sinks fits (none are ∙ ap (λ ls. quietly (then_do [] (at_lines e ls))) are) (record { pattern = f.pattern; hold = f.hold; queue = f.queue; turns = f.turns })))
   brings_steps (Err (PatternFull n)) after (number, (line, rest, are, more), is, gone) =
       halts (PatternFull n) after is refl (sym limit) gone (number ∙ sym line_is, (λ h. absurd (false≢true (sym no_turn ∙ h))), (_, one line rest are, omega (arith, more, limit)))
@@ -114,7 +114,7 @@ pub fetch_steps : {R : Type 0} (remaining : R → Option (List ℕ)) (old new : 
 fetch_steps {R} remaining old new ls files e e' sinks c c' r f limit none after brings =
     let g : Setting = run_setting e files in
     let e1 : RunState = with_pattern e [] in
-    let s : State = then_do (fetch ∷ e.state.tasks) (at_lines e1 ls) in
+    let s : MachineState = then_do (fetch ∷ e.state.tasks) (at_lines e1 ls) in
     let empty : length e1.state.pattern ≤ e.limits.space = omega arith in
     let f1 : WithinLimits e.limits (at_lines e1 ls) = record { pattern = empty; hold = f.hold; queue = f.queue; turns = f.turns } in
     let fs : WithinLimits e.limits s = record { pattern = empty; hold = f.hold; queue = f.queue; turns = f.turns } in
@@ -130,7 +130,7 @@ pub join_steps : {R : Type 0} (remaining : R → Option (List ℕ)) (old new : S
     StepsFrom remaining old new ls e.limits (run_setting e files) (then_do (join ∷ e.state.tasks) (at_lines e ls)) e' sinks sinks (shown r)
 join_steps {R} remaining old new ls files e e' sinks c c' r f limit same after brings =
     let g : Setting = run_setting e files in
-    let s : State = then_do (join ∷ e.state.tasks) (at_lines e ls) in
+    let s : MachineState = then_do (join ∷ e.state.tasks) (at_lines e ls) in
     let B : List ℕ → Type 0 = λ bytes. BringsNext remaining old new ls (bytes ++ newline ∷ []) (e.state.number + 1) c c' r in
     brings_steps remaining old new ls g e e' sinks (e.state.pattern ++ newline ∷ []) c c' f limit same s refl (fits_tasks _ (at_lines e ls) _ f) refl refl refl refl refl refl
     (λ line rest are. rw (are, append_assoc) (move_at _ _ _ refl)) (λ are. rw are (move_at _ _ _ refl)) r after (subst B same brings)
@@ -156,7 +156,7 @@ pub next_goes : (e e' : RunState) (files : ℕ → List ℕ) (ls : List (List �
 next_goes e e' files ls last shown is = rw (sym shown ∙ is) refl
 
 -- What is left of the tasks after the queue was written: F gives them from those of the engine.
-pub flushed_steps : {R : Type 0} (remaining : R → Option (List ℕ)) (o n : Stream R) (ls : List (List ℕ)) (files : ℕ → List ℕ) (F : List Task → List Task) (s : State) (e e1 e' : RunState) (turns : ℕ) (old mid new : SinkView) (r : Result Unit Ended) →
+pub flushed_steps : {R : Type 0} (remaining : R → Option (List ℕ)) (o n : Stream R) (ls : List (List ℕ)) (files : ℕ → List ℕ) (F : List Task → List Task) (s : MachineState) (e e1 e' : RunState) (turns : ℕ) (old mid new : SinkView) (r : Result Unit Ended) →
     e1 ≡ flushed e turns → starts_cycle (F e.state.tasks) ≡ false → s.lines ≡ ls → Ran e.limits (run_setting e files) s (then_do (F e.state.tasks) (at_lines e1 ls)) old mid →
     StepsFrom remaining o n ls e1.limits (run_setting e1 files) (then_do (F e1.state.tasks) (at_lines e1 ls)) e' mid new r → StepsFrom remaining o n ls e.limits (run_setting e files) s e' old new r
 flushed_steps {R} remaining o n ls files F s e e1 e' turns old mid new r is goes lines =
@@ -164,12 +164,12 @@ flushed_steps {R} remaining o n ls files F s e e1 e' turns old mid new r is goes
     StepsFrom remaining o n ls e.limits (run_setting e files) s e' old new r in
     subst Q (sym is) (λ ran h. steps_then remaining o n ls e.limits (run_setting e files) s (then_do (F e.state.tasks) (at_lines (flushed e turns) ls)) e' old mid new r ran goes lines h)
 
-steps_fits : {R : Type 0} (remaining : R → Option (List ℕ)) (o n : Stream R) (ls : List (List ℕ)) (l : Limits) (g : Setting) (s : State) (e' : RunState) (sinks sinks' : SinkView) (r : Result Unit Ended) → StepsFrom remaining o n ls l g s e' sinks sinks' r → WithinLimits l s
+steps_fits : {R : Type 0} (remaining : R → Option (List ℕ)) (o n : Stream R) (ls : List (List ℕ)) (l : LimitsView) (g : Setting) (s : MachineState) (e' : RunState) (sinks sinks' : SinkView) (r : Result Unit Ended) → StepsFrom remaining o n ls l g s e' sinks sinks' r → WithinLimits l s
 steps_fits {R} remaining o n ls l g s e' sinks sinks' (Ok u) (rest, taken, h) = ran_fits l g s (at_lines e' rest) sinks sinks' h
 steps_fits {R} remaining o n ls l g s e' sinks sinks' (Err end) h = moves_fits l g s (at_lines e' h.rest) sinks sinks' (Err end) h.stopped
 
 -- A command makes a quiet move, and then what h says.
-pub performs_then : {R : Type 0} (remaining : R → Option (List ℕ)) (o n : Stream R) (ls : List (List ℕ)) (l : Limits) (g : Setting) (first : Option Move) (asks : Bool) (there m : State) (e' : RunState) (old new : SinkView) (r : Result Unit Ended) →
+pub performs_then : {R : Type 0} (remaining : R → Option (List ℕ)) (o n : Stream R) (ls : List (List ℕ)) (l : LimitsView) (g : Setting) (first : Option Move) (asks : Bool) (there m : MachineState) (e' : RunState) (old new : SinkView) (r : Result Unit Ended) →
     first ≡ quietly m → starts_cycle m.tasks ≡ false → there.lines ≡ m.lines → StepsFrom remaining o n ls l g m e' old new r → PerformsSteps remaining o n ls l g first asks there e' old new r
 performs_then {R} remaining o n ls l g first asks there m e' old new r is goes lines h = λ s c asked move_is.
     steps_then remaining o n ls l g s m e' old old new r (ran_quietly l g s m old c.fits (move_is ∙ is) (steps_fits remaining o n ls l g m e' old new r h)) goes (c.lines ∙ lines) h
@@ -186,6 +186,6 @@ pub next_stops : {R : Type 0} (remaining : R → Option (List ℕ)) (o n : Strea
     PerformsSteps remaining o n ls e.limits (run_setting e files) (next_line (at_lines e ls)) true (at_lines e ls) (run_state_of (record a { next_step = p.WriteLast })) sinks sinks (Ok tt)
 next_stops {R} remaining o n ls files a e sinks last seen i taken shown is =
     let e0 : RunState = run_state_of a in
-    let now : State = then_do (print_pattern ∷ flush ∷ []) (at_lines e0 ls) in
+    let now : MachineState = then_do (print_pattern ∷ flush ∷ []) (at_lines e0 ls) in
     rw (← seen) (λ s c asked first. looked_moves remaining o n ls a.limits (run_setting e0 files) s (run_state_of (record a { next_step = p.WriteLast })) sinks sinks (Ok tt) taken c.lines
     (ran_quietly a.limits (run_setting e0 files) s now sinks c.fits (first ∙ next_quits e0 e0 files ls last shown is) (fits_tasks a.limits (at_lines e0 ls) (print_pattern ∷ flush ∷ []) (fits_of a ls i))))

@@ -430,10 +430,10 @@ pub counted_falls : (e e₁ e' : RunState) (b : IdleLines) → e' ≡ counted_bl
 counted_falls e e₁ e' b is same = rw (is, same) (omega arith)
 
 pub counted_same : (e e₁ e' : RunState) (b : IdleLines) → e' ≡ counted_block e₁ b → e₁ ≡ e → SameRun e e'
-counted_same e e₁ e' b is same = rw (is, same) (record { script = refl; limits = refl })
+counted_same e e₁ e' b is same = rw (is, same) (record { script = refl; same_limits = refl })
 
 pub brought_same : (e e₁ e' : RunState) (line : List ℕ) → e' ≡ line_brought e₁ line → e₁ ≡ e → SameRun e e'
-brought_same e e₁ e' line is same = rw (is, same) (record { script = refl; limits = refl })
+brought_same e e₁ e' line is same = rw (is, same) (record { script = refl; same_limits = refl })
 
 -- The places at which a line is cut out of what is ahead, which is known by another name.
 pub done_taken : (ahead all : List ℕ) (done bytes : ℕ) → ahead ≡ all → done < bytes → bytes ≤ length all → done ≡ length (take done ahead)

@@ -8,7 +8,7 @@ use Rattle.std.specs.Option.{option_map}
 use Rattle.sedspace.specs.Lines.{split_lines}
 use Rattle.sedspace.specs.Reading.{TakesAtMost}
 use Rattle.sedspace.specs.Stream.{Stream, left}
-use Rattle.sedacts.specs.State.{Limits, State, Setting}
+use Rattle.sedacts.specs.State.{LimitsView, MachineState, Setting}
 use Rattle.sedacts.specs.Move.{after, to_sink, written}
 use Rattle.sedacts.specs.Meters.{WereSent, SinkView}
 use Rattle.sedacts.specs.Ends.{named_sink, LosesPartAfter, size_of}
@@ -31,16 +31,16 @@ use Rattle.sedengine.proofs.PassingLemmas.{idle_block, broken_block, block_left_
 use Rattle.sedacts.proofs.Gains.{to_sink-append}
 
 -- The run that began with the engine a and the lines `from`, and came to the engine e.
-module _ {R : Type 0} (remaining : R → Option (List ℕ)) (from at to : Stream R) (files : ℕ → List ℕ) (a : RunState) (s : State) (e : RunState) (old mid new : SinkView) (same : SameRun a e)
+module _ {R : Type 0} (remaining : R → Option (List ℕ)) (from at to : Stream R) (files : ℕ → List ℕ) (a : RunState) (s : MachineState) (e : RunState) (old mid new : SinkView) (same : SameRun a e)
     (r : Reached remaining from at a.limits (run_setting a files) s e old mid) where
   pub passed_on : (e' : RunState) (rest : List (List ℕ)) → MovesLedTo e.limits (run_setting e files) (at_lines e r.rest) (at_lines e' rest) mid new → MovesLedTo a.limits (run_setting a files) (after (run_setting a files) s r.t) (at_lines e' rest) mid new
   passed_on e' rest h =
-      rw r.is (rw (← (same_setting a e files same)) (rw (← same.limits) h))
+      rw r.is (rw (← (same_setting a e files same)) (rw (← same.same_limits) h))
 
   pub passing_halted_on : (e' : RunState) (end : Ended) → HaltedPassing remaining at to e.limits (run_setting e files) (at_lines e r.rest) e' mid new end →
       HaltedPassing remaining at to a.limits (run_setting a files) (after (run_setting a files) s r.t) e' mid new end
   passing_halted_on e' end h =
-      rw r.is (rw (← (same_setting a e files same)) (rw (← same.limits) h))
+      rw r.is (rw (← (same_setting a e files same)) (rw (← same.same_limits) h))
 
   -- the run goes on
   abbrev pub pass_on : (e' : RunState) → StepsPassing remaining at to r.rest e.limits (run_setting e files) (at_lines e r.rest) e' mid new (Ok tt) → Reached remaining from to a.limits (run_setting a files) s e' old new
@@ -64,9 +64,9 @@ module _ {R : Type 0} (remaining : R → Option (List ℕ)) (from at to : Stream
       let g : Setting = run_setting a files in
       let h = passing_halted_on e' end halted in
       let u : ℕ = h.stopped.t in
-      let rest : r.rest ≡ (after g s r.t).lines = sym (ap (λ (x : State). x.lines) r.is) in
+      let rest : r.rest ≡ (after g s r.t).lines = sym (ap (λ (x : MachineState). x.lines) r.is) in
       let are : s.lines ≡ (r.taken.lines ++ h.lines) ++ (after g s (r.t + u)).lines =
-      r.taken.are ∙ ap (λ x. r.taken.lines ++ x) (rest ∙ h.are ∙ ap (λ x. h.lines ++ x) (sym h.stopped.lines ∙ ap (λ (x : State). x.lines) (sym (after-add g s r.t u)))) ∙ sym (append_assoc r.taken.lines h.lines _) in
+      r.taken.are ∙ ap (λ x. r.taken.lines ++ x) (rest ∙ h.are ∙ ap (λ x. h.lines ++ x) (sym h.stopped.lines ∙ ap (λ (x : MachineState). x.lines) (sym (after-add g s r.t u)))) ∙ sym (append_assoc r.taken.lines h.lines _) in
       let sizes : size_of r.taken.lines + size_of h.lines ≤ size_of (r.taken.lines ++ h.lines) = let e = size_of-append r.taken.lines h.lines in omega arith in
       let all = LosesPartAfter-then (left remaining from) (left remaining at) (left remaining to) _ _ _ _ sizes r.taken.bytes h.bytes in (
         written g s r.t ++ h.stopped.out,
@@ -122,7 +122,7 @@ block_passed {R} remaining from to block bytes e g c old new was is finds idle c
     )
 
 -- an end that names a sink loses nothing
-nothing_lost : (l : Limits) (end : Ended) → named_sink end ≡ Some 0 → lost l end ≡ 0
+nothing_lost : (l : LimitsView) (end : Ended) → named_sink end ≡ Some 0 → lost l end ≡ 0
 nothing_lost l (PatternFull n) names = cc
 nothing_lost l InputBroken names = cc
 nothing_lost l other names = refl
@@ -137,7 +137,7 @@ pub block_broken : {R : Type 0} (remaining : R → Option (List ℕ)) (from to :
     HaltedPassing remaining from to e.limits g (at_lines e (split_lines (block ++ 10 ∷ []) ++ split_lines (tail ++ bytes))) e' old new end
 block_broken {R} remaining from to block tail bytes e e' g c before line d old new end was is parts finds idle can alone short turns loud inside took names pattern hold queue =
     let rest : List (List ℕ) = split_lines (tail ++ bytes) in
-    let s : State = at_lines e (split_lines (block ++ 10 ∷ []) ++ rest) in
+    let s : MachineState = at_lines e (split_lines (block ++ 10 ∷ []) ++ rest) in
     let many : length (split_lines (block ++ 10 ∷ [])) ≡ suc (length before) = ap length parts ∙ (let n = length-append before (line ∷ []) in omega arith) in
     let enough : e.state.turns + length before * (c + 1) + 1 + c ≤ e.limits.turns = let all = subst (λ (n : ℕ). e.state.turns + n * (c + 1) ≤ e.limits.turns) many turns in omega (arith, suc-mul (length before) (c + 1)) in
     let whole : bytes_of_lines (before ++ line ∷ []) ≡ block ++ 10 ∷ [] = ap bytes_of_lines (sym parts) ∙ block_bytes block in

@@ -3,7 +3,7 @@ use Rattle.std.proofs.Common.{subst, ◌≡◌, ℕ, ◌<◌, ◌+◌, ◌≤◌
 use Rattle.std.specs.Prelude.{max}
 use Rattle.sedspace.specs.Stream.{Stream, left, lines_left}
 use Rattle.sedspace.specs.Reading.{TakesAtMost}
-use Rattle.sedacts.specs.State.{Limits, State, Setting, setting_of}
+use Rattle.sedacts.specs.State.{LimitsView, MachineState, Setting, setting_of}
 use Rattle.sedacts.specs.Move.{after, written}
 use Rattle.sedacts.specs.Meters.{WereSent, SinkView}
 use Rattle.sedacts.specs.Ends.{WithinLimits, StaysWithin, named_sink, size_of, LosesPartAfter}
@@ -23,17 +23,17 @@ use Rattle.std.proofs.KnownBytes.{prepend_known-nil}
 use Rattle.sedacts.proofs.Streams.{LosesPartAfter-bytes, LosesPartAfter-takes, LosesPartAfter-then, TakesLines-then, TakesAtMost-more, source_takes, lines_same, size_of-append}
 use Rattle.sedacts.proofs.Moves.{after-add, written-add, StaysWithin-add, Cause-add, HoldsAt-add, InOneCycle-add, within_none, after_none, written_none}
 
-same_without : (s : State) (e : RunState) (ls : List (List ℕ)) → SameLengths s (at_lines e ls) → SameLengths s e.state
+same_without : (s : MachineState) (e : RunState) (ls : List (List ℕ)) → SameLengths s (at_lines e ls) → SameLengths s e.state
 same_without s e ls h = record { pattern = h.pattern; hold = h.hold; queue = h.queue; entries = h.entries }
 
 -- the lengths don't depend on the lines
-pub without_lines : (g : Setting) (s : State) (t : ℕ) (e : RunState) (ls : List (List ℕ)) (o : Option ℕ) → HoldsAt g s t (at_lines e ls) o → HoldsAt g s t e.state o
+pub without_lines : (g : Setting) (s : MachineState) (t : ℕ) (e : RunState) (ls : List (List ℕ)) (o : Option ℕ) → HoldsAt g s t (at_lines e ls) o → HoldsAt g s t e.state o
 without_lines g s t e ls None h = same_without _ e ls h
 without_lines g s t e ls (Some k) (inl h) = inl (same_without _ e ls h)
 without_lines g s t e ls (Some k) (inr h) = inr (same_without _ e ls h)
 
 -- What the first t moves led to: `at` is where the lines are, `from` where they were.
-pub record Reached {R : Type 0} (remaining : R → Option (List ℕ)) (from at : Stream R) (l : Limits) (g : Setting) (s : State) (e : RunState) (old new : SinkView) : Type 0 where
+pub record Reached {R : Type 0} (remaining : R → Option (List ℕ)) (from at : Stream R) (l : LimitsView) (g : Setting) (s : MachineState) (e : RunState) (old new : SinkView) : Type 0 where
   pub t : ℕ
   pub rest : List (List ℕ)
   pub taken : TakesLines remaining from at s.lines rest
@@ -41,7 +41,7 @@ pub record Reached {R : Type 0} (remaining : R → Option (List ℕ)) (from at :
   pub within : StaysWithin l g s t
   pub gained : WereSent old new (written g s t)
 
-abbrev pub Reached-none : {R : Type 0} (remaining : R → Option (List ℕ)) (from : Stream R) (l : Limits) (g : Setting) (e : RunState) (ls : List (List ℕ)) (sinks : SinkView) →
+abbrev pub Reached-none : {R : Type 0} (remaining : R → Option (List ℕ)) (from : Stream R) (l : LimitsView) (g : Setting) (e : RunState) (ls : List (List ℕ)) (sinks : SinkView) →
     lines_left remaining from ≡ Some ls → WithinLimits l (at_lines e ls) → Reached remaining from from l g (at_lines e ls) e sinks sinks
 Reached-none {R} remaining from l g e ls sinks known f = record {
   t = 0;
@@ -57,13 +57,13 @@ same_setting old new files s = ap (λ p. setting_of p files) s.script
 
 -- the engine that fields with the same script and the same limits stand for
 pub same_seen : (a : Inside) (e e' : RunState) → run_state_of a ≡ e → e'.script ≡ a.script → e'.limits ≡ a.limits → SameRun e e'
-same_seen a e e' seen script limits = rw (← seen) (record { script = script; limits = limits })
+same_seen a e e' seen script limits = rw (← seen) (record { script = script; same_limits = limits })
 
 pub SameRun-then : {a b c : RunState} → SameRun a b → SameRun b c → SameRun a c
-SameRun-then s t = record { script = t.script ∙ s.script; limits = t.limits ∙ s.limits }
+SameRun-then s t = record { script = t.script ∙ s.script; same_limits = t.same_limits ∙ s.same_limits }
 
 -- what was taken from the source, by what was taken of all that was still to come
-pub takes_of : {R : Type 0} (remaining : R → Option (List ℕ)) (from to : Stream R) (l : Limits) (g : Setting) (s : State) (t n m : ℕ) (lines : List (List ℕ)) → s.lines ≡ lines ++ (after g s t).lines →
+pub takes_of : {R : Type 0} (remaining : R → Option (List ℕ)) (from to : Stream R) (l : LimitsView) (g : Setting) (s : MachineState) (t n m : ℕ) (lines : List (List ℕ)) → s.lines ≡ lines ++ (after g s t).lines →
     LosesPartAfter (left remaining from) (left remaining to) (size_of lines) n → (k : ℕ) × TakesAtMost (remaining from.source) (remaining to.source) k →
     length to.ahead ≤ max (length from.ahead) l.look → n + l.look ≤ m → TakesLeft g s (input_of remaining from) (input_of remaining to) n m t
 takes_of {R} remaining from to l g s t n m lines are gone shrinks ahead most = record {
@@ -75,22 +75,22 @@ takes_of {R} remaining from to l g s t n m lines are gone shrinks ahead most = r
   all = gone;
 }
 
-pub lost_more : (l : Limits) (end : Ended) → lost l end + l.look ≤ more_at l end
+pub lost_more : (l : LimitsView) (end : Ended) → lost l end + l.look ≤ more_at l end
 lost_more l InputBroken = omega arith
 lost_more l other = omega arith
 
 -- The run that began with the engine a and the lines `from`, and came to the engine e.
-module _ {R : Type 0} (remaining : R → Option (List ℕ)) (from at to : Stream R) (files : ℕ → List ℕ) (a : RunState) (s : State) (e : RunState) (old mid new : SinkView) (same : SameRun a e)
+module _ {R : Type 0} (remaining : R → Option (List ℕ)) (from at to : Stream R) (files : ℕ → List ℕ) (a : RunState) (s : MachineState) (e : RunState) (old mid new : SinkView) (same : SameRun a e)
     (r : Reached remaining from at a.limits (run_setting a files) s e old mid) where
   -- what a call answers, for the run's own limits, from the state reached
   pub ran_on : (e' : RunState) (rest : List (List ℕ)) → Ran e.limits (run_setting e files) (at_lines e r.rest) (at_lines e' rest) mid new → Ran a.limits (run_setting a files) (after (run_setting a files) s r.t) (at_lines e' rest) mid new
   ran_on e' rest h =
-      rw r.is (rw (← (same_setting a e files same)) (rw (← same.limits) h))
+      rw r.is (rw (← (same_setting a e files same)) (rw (← same.same_limits) h))
 
   pub halted_on : (e' : RunState) (end : Ended) → Halted remaining at to e.limits (run_setting e files) (at_lines e r.rest) e' mid new end →
       Halted remaining at to a.limits (run_setting a files) (after (run_setting a files) s r.t) e' mid new end
   halted_on e' end h =
-      rw r.is (rw (← (same_setting a e files same)) (rw (← same.limits) h))
+      rw r.is (rw (← (same_setting a e files same)) (rw (← same.same_limits) h))
 
   abbrev pub step_on : (e' : RunState) → StepsOf remaining at to r.rest e.limits (run_setting e files) e e' mid new (Ok tt) → Reached remaining from to a.limits (run_setting a files) s e' old new
   step_on e' (rest, taken, ran) =
@@ -112,9 +112,9 @@ module _ {R : Type 0} (remaining : R → Option (List ℕ)) (from at to : Stream
       let g : Setting = run_setting a files in
       let h = halted_on e' end halted in
       let u : ℕ = h.stopped.t in
-      let rest : r.rest ≡ (after g s r.t).lines = sym (ap (λ (x : State). x.lines) r.is) in
+      let rest : r.rest ≡ (after g s r.t).lines = sym (ap (λ (x : MachineState). x.lines) r.is) in
       let are : s.lines ≡ (r.taken.lines ++ h.lines) ++ (after g s (r.t + u)).lines =
-      r.taken.are ∙ ap (λ x. r.taken.lines ++ x) (rest ∙ h.are ∙ ap (λ x. h.lines ++ x) (sym h.stopped.lines ∙ ap (λ (x : State). x.lines) (sym (after-add g s r.t u)))) ∙ sym (append_assoc r.taken.lines h.lines _) in
+      r.taken.are ∙ ap (λ x. r.taken.lines ++ x) (rest ∙ h.are ∙ ap (λ x. h.lines ++ x) (sym h.stopped.lines ∙ ap (λ (x : MachineState). x.lines) (sym (after-add g s r.t u)))) ∙ sym (append_assoc r.taken.lines h.lines _) in
       let sizes : size_of r.taken.lines + size_of h.lines ≤ size_of (r.taken.lines ++ h.lines) = let e = size_of-append r.taken.lines h.lines in omega arith in
       let all = LosesPartAfter-then (left remaining from) (left remaining at) (left remaining to) _ _ _ _ sizes r.taken.bytes h.bytes in (
         written g s r.t ++ h.stopped.out,
@@ -146,12 +146,12 @@ module _ {R : Type 0} (remaining : R → Option (List ℕ)) (from at to : Stream
       rw all (InOneCycle-add (run_setting a files) s r.t (h.stopped.t + 1) one h.stopped.one)
 
 -- a cycle was made
-pub cycled : {R : Type 0} (remaining : R → Option (List ℕ)) (from to : Stream R) (l : Limits) (g : Setting) (s : State) (e : RunState) (old new : SinkView) →
+pub cycled : {R : Type 0} (remaining : R → Option (List ℕ)) (from to : Stream R) (l : LimitsView) (g : Setting) (s : MachineState) (e : RunState) (old new : SinkView) →
     (r : Reached remaining from to l g s e old new) → 0 < r.t → InOneCycle g s r.t → starts_cycle e.state.tasks ≡ true →
     (k : ℕ) × TakesAtMost (remaining from.source) (remaining to.source) k → length to.ahead ≤ max (length from.ahead) from.read_ahead → from.read_ahead ≡ l.look →
     (rest : List (List ℕ)) × (lines_left remaining to ≡ Some rest) × Cycled l g s (written g s r.t) (input_of remaining from) (input_of remaining to) (at_lines e rest)
 cycled {R} remaining from to l g s e old new r some one starts shrinks ahead look =
-    let are : s.lines ≡ r.taken.lines ++ (after g s r.t).lines = r.taken.are ∙ ap (λ x. r.taken.lines ++ x) (sym (ap (λ (x : State). x.lines) r.is)) in (
+    let are : s.lines ≡ r.taken.lines ++ (after g s r.t).lines = r.taken.are ∙ ap (λ x. r.taken.lines ++ x) (sym (ap (λ (x : MachineState). x.lines) r.is)) in (
       r.rest,
       r.taken.known,
       record {

@@ -10,7 +10,7 @@ use Rattle.sedmatch.specs.declared.occurrences.Occurrences.{Occurrences}
 use Rattle.sedscript.specs.declared.substitution.Substitution.{Substitution}
 use Rattle.sedspace.specs.Spaces.{SpaceView}
 use Rattle.sedspace.specs.declared.errors.Full.{Full}
-use Rattle.sedacts.specs.State.{Task, do_at, State, Move, Setting, search_in}
+use Rattle.sedacts.specs.State.{Task, do_at, MachineState, Move, Setting, search_in}
 use Rattle.sedacts.specs.Substitute.{Occurrence, to_replace, each_occurrence, replaced_from}
 use Rattle.sedacts.specs.Select.{stands_for}
 use Rattle.sedacts.specs.Move.{next_move, quietly, writing, replaces}
@@ -133,12 +133,12 @@ module _ (a : Inside) (i : IsConsistent a) (w : List ℕ) (same : w ≡ a.patter
       made_in a.pattern new limit made r u _ becomes (subst Q same (subst S (same_Some t u (sym is ∙ is')) h))
 
 -- a move whose pattern space has no room for what it makes
-leads_full : (s : State) (t : Substitution) (ms : List Occurrence) (space : ℕ) → 0 < length ms → space < length (replaced_from s.pattern t.replacement 0 ms) →
+leads_full : (s : MachineState) (t : Substitution) (ms : List Occurrence) (space : ℕ) → 0 < length ms → space < length (replaced_from s.pattern t.replacement 0 ms) →
     Leads (replaces s t ms) (λ m. space < length m.next.pattern)
 leads_full s t [] space some more = absurd (omega arith)
 leads_full s t (m ∷ ms) space some more = (_, refl, more)
 
-pub makes_full : (a : Inside) (r : RunState) (seen : run_state_of a ≡ r) (es : List WrittenExpression) (same : es ≡ a.script.expressions) (k e : ℕ) (files : ℕ → List ℕ) (ls : List (List ℕ)) (t : Substitution) (new : SpaceView) (now : State) (f : Full) → a.pattern.limit ≡ a.limits.space →
+pub makes_full : (a : Inside) (r : RunState) (seen : run_state_of a ≡ r) (es : List WrittenExpression) (same : es ≡ a.script.expressions) (k e : ℕ) (files : ℕ → List ℕ) (ls : List (List ℕ)) (t : Substitution) (new : SpaceView) (now : MachineState) (f : Full) → a.pattern.limit ≡ a.limits.space →
     slice_get r.script.substitutions k ≡ Some t →
     ((t : Substitution) → slice_get a.script.substitutions k ≡ Some t → ReplacesIn t (to_replace t.number t.global (each_occurrence (search_in es e a.pattern.bytes) (length a.pattern.bytes))) a.pattern new (Err f)) →
     MakesSubstitution r.limits (replaces (record (at_lines r ls) { used = Some e }) t (to_replace_in (run_setting r files) t e r.state.pattern)) t (at_lines r ls) now (Err (PatternFull a.number))
@@ -164,7 +164,7 @@ there_is (x ∷ xs) zero h = (x, refl)
 there_is (x ∷ xs) (suc k) h = there_is xs k (omega arith)
 
 -- the line of a command that is reached
-pub reached_line : (s : State) (ts : List Task) → reaches ts ≡ true → line_at s ts ≡ s.number
+pub reached_line : (s : MachineState) (ts : List Task) → reaches ts ≡ true → line_at s ts ≡ s.number
 reached_line s [] h = cc
 reached_line s (do_at k ∷ rest) h = refl
 reached_line s (other ∷ rest) h = cc
@@ -192,7 +192,7 @@ module _ (r r' : RunState) (ls : List (List ℕ)) (before : WithinLimits r.limit
   pub replaced_not : (end : Ended) → r'.state.pattern ≡ r.state.pattern → MakesSubstitution r.limits o t (at_lines r ls) (at_lines r' ls) (Err end) → MakesMove r.limits g o (at_lines r ls) (at_lines r' ls) old old (Err end)
   replaced_not end kept is = λ s c first. stops s c first end is
     where
-      lengths : (s : State) → ReachesCommand r.limits g s (at_lines r ls) → SameLengths s (at_lines r' ls)
+      lengths : (s : MachineState) → ReachesCommand r.limits g s (at_lines r ls) → SameLengths s (at_lines r' ls)
       lengths s c =
           let w = c.same in
           record {
@@ -202,7 +202,7 @@ module _ (r r' : RunState) (ls : List (List ℕ)) (before : WithinLimits r.limit
             entries = let more = w.entries in let queue = ap (λ (r : RunState). length r.state.queue) same in omega arith;
           }
 
-      stops : (s : State) (c : ReachesCommand r.limits g s (at_lines r ls)) → next_move g s ≡ o → (end : Ended) → MakesSubstitution r.limits o t (at_lines r ls) (at_lines r' ls) (Err end) → MakesMoves r.limits g s (at_lines r' ls) old old (Err end)
+      stops : (s : MachineState) (c : ReachesCommand r.limits g s (at_lines r ls)) → next_move g s ≡ o → (end : Ended) → MakesSubstitution r.limits o t (at_lines r ls) (at_lines r' ls) (Err end) → MakesMoves r.limits g s (at_lines r' ls) old old (Err end)
       stops s c first (NoPrevious n) (without, number) =
           stopped_here r.limits g s (at_lines r' ls) old (NoPrevious n) c.fits refl (number ∙ sym c.number, c.turn, c.reaches, first ∙ without) (lengths s c) c.lines
       stops s c first (PatternFull n) ((m, is, more), number) =
@@ -218,10 +218,10 @@ pub of_one : (a : Inside) (e : RunState) (k : ℕ) (t : Substitution) → run_st
 of_one a e k t seen is = of_this e k t (ap (λ (e : RunState). slice_get e.script.substitutions k) (sym seen) ∙ is)
 
 -- the state in which the pattern space became a text by a substitution
-abbrev pub becomes : State → Substitution → List ℕ → Option Move
+abbrev pub becomes : MachineState → Substitution → List ℕ → Option Move
 becomes s t w = writing (written_by t w) (record s { pattern = w; replaced = true })
 
-replaces_some : (s : State) (t : Substitution) (ms : List Occurrence) → 0 < length ms → replaces s t ms ≡ becomes s t (replaced_from s.pattern t.replacement 0 ms)
+replaces_some : (s : MachineState) (t : Substitution) (ms : List Occurrence) → 0 < length ms → replaces s t ms ≡ becomes s t (replaced_from s.pattern t.replacement 0 ms)
 replaces_some s t [] some = absurd (omega arith)
 replaces_some s t (m ∷ ms) some = refl
 
@@ -232,9 +232,9 @@ pub makes_some : (a : Inside) (r : RunState) (seen : run_state_of a ≡ r) (es :
     MakesSubstitution r.limits (replaces (record (at_lines r ls) { used = Some e }) t (to_replace_in (run_setting r files) t e r.state.pattern)) t (at_lines r ls)
     (record (at_lines (run_state_of a) ls) { pattern = new.bytes; used = Some e; replaced = true }) (Ok true)
 makes_some a r seen es same k e files ls t new is h =
-    let now : State = record (at_lines (run_state_of a) ls) { pattern = new.bytes; used = Some e; replaced = true } in
+    let now : MachineState = record (at_lines (run_state_of a) ls) { pattern = new.bytes; used = Some e; replaced = true } in
     let Q : RunState → Type 0 = λ r. slice_get r.script.substitutions k ≡ Some t → replaces (record (at_lines r ls) { used = Some e }) t (to_replace_in (run_setting r files) t e r.state.pattern) ≡ writing (written_by t now.pattern) now in
-    let s : State = record (at_lines (run_state_of a) ls) { used = Some e } in
+    let s : MachineState = record (at_lines (run_state_of a) ls) { used = Some e } in
     let ms = to_replace_in (run_setting (run_state_of a) files) t e a.pattern.bytes in
     subst Q seen
     (λ is.
@@ -247,9 +247,9 @@ pub makes_none : (a : Inside) (r : RunState) (seen : run_state_of a ≡ r) (es :
     MakesSubstitution r.limits (replaces (record (at_lines r ls) { used = Some e }) t (to_replace_in (run_setting r files) t e r.state.pattern)) t (at_lines r ls)
     (record (at_lines (run_state_of a) ls) { pattern = new.bytes; used = Some e }) (Ok false)
 makes_none a r seen es same k e files ls t new is h =
-    let now : State = record (at_lines (run_state_of a) ls) { pattern = new.bytes; used = Some e } in
+    let now : MachineState = record (at_lines (run_state_of a) ls) { pattern = new.bytes; used = Some e } in
     let Q : RunState → Type 0 = λ r. slice_get r.script.substitutions k ≡ Some t → replaces (record (at_lines r ls) { used = Some e }) t (to_replace_in (run_setting r files) t e r.state.pattern) ≡ quietly now in
-    let s : State = record (at_lines (run_state_of a) ls) { used = Some e } in
+    let s : MachineState = record (at_lines (run_state_of a) ls) { used = Some e } in
     subst Q seen
     (λ is.
     let made = rw same at (h t is) in

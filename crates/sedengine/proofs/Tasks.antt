@@ -8,7 +8,7 @@ use Rattle.sedspace.specs.Spaces.{SpaceView, QueueView}
 use Rattle.sedspace.specs.declared.errors.Full.{Full}
 use Rattle.sedspace.specs.Stream.{Stream, left, lines_left, TakesLine, GivesLine, NoLineLeft, FirstIsLonger, KeepsLines, LosesPart}
 use Rattle.sedspace.specs.Reading.{TakesAtMost}
-use Rattle.sedacts.specs.State.{Limits, Task, begin, rebegin, do_at, State, Setting}
+use Rattle.sedacts.specs.State.{LimitsView, Task, begin, rebegin, do_at, MachineState, Setting}
 use Rattle.sedacts.specs.Move.{newline, next_move, start, quietly, then_do, none_left}
 use Rattle.sedengine.specs.Holding.{BecomesOrFull}
 use Rattle.sedacts.specs.Ends.{WithinLimits, reads, named_sink}
@@ -35,7 +35,7 @@ fits_at a ls pattern hold queue turns = record { pattern = pattern; hold = hold;
 pub fits_of : (a : Inside) (ls : List (List ℕ)) → IsConsistent a → WithinLimits a.limits (at_lines (run_state_of a) ls)
 fits_of a ls i = fits_at a ls i.pattern i.hold i.queue i.turns
 
-pub fits_tasks : (l : Limits) (s : State) (ts : List Task) → WithinLimits l s → WithinLimits l (then_do ts s)
+pub fits_tasks : (l : LimitsView) (s : MachineState) (ts : List Task) → WithinLimits l s → WithinLimits l (then_do ts s)
 fits_tasks l s ts f = record { pattern = f.pattern; hold = f.hold; queue = f.queue; turns = f.turns }
 
 seen_steps : {R : Type 0} (remaining : R → Option (List ℕ)) (old new : Stream R) (a : Inside) (e e' : RunState) (ts : List Task) (files : ℕ → List ℕ) (ls : List (List ℕ)) (sinks sinks' : SinkView) (r : Result Unit Ended) →
@@ -44,7 +44,7 @@ seen_steps : {R : Type 0} (remaining : R → Option (List ℕ)) (old new : Strea
 seen_steps {R} remaining old new a e e' ts files ls sinks sinks' r seen t h = rw (← seen) (h (rw (← seen) at t))
 
 -- The end comes at once, and no line was taken.
-pub halts_here : {R : Type 0} (remaining : R → Option (List ℕ)) (old new : Stream R) (l : Limits) (g : Setting) (s : State) (e : RunState) (sinks : SinkView) (end : Ended) → WithinLimits l s → named_sink end ≡ None → StopsTask l g s end → SameLengths s e.state →
+pub halts_here : {R : Type 0} (remaining : R → Option (List ℕ)) (old new : Stream R) (l : LimitsView) (g : Setting) (s : MachineState) (e : RunState) (sinks : SinkView) (end : Ended) → WithinLimits l s → named_sink end ≡ None → StopsTask l g s end → SameLengths s e.state →
     LosesPart (left remaining old) (left remaining new) (lost l end) → Halted remaining old new l g s e sinks sinks end
 halts_here {R} remaining old new l g s e sinks end f none cause same part = record {
   rest = s.lines;
@@ -174,7 +174,7 @@ ends_here {R} remaining old a e seen i ls files sinks over =
     rw (← seen) (halts_here remaining old old a.limits (run_setting (run_state_of a) files) (at_lines (run_state_of a) ls) (run_state_of a) sinks Done (fits_of a ls i) refl (ap tasks_of over) (record { pattern = refl; hold = refl; queue = λ _. refl; entries = omega arith }) (LosesPart-none _ _ _ (TakesAtMost-none _)))
 
 -- What takes no lines keeps those that are left.
-pub steps_by_moves : {R : Type 0} (remaining : R → Option (List ℕ)) (old : Stream R) (ls : List (List ℕ)) (l : Limits) (g : Setting) (e e' : RunState) (sinks sinks' : SinkView) (r : Result Unit Ended) → lines_left remaining old ≡ Some ls →
+pub steps_by_moves : {R : Type 0} (remaining : R → Option (List ℕ)) (old : Stream R) (ls : List (List ℕ)) (l : LimitsView) (g : Setting) (e e' : RunState) (sinks sinks' : SinkView) (r : Result Unit Ended) → lines_left remaining old ≡ Some ls →
     MakesMoves l g (at_lines e ls) (at_lines e' ls) sinks sinks' r → StepsOf remaining old old ls l g e e' sinks sinks' r
 steps_by_moves {R} remaining old ls l g e e' sinks sinks' (Ok u) known ran = (ls, lines_same remaining old ls known, ran)
 steps_by_moves {R} remaining old ls l g e e' sinks sinks' (Err end) known stopped = record {
@@ -186,7 +186,7 @@ steps_by_moves {R} remaining old ls l g e e' sinks sinks' (Err end) known stoppe
 }
 
 -- an engine at the start, with this pattern space, hold space, queue and ranges
-abbrev pub starting : Program → Limits → List ℕ → List ℕ → List ℕ → List Bool → RunState
+abbrev pub starting : Program → LimitsView → List ℕ → List ℕ → List ℕ → List Bool → RunState
 starting script l pattern hold queue ranges = record {
   script = script;
   limits = l;
@@ -195,7 +195,7 @@ starting script l pattern hold queue ranges = record {
   ended = None;
 }
 
-pub opened : (seen script : Program) (l : Limits) (pattern hold queue : List ℕ) (ranges : List Bool) → seen ≡ script → pattern ≡ [] → hold ≡ [] → queue ≡ [] → ranges ≡ map (λ _. false) script.commands →
+pub opened : (seen script : Program) (l : LimitsView) (pattern hold queue : List ℕ) (ranges : List Bool) → seen ≡ script → pattern ≡ [] → hold ≡ [] → queue ≡ [] → ranges ≡ map (λ _. false) script.commands →
     starting seen l pattern hold queue ranges ≡ record { script = script; limits = l; state = start script.commands []; sent = []; ended = None }
 opened seen script l pattern hold queue ranges same none none' none'' idle = rw (same, none, none', none'', idle) refl
 

@@ -6,7 +6,7 @@ use Rattle.std.specs.Borrow.{GName}
 use Rattle.sedspace.specs.Stream.{Stream, lines_left}
 use Rattle.sedspace.specs.declared.lines.Got.{Got}
 use Rattle.sedspace.specs.declared.lines.Got.TheVariants.{Line, End}
-use Rattle.sedacts.specs.State.{Task, print_pattern, empty_pattern, flush, fetch, State, Move}
+use Rattle.sedacts.specs.State.{Task, print_pattern, empty_pattern, flush, fetch, MachineState, Move}
 use Rattle.sedacts.specs.Meters.{SinkView}
 use Rattle.sedacts.specs.Calls.{ReadsAlone}
 use Rattle.sedacts.specs.Move.{none_left, quietly, then_do}
@@ -31,7 +31,7 @@ brought e Line = record e { state = record e.state { number = e.state.number + 1
 brought e End = record e { state = record e.state { tasks = [] } }
 
 -- what `n` does: the next line is fetched, or the run goes to its end where there is none
-abbrev pub next_line : State → Option Move
+abbrev pub next_line : MachineState → Option Move
 next_line s = quietly (
     if none_left s.lines then then_do (print_pattern ∷ flush ∷ []) s
     else then_do (print_pattern ∷ flush ∷ empty_pattern ∷ fetch ∷ s.tasks) s)

@@ -10,7 +10,7 @@ use Rattle.sedacts.specs.declared.ends.Ended.{Ended}
 use Rattle.sedscript.specs.declared.types.Action.TheVariants.{Block}
 use Rattle.sedscript.specs.Ranges.{IsOneOf}
 use Rattle.sedspace.specs.Lines.{split_lines, HasNoNewline}
-use Rattle.sedacts.specs.State.{Limits, begin, do_at, State, Setting, finds_in}
+use Rattle.sedacts.specs.State.{LimitsView, begin, do_at, MachineState, Setting, finds_in}
 use Rattle.sedacts.specs.Move.{after, newline, none_left, to_sink, written}
 use Rattle.sedacts.specs.Calls.{Delivers, PutsPart, ReadsLines, without_count}
 use Rattle.sedacts.specs.Meters.{WereSent, SinkView}
@@ -74,7 +74,7 @@ abbrev pub passed_out : Bool → List (List ℕ) → List (ℕ × ℕ)
 passed_out quiet lines = if quiet then [] else to_sink 0 (bytes_of_lines lines)
 
 -- the state after k lines, one or more, that are left alone by c commands
-abbrev pub after_passing : Setting → ℕ → ℕ → List (List ℕ) → State → State
+abbrev pub after_passing : Setting → ℕ → ℕ → List (List ℕ) → MachineState → MachineState
 after_passing g c k rest s = record s {
   lines = rest;
   number = s.number + k;
@@ -93,13 +93,13 @@ abbrev pub moves_of : ℕ → ℕ
 moves_of c = c + 5
 
 -- the first t moves from a state lead to another one within the limits, and write this
-pub record Went (l : Limits) (g : Setting) (s now : State) (out : List (ℕ × ℕ)) (t : ℕ) : Type 0 where
+pub record Went (l : LimitsView) (g : Setting) (s now : MachineState) (out : List (ℕ × ℕ)) (t : ℕ) : Type 0 where
   pub is : after g s t ≡ now
   pub wrote : written g s t ≡ out
   pub within : StaysWithin l g s t
 
 -- A state between cycles, from which lines may be passed over.
-pub record CanPass (l : Limits) (g : Setting) (c : ℕ) (s : State) : Type 0 where
+pub record CanPass (l : LimitsView) (g : Setting) (c : ℕ) (s : MachineState) : Type 0 where
   pub fits : WithinLimits l s
   pub begins : s.tasks ≡ begin ∷ []
   pub empty : s.pattern ≡ []
@@ -107,7 +107,7 @@ pub record CanPass (l : Limits) (g : Setting) (c : ℕ) (s : State) : Type 0 whe
   pub ranges : RangesIdle g.commands c s.ranges
 
 -- the state in which the line after k others that are left alone is about to be written
-abbrev pub line_due : Setting → ℕ → ℕ → List ℕ → List (List ℕ) → State → State
+abbrev pub line_due : Setting → ℕ → ℕ → List ℕ → List (List ℕ) → MachineState → MachineState
 line_due g c k line rest s = record s {
   lines = rest;
   number = s.number + k + 1;
@@ -119,14 +119,14 @@ line_due g c k line rest s = record s {
 }
 
 -- Moves were made, if any, which led to this state; cycles may have started meanwhile.
-pub record MovesLedTo (l : Limits) (g : Setting) (s now : State) (old new : SinkView) : Type 0 where
+pub record MovesLedTo (l : LimitsView) (g : Setting) (s now : MachineState) (old new : SinkView) : Type 0 where
   pub t : ℕ
   pub is : after g s t ≡ now
   pub within : StaysWithin l g s t
   pub sinks : WereSent old new (written g s t)
 
 -- Moves were made, and then the end came; cycles may have started meanwhile.
-pub record StoppedPassing (l : Limits) (g : Setting) (s now : State) (old new : SinkView) (end : Ended) : Type 0 where
+pub record StoppedPassing (l : LimitsView) (g : Setting) (s now : MachineState) (old new : SinkView) (end : Ended) : Type 0 where
   pub t : ℕ
   pub out : List (ℕ × ℕ)
   pub sinks : WereSent old new out
@@ -135,8 +135,8 @@ pub record StoppedPassing (l : Limits) (g : Setting) (s now : State) (old new : 
   pub lines : (after g s t).lines ≡ now.lines
 
 -- Moves were made that took these lines, and then the end came.
-pub record HaltedPassing {R : Type 0} (remaining : R → Option (List ℕ)) (old new : Stream R) (l : Limits) (g : Setting)
-    (s : State) (e : RunState) (sinks sinks' : SinkView) (end : Ended) : Type 0 where
+pub record HaltedPassing {R : Type 0} (remaining : R → Option (List ℕ)) (old new : Stream R) (l : LimitsView) (g : Setting)
+    (s : MachineState) (e : RunState) (sinks sinks' : SinkView) (end : Ended) : Type 0 where
   pub rest : List (List ℕ)
   pub stopped : StoppedPassing l g s (at_lines e rest) sinks sinks' end
   pub lines : List (List ℕ)
@@ -144,8 +144,8 @@ pub record HaltedPassing {R : Type 0} (remaining : R → Option (List ℕ)) (old
   pub bytes : LosesPartAfter (left remaining old) (left remaining new) (size_of lines) (lost l end)
 
 -- What a call answers that makes moves from the state s, of one cycle or more, and may take lines.
-abbrev pub StepsPassing : {R : Type 0} → (R → Option (List ℕ)) → Stream R → Stream R → List (List ℕ) → Limits → Setting →
-    State → RunState → SinkView → SinkView → Result Unit Ended → Type 0
+abbrev pub StepsPassing : {R : Type 0} → (R → Option (List ℕ)) → Stream R → Stream R → List (List ℕ) → LimitsView → Setting →
+    MachineState → RunState → SinkView → SinkView → Result Unit Ended → Type 0
 StepsPassing remaining old new ls l g s e' sinks sinks' (Ok u) =
     (rest : List (List ℕ)) × TakesLines remaining old new ls rest × MovesLedTo l g s (at_lines e' rest) sinks sinks'
 StepsPassing remaining old new ls l g s e' sinks sinks' (Err end) = HaltedPassing remaining old new l g s e' sinks sinks' end

@@ -2,7 +2,7 @@
 -- What the engine's calls for the queue promise one another.
 use Rattle.std.specs.Prelude.{◌≡◌, ℕ, ◌<◌, ◌≤◌, ◌+◌, Option, Result, Ok, Err, OnOk, OnErr, List, [], ◌∷◌, ◌++◌, length}
 use Rattle.std.specs.Io.KnownBytes.{Keeps}
-use Rattle.sedacts.specs.State.{Entry, Task, flush, State, GivesFiles}
+use Rattle.sedacts.specs.State.{Entry, Task, flush, MachineState, GivesFiles}
 use Rattle.sedacts.specs.Meters.{SinkView}
 use Rattle.sedacts.specs.Move.{then_do}
 use Rattle.sedacts.specs.Calls.{DeliversAlone}
@@ -15,7 +15,7 @@ use Rattle.sedacts.specs.declared.ends.Ended.{Ended}
 use Rattle.sedacts.specs.declared.ends.Ended.TheVariants.{QueueFull}
 
 -- the state with a further entry in its queue
-abbrev pub queueing : Entry → State → State
+abbrev pub queueing : Entry → MachineState → MachineState
 queueing entry s = record s { queue = s.queue ++ entry ∷ [] }
 
 -- the engine with a further entry in its queue

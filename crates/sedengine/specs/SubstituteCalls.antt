@@ -7,7 +7,7 @@ use Rattle.sedacts.specs.declared.ends.Ended.{Ended}
 use Rattle.sedacts.specs.declared.ends.Ended.TheVariants.{PatternFull, NoPrevious}
 use Rattle.sedspace.specs.declared.errors.Full.{Full}
 use Rattle.sedspace.specs.Spaces.{SpaceView}
-use Rattle.sedacts.specs.State.{Limits, State, Move, Setting}
+use Rattle.sedacts.specs.State.{LimitsView, MachineState, Move, Setting}
 use Rattle.sedacts.specs.Substitute.{Occurrence, each_occurrence, to_replace, replaced_from}
 use Rattle.sedacts.specs.Move.{line_to, quietly, substitutes, writing}
 use Rattle.sedacts.specs.Calls.{NamesNone}
@@ -36,7 +36,7 @@ ReplacesIn t ms old new (Err f) =
     (0 < length ms) × (old.limit < length (replaced_from old.bytes t.replacement 0 ms))
 
 -- What a call answers that makes the move o of a substitution, but for its writing: whether anything was replaced.
-abbrev pub MakesSubstitution : Limits → Option Move → Substitution → State → State → Result Bool Ended → Type 0
+abbrev pub MakesSubstitution : LimitsView → Option Move → Substitution → MachineState → MachineState → Result Bool Ended → Type 0
 MakesSubstitution l o t s now (Ok false) = o ≡ quietly now
 MakesSubstitution l o t s now (Ok true) = o ≡ writing (written_by t now.pattern) now
 MakesSubstitution l o t s now (Err (NoPrevious n)) = (o ≡ None) × (n ≡ s.number)
@@ -44,7 +44,7 @@ MakesSubstitution l o t s now (Err (PatternFull n)) = Leads o (λ m. l.space < l
 MakesSubstitution l o t s now (Err _) = ⊥
 
 -- the engine with nothing changed but what a substitution may change
-abbrev pub same_but_replaced : RunState → State → RunState
+abbrev pub same_but_replaced : RunState → MachineState → RunState
 same_but_replaced e s = record e {
   state = record e.state { pattern = s.pattern; used = s.used; replaced = s.replaced };
 }

@@ -2,7 +2,7 @@
 use Rattle.std.proofs.Common.{◌≡◌, ℕ, max, ◌+◌, ◌-◌, ◌<◌, ◌≤◌, Bool, List, length, Option, Some, None, sym, subst, ⊎_elim, arith}
 use Rattle.std.proofs.lemmas.Bool.{cases_lt}
 use Rattle.std.proofs.lemmas.Option.{slice_get_within}
-use Rattle.sedre.specs.Tree.{set}
+use Rattle.sedre.specs.Tree.{byte_of}
 use Rattle.sedtext.specs.Bytes.{FirstFrom}
 use Rattle.sedtext.specs.Spans.{Matches}
 use Rattle.sedmatch.specs.Stretches.{ComesFirst, FirstStretch, Follow, FollowFrom, StretchSpans, width}
@@ -22,7 +22,7 @@ comes_within (Member s) w i comes = let less = slice_get_within w i comes.0 come
 -- what follows goes forward, and can be cut
 pub follow_on : (rest : Option (List Bool)) (w : List ℕ) (i j : ℕ) → Follow rest w i j → i ≤ j
 follow_on None w i j on = omega (arith, on)
-follow_on (Some members) w i j on = CopiesLead-forward (Matches (set members) w) j i on
+follow_on (Some members) w i j on = CopiesLead-forward (Matches (byte_of members) w) j i on
 
 follow_cut : (rest : Option (List Bool)) (w : List ℕ) (i m j : ℕ) → i ≤ m → m ≤ j → Follow rest w i j → Follow rest w m j
 follow_cut None w i m j low high on = omega (arith, low, high, on)

@@ -1,7 +1,7 @@
 -- What is found out of each node once, and what it means for passes.
 use Rattle.std.proofs.Common.{◌≡◌, ℕ, zero, suc, ◌+◌, ◌*◌, ◌<◌, ◌≤◌, ◌⊎◌, ◌↔◌, Bool, true, false, ◌&&◌, List, [], ◌∷◌, ◌++◌, length, Option, Some, None, IsTrue, refl, sym, ap, ◌∙◌, subst, inl, inr, ⊎_elim, true≢false, arith, min, max, bit_and, bit_or, ◌||◌, slice_get, eqb}
 use Rattle.sedpass.proofs.Words.{bit_at, from_bool, option_eq, bit_at_and, bit_at_or, bit_at-lt, cases_lt, same_Some, slice_get_cases, none-some, size, IsArena, IsExpr, IsPart, FollowsParts, HasTwoParts, GroupsWithin, mirror, seen, Node, NodeId, Seq, Alt, Group, Star, Opt, Empty, Set, tree_at-node, tree_at-mirror, seen-length, Matches, no_copy, IsPlace, Matches-forward, node_at, Facts, PlaceKind, either-iff, both-iff}
-use Rattle.sedre.specs.Tree.{Tree, empty, set, begin, end, seq, alt, group, star, opt, WrittenExpression, tree_of, tree_at, tree_within}
+use Rattle.sedre.specs.Tree.{Tree, null_string, byte_of, text_begin, text_end, sequence, either_of, grouped, any_copies, one_or_none, WrittenExpression, tree_of, tree_at, tree_within}
 use Rattle.sedre.proofs.Written.{size_positive}
 use Rattle.sedpass.specs.Classes.{AreClasses, HaveSets}
 use Rattle.sedpass.specs.Prepared.{nullable, null_in, null_at, is_one_set, IsFacts, AreFacts, IsOfEachKind, IsShort, SameNulls, length_of, IsPrepared}
@@ -15,11 +15,11 @@ use Rattle.sedpass.proofs.GroupSetLemmas.{two_bits}
 module _ (w : List ℕ) (p : ℕ) (first last : Bool) (there : IsPlace w p first last) where
   -- the null string at a place of the kind
   pub nullable_is : (t : Tree) → IsTrue (nullable first last t) ↔ Matches t w p p
-  nullable_is empty = (λ h. refl, λ h. refl)
-  nullable_is (set members) = not_true (Matches (set members) w p p) (λ h. omega (arith, h.3))
-  nullable_is begin = (λ h. (there.0.0 h, there.0.0 h), λ h. there.0.1 h.0)
-  nullable_is end = (λ h. (there.1.0 h, there.1.0 h), λ h. there.1.1 h.0)
-  nullable_is (seq a b) =
+  nullable_is null_string = (λ h. refl, λ h. refl)
+  nullable_is (byte_of members) = not_true (Matches (byte_of members) w p p) (λ h. omega (arith, h.3))
+  nullable_is text_begin = (λ h. (there.0.0 h, there.0.0 h), λ h. there.0.1 h.0)
+  nullable_is text_end = (λ h. (there.1.0 h, there.1.0 h), λ h. there.1.1 h.0)
+  nullable_is (sequence a b) =
       let both = both-iff (nullable first last a) (nullable first last b) (Matches a w p p) (Matches b w p p) (nullable_is a) (nullable_is b) in (
         λ h. (p, (both.0 h).0, (both.0 h).1),
         λ h. let low = Matches-forward a w p h.0 h.1 in
@@ -27,10 +27,10 @@ module _ (w : List ℕ) (p : ℕ) (first last : Bool) (there : IsPlace w p first
             let e : h.0 ≡ p = omega arith in
             both.1 (subst (λ k. Matches a w p k) e h.1, subst (λ k. Matches b w k p) e h.2),
       )
-  nullable_is (alt a b) = either-iff (nullable first last a) (nullable first last b) (Matches a w p p) (Matches b w p p) (nullable_is a) (nullable_is b)
-  nullable_is (group k a) = nullable_is a
-  nullable_is (star a f) = (λ h. no_copy, λ h. refl)
-  nullable_is (opt a f) = (λ h. inl refl, λ h. refl)
+  nullable_is (either_of a b) = either-iff (nullable first last a) (nullable first last b) (Matches a w p p) (Matches b w p p) (nullable_is a) (nullable_is b)
+  nullable_is (grouped k a) = nullable_is a
+  nullable_is (any_copies a f) = (λ h. no_copy, λ h. refl)
+  nullable_is (one_or_none a f) = (λ h. inl refl, λ h. refl)
 
 -- kinds by bits: those of both sets, and those of either
 pub null_both : (a b : ℕ) (first last : Bool) → null_at (bit_and a b) first last ≡ (null_at a first last && null_at b first last)
@@ -51,9 +51,9 @@ and_swap false false = refl
 
 -- the mirrored expression is null at places of the opposite kind
 pub nullable_mirror : (first last : Bool) (t : Tree) → nullable first last (mirror t) ≡ nullable last first t
-nullable_mirror first last (seq a b) = rw (nullable_mirror first last a, nullable_mirror first last b) (and_swap (nullable last first b) (nullable last first a))
-nullable_mirror first last (alt a b) = rw (nullable_mirror first last a, nullable_mirror first last b) refl
-nullable_mirror first last (group k a) = nullable_mirror first last a
+nullable_mirror first last (sequence a b) = rw (nullable_mirror first last a, nullable_mirror first last b) (and_swap (nullable last first b) (nullable last first a))
+nullable_mirror first last (either_of a b) = rw (nullable_mirror first last a, nullable_mirror first last b) refl
+nullable_mirror first last (grouped k a) = nullable_mirror first last a
 nullable_mirror first last other = refl
 
 -- so what is known of a node serves both ways
@@ -140,10 +140,10 @@ inside_seen mirrored e x inside = subst (λ n. x < n) (sym (seen-length mirrored
 
 -- a node without parts whose matches have one byte is a set
 set_by : (t : Tree) → size t ≡ 1 → option_eq eqb (length_of t) (Some 1) ≡ true → is_one_set t ≡ true
-set_by (set members) small long = refl
-set_by (seq a b) small long = absurd (omega (arith, small, size_positive a))
-set_by (alt a b) small long = absurd (omega (arith, small, size_positive a))
-set_by (group k a) small long = absurd (omega (arith, small, size_positive a))
+set_by (byte_of members) small long = refl
+set_by (sequence a b) small long = absurd (omega (arith, small, size_positive a))
+set_by (either_of a b) small long = absurd (omega (arith, small, size_positive a))
+set_by (grouped k a) small long = absurd (omega (arith, small, size_positive a))
 set_by other small long = absurd (true≢false (sym long))
 
 pub shown_set : (a : Tree) (x : ℕ) (part : Facts) → IsFacts a x part → part.low ≡ x → option_eq eqb part.length (Some 1) ≡ true → is_one_set a ≡ true
@@ -151,14 +151,14 @@ shown_set a x part shown low long = let size_is = shown.low in set_by a (omega a
 
 -- an expression has no longer matches of one length than nodes
 length_short : (t : Tree) (n : ℕ) → length_of t ≡ Some n → n ≤ size t
-length_short (set members) n is = let one_long : 1 ≡ n = cc in omega arith
-length_short (seq a b) n is =
+length_short (byte_of members) n is = let one_long : 1 ≡ n = cc in omega arith
+length_short (sequence a b) n is =
     let parts = sum_parts (length_of a) (length_of b) n is in
     omega (arith, parts.4, length_short a parts.0 parts.2, length_short b parts.1 parts.3)
-length_short (alt a b) n is = omega (arith, length_short a n (same_parts (length_of a) (length_of b) n is).0)
-length_short (group k a) n is = omega (arith, length_short a n is)
-length_short (star a first) n is = cc
-length_short (opt a first) n is = cc
+length_short (either_of a b) n is = omega (arith, length_short a n (same_parts (length_of a) (length_of b) n is).0)
+length_short (grouped k a) n is = omega (arith, length_short a n is)
+length_short (any_copies a first) n is = cc
+length_short (one_or_none a first) n is = cc
 length_short other n is = let zero_long : 0 ≡ n = cc in omega arith
 
 short_if : (long : Option ℕ) → ((n : ℕ) → long ≡ Some n → n ≤ 65536) → IsShort long
@@ -211,7 +211,7 @@ empty_arena = record {
   each = λ c less. absurd (omega (arith, less));
 }
 
-one_tree : tree_at empty_nodes 0 ≡ empty
+one_tree : tree_at empty_nodes 0 ≡ null_string
 unfolding tree_at tree_within
 one_tree = refl
 
@@ -235,7 +235,7 @@ empty_expr = record {
   few = omega arith;
 }
 
-facts_only : (shown : Facts) → IsFacts empty 0 shown → AreFacts empty_nodes (shown ∷ [])
+facts_only : (shown : Facts) → IsFacts null_string 0 shown → AreFacts empty_nodes (shown ∷ [])
 facts_only shown facts zero here is = rw (← same_Some shown here is, one_tree) facts
 facts_only shown facts (suc x) here is = absurd (none-some here is)
 
@@ -246,7 +246,7 @@ nulls_only (suc x) first last inside = absurd (omega (arith, inside))
 no_sets : HaveSets empty_nodes []
 no_sets x members is = let same = (only x (Set members) is).1 in absurd cc
 
-pub empty_prepared : (shown : Facts) (of : List ℕ) (count : ℕ) → IsFacts empty 0 shown → ((nodes : List Node) → HaveSets nodes [] → AreClasses nodes of count) →
+pub empty_prepared : (shown : Facts) (of : List ℕ) (count : ℕ) → IsFacts null_string 0 shown → ((nodes : List Node) → HaveSets nodes [] → AreClasses nodes of count) →
     IsPrepared (record { nodes = empty_nodes; groups = 0 }) 0 (shown ∷ []) of count false
 empty_prepared shown of count facts classes = record {
   last = refl;

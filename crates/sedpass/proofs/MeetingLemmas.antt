@@ -1,7 +1,7 @@
 -- Where a pass forwards over a part and a pass backwards over what holds the part meet, a match of the part goes on and
 -- the end is reached.
 use Rattle.std.proofs.Common.{◌≡◌, ℕ, zero, suc, ◌+◌, ◌-◌, ◌<◌, ◌≤◌, ◌⊎◌, ◌↔◌, Bool, List, length, Some, refl, sym, ◌∙◌, subst, inl, inr, ⊎_elim, arith, slice_get}
-use Rattle.sedpass.proofs.Words.{cases_lt, slice_get_within, IsArena, tree_at, Node, NodeId, Empty, Set, Begin, End, Seq, Alt, Group, Star, Opt, Starts, CopiesLead, no_copy, one_more, LastCut, LastCopy, only, then, IsRepetitionOf, HasSpan, BeginsWith, IsStart, one_start, Enters, at_root, with_whole, after_left, again, Matches-forward, CopiesLead-forward, CopiesLead-append, open_at, close_at, Enters-inside, star_copies, BeginsWith-part, node_at}
+use Rattle.sedpass.proofs.Words.{cases_lt, slice_get_within, IsArena, tree_at, Node, NodeId, Empty, Set, Begin, End, Seq, Alt, Group, Star, Opt, Starts, CopiesLead, no_copy, one_more, LastCut, LastCopy, only, then_copy, IsRepetitionOf, HasSpan, BeginsWith, IsStart, one_start, Enters, at_root, with_whole, after_left, again, Matches-forward, CopiesLead-forward, CopiesLead-append, open_at, close_at, Enters-inside, star_copies, BeginsWith-part, node_at}
 use Rattle.sedpass.specs.Regions.{CanLeave, with_end, before_right, before_copies, ReachesEnd, IsLastIn, all_of, MeetsAt, MatchesBeyond, CeasesAt, NextCopy, IsRunOf, repeated, in_group}
 use Rattle.sedtext.proofs.FixedRunLemmas.{CopiesLead-join}
 use Rattle.sedpass.proofs.LeaveLemmas.{OutOf, CanLeave-part, CanLeave-to, last_inside, last-leaves, CanLeave-last}
@@ -298,7 +298,7 @@ module _ (nodes : List Node) (w : List ℕ) (r j x : ℕ) (a : NodeId) (first : 
 
 -- the last copy begins where the walk from copy to copy comes to the end
 pub copy_walk : (R : ℕ → ℕ → Type 0) (i j k c : ℕ) → NextCopy R i j k → ((k < j) × LastCopy R j k c) ⊎ ((k ≡ j) × (c ≡ i)) → LastCopy R j i c
-copy_walk R i j k c next (inl more) = then i k c next.after more.0 next.copy next.rest (λ l up copy rest. next.greatest l copy rest) more.1
+copy_walk R i j k c next (inl more) = then_copy i k c next.after more.0 next.copy next.rest (λ l up copy rest. next.greatest l copy rest) more.1
 copy_walk R i j k c next (inr done) =
     let lt = next.after in
     subst (λ v. LastCopy R j i v) (sym done.1) (only i (omega arith) (subst (λ v. R i v) done.0 next.copy))

@@ -1,7 +1,7 @@
 -- What becomes of one group of a match while all are decided from its end; so decided, they are those decided from the left.
 use Rattle.std.proofs.Common.{◌≡◌, ℕ, zero, suc, ◌<◌, ◌≤◌, ◌⊎◌, ◌||◌, Bool, true, false, List, [], ◌∷◌, length, Option, None, Some, refl, sym, ap, ◌∙◌, subst, inl, inr, ⊎_elim, true≢false, arith, replicate, eqb, slice_get, slice_set, slice_index_or}
 use Rattle.std.specs.Prelude.{unwrap_or}
-use Rattle.sedpass.proofs.Words.{option_or, cases_Bool, cases_lt, or_left, or_right, or_cases, ext_get_or, get_or-set_other, length-set, slice_get_past, none-some, same_Some, unwrap_or-slice_get, Tree, empty, set, begin, end, seq, alt, group, star, opt, SpansOfGroups, forget, no_groups, groups_after, Captures, LastCopy, only, then, IsReport, Matches, groups_after-is}
+use Rattle.sedpass.proofs.Words.{option_or, cases_Bool, cases_lt, or_left, or_right, or_cases, ext_get_or, get_or-set_other, length-set, slice_get_past, none-some, same_Some, unwrap_or-slice_get, Tree, null_string, byte_of, text_begin, text_end, sequence, either_of, grouped, any_copies, one_or_none, SpansOfGroups, forget, no_groups, groups_after, Captures, LastCopy, only, then_copy, IsReport, Matches, groups_after-is}
 use Rattle.std.proofs.lemmas.Bool.Decides.{eqb_tells}
 use Rattle.sedtext.proofs.CapsLemmas.{Captures-unique}
 use Rattle.sedpass.specs.Walks.{GroupState, is_due, settle, drop_groups, GroupIsIn, PassedBy, WalkEnters, IsFirstState, has_group, NoneDue, EntersGroups}
@@ -93,7 +93,7 @@ takes-not k d s is = record { due = is ∙ sym (left-not (is_due s k) d is); spa
 -- the last copy
 pub copy_spans : (R : ℕ → ℕ → Type 0) (j i c : ℕ) → LastCopy R j i c → (i ≤ c) × (c < j) × R c j
 copy_spans R j i c (only _ lt r) = (omega arith, lt, r)
-copy_spans R j i c (then _ k _ up low r rest most last) = let later = copy_spans R j k c last in (omega arith, later.1, later.2)
+copy_spans R j i c (then_copy _ k _ up low r rest most last) = let later = copy_spans R j k c last in (omega arith, later.1, later.2)
 
 -- one group is set
 set_same : (k : ℕ) (v : Span) (g : SpansOfGroups) → slice_get (slice_set g k v) k ≡ lay (slice_get g k) (Some v)
@@ -163,28 +163,28 @@ blank_put true (Some v) false none = refl
 
 -- the groups of an expression are dropped, or forgotten
 pub drop_takes : (t : Tree) (k : ℕ) (s : GroupState) → Takes k (deed (has_group t k) None) s (drop_groups t s)
-drop_takes (seq a b) k s =
-    subst (λ d. Takes k d s (drop_groups (seq a b) s)) (over-gone (has_group a k) (has_group b k)) (takes-then k _ _ s _ _ (drop_takes a k s) (drop_takes b k (drop_groups a s)))
-drop_takes (alt a b) k s =
-    subst (λ d. Takes k d s (drop_groups (alt a b) s)) (over-gone (has_group a k) (has_group b k)) (takes-then k _ _ s _ _ (drop_takes a k s) (drop_takes b k (drop_groups a s)))
-drop_takes (group n a) k s =
-    subst (λ d. Takes k d s (drop_groups (group n a) s)) (over-gone (eqb n k) (has_group a k)) (takes-then k _ _ s _ _ (settle_takes n k None s) (drop_takes a k (settle n None s)))
-drop_takes (star a first) k s = drop_takes a k s
-drop_takes (opt a first) k s = drop_takes a k s
+drop_takes (sequence a b) k s =
+    subst (λ d. Takes k d s (drop_groups (sequence a b) s)) (over-gone (has_group a k) (has_group b k)) (takes-then k _ _ s _ _ (drop_takes a k s) (drop_takes b k (drop_groups a s)))
+drop_takes (either_of a b) k s =
+    subst (λ d. Takes k d s (drop_groups (either_of a b) s)) (over-gone (has_group a k) (has_group b k)) (takes-then k _ _ s _ _ (drop_takes a k s) (drop_takes b k (drop_groups a s)))
+drop_takes (grouped n a) k s =
+    subst (λ d. Takes k d s (drop_groups (grouped n a) s)) (over-gone (eqb n k) (has_group a k)) (takes-then k _ _ s _ _ (settle_takes n k None s) (drop_takes a k (settle n None s)))
+drop_takes (any_copies a first) k s = drop_takes a k s
+drop_takes (one_or_none a first) k s = drop_takes a k s
 drop_takes other k s = takes-none k s
 
 forget_two : (x : Option Span) (p q : Bool) → lay (lay x (deed p None)) (deed q None) ≡ lay x (deed (p || q) None)
 forget_two x p q = sym (lay-over x (deed q None) (deed p None)) ∙ ap (lay x) (gone-over p q)
 
 forget_at : (t : Tree) (k : ℕ) (g : SpansOfGroups) → slice_get (forget t g) k ≡ lay (slice_get g k) (deed (has_group t k) None)
-forget_at (seq a b) k g =
+forget_at (sequence a b) k g =
     forget_at b k (forget a g) ∙ ap (λ x. lay x (deed (has_group b k) None)) (forget_at a k g) ∙ forget_two (slice_get g k) (has_group a k) (has_group b k)
-forget_at (alt a b) k g =
+forget_at (either_of a b) k g =
     forget_at b k (forget a g) ∙ ap (λ x. lay x (deed (has_group b k) None)) (forget_at a k g) ∙ forget_two (slice_get g k) (has_group a k) (has_group b k)
-forget_at (group n a) k g =
+forget_at (grouped n a) k g =
     forget_at a k (slice_set g n None) ∙ ap (λ x. lay x (deed (has_group a k) None)) (set_at n k None g) ∙ forget_two (slice_get g k) (eqb n k) (has_group a k)
-forget_at (star a first) k g = forget_at a k g
-forget_at (opt a first) k g = forget_at a k g
+forget_at (any_copies a first) k g = forget_at a k g
+forget_at (one_or_none a first) k g = forget_at a k g
 forget_at other k g = sym (put-none true (slice_get g k))
 
 -- this becomes of entry k of a list, which is nothing unless P
@@ -235,12 +235,12 @@ group_at (Some u) None v true has = refl
 group_at (Some u) (Some t) v true has = refl
 group_at (Some u) d v false has = put-none true (lay (lay (Some u) (deed has None)) d) ∙ sym (lay-over (Some u) d (deed has None))
 
-lays-around : (n : ℕ) (v : Span) (a : Tree) (k : ℕ) (g h : SpansOfGroups) (d : Option Span) → Lays k (GroupIsIn a k) (forget (group n a) g) h d →
-    Lays k (GroupIsIn (group n a) k) g (slice_set h n v) (around n v a k d)
+lays-around : (n : ℕ) (v : Span) (a : Tree) (k : ℕ) (g h : SpansOfGroups) (d : Option Span) → Lays k (GroupIsIn a k) (forget (grouped n a) g) h d →
+    Lays k (GroupIsIn (grouped n a) k) g (slice_set h n v) (around n v a k d)
 lays-around n v a k g h d one =
-    let P = GroupIsIn (group n a) k in
+    let P = GroupIsIn (grouped n a) k in
     record {
-      at = set_at n k v h ∙ ap (λ x. lay x (deed (eqb n k) v)) (one.at ∙ ap (λ x. lay x d) (forget_at (group n a) k g)) ∙ group_at (slice_get g k) d v (eqb n k) (has_group a k);
+      at = set_at n k v h ∙ ap (λ x. lay x (deed (eqb n k) v)) (one.at ∙ ap (λ x. lay x d) (forget_at (grouped n a) k g)) ∙ group_at (slice_get g k) d v (eqb n k) (has_group a k);
       none = both_none P (deed (eqb n k) v) _
           (elim (eqb_tells n k) [ inl same ↦ inr (or_left (eqb n k) (has_group a k) same.0) | inr other ↦ inl (ap (λ b. deed b v) other.0) ])
           (none_in (GroupIsIn a k) P _ (or_right (eqb n k) (has_group a k)) (both_none (GroupIsIn a k) d _ one.none (lays-forget a k g).none));
@@ -248,32 +248,32 @@ lays-around n v a k g h d one =
 
 -- what becomes of the group in a match, its groups decided from the left
 abbrev taken : (k : ℕ) (e : Tree) (w : List ℕ) (i j : ℕ) (g h : SpansOfGroups) → Captures e w i j g h → Option Span
-taken k (seq a b) w i j g h c = option_or (taken k b w c.0 j c.2.0 h c.2.2) (taken k a w i c.0 g c.2.0 c.2.1)
-taken k (alt a b) w i j g h (inl c) = taken k a w i j g h c.1
-taken k (alt a b) w i j g h (inr c) = taken k b w i j g h c.1
-taken k (group n a) w i j g h c = around n (Some (i, j)) a k (taken k a w i j (forget (group n a) g) c.0 c.1)
-taken k (star a first) w i j g h (inl c) = within a k (taken k a w c.1.0 j (forget a g) h c.1.2)
-taken k (star a first) w i j g h (inr (inl c)) = within a k (taken k a w i i (forget a g) h c.3)
-taken k (star a first) w i j g h (inr (inr c)) = None
-taken k (opt a first) w i j g h (inl c) = within a k (taken k a w i j (forget a g) h c.1)
-taken k (opt a first) w i j g h (inr (inl c)) = within a k (taken k a w i i (forget a g) h c.3)
-taken k (opt a first) w i j g h (inr (inr c)) = None
+taken k (sequence a b) w i j g h c = option_or (taken k b w c.0 j c.2.0 h c.2.2) (taken k a w i c.0 g c.2.0 c.2.1)
+taken k (either_of a b) w i j g h (inl c) = taken k a w i j g h c.1
+taken k (either_of a b) w i j g h (inr c) = taken k b w i j g h c.1
+taken k (grouped n a) w i j g h c = around n (Some (i, j)) a k (taken k a w i j (forget (grouped n a) g) c.0 c.1)
+taken k (any_copies a first) w i j g h (inl c) = within a k (taken k a w c.1.0 j (forget a g) h c.1.2)
+taken k (any_copies a first) w i j g h (inr (inl c)) = within a k (taken k a w i i (forget a g) h c.3)
+taken k (any_copies a first) w i j g h (inr (inr c)) = None
+taken k (one_or_none a first) w i j g h (inl c) = within a k (taken k a w i j (forget a g) h c.1)
+taken k (one_or_none a first) w i j g h (inr (inl c)) = within a k (taken k a w i i (forget a g) h c.3)
+taken k (one_or_none a first) w i j g h (inr (inr c)) = None
 taken k other w i j g h c = None
 
 captured : (k : ℕ) (e : Tree) (w : List ℕ) (i j : ℕ) (g h : SpansOfGroups) (c : Captures e w i j g h) → Lays k (GroupIsIn e k) g h (taken k e w i j g h c)
-captured k (seq a b) w i j g h c =
-    lays-then k (GroupIsIn (seq a b) k) g c.2.0 h _ _ (lays-wider k (GroupIsIn a k) _ g c.2.0 _ (or_left (has_group a k) (has_group b k)) (captured k a w i c.0 g c.2.0 c.2.1))
+captured k (sequence a b) w i j g h c =
+    lays-then k (GroupIsIn (sequence a b) k) g c.2.0 h _ _ (lays-wider k (GroupIsIn a k) _ g c.2.0 _ (or_left (has_group a k) (has_group b k)) (captured k a w i c.0 g c.2.0 c.2.1))
     (lays-wider k (GroupIsIn b k) _ c.2.0 h _ (or_right (has_group a k) (has_group b k)) (captured k b w c.0 j c.2.0 h c.2.2))
-captured k (alt a b) w i j g h (inl c) = lays-wider k (GroupIsIn a k) _ g h _ (or_left (has_group a k) (has_group b k)) (captured k a w i j g h c.1)
-captured k (alt a b) w i j g h (inr c) = lays-wider k (GroupIsIn b k) _ g h _ (or_right (has_group a k) (has_group b k)) (captured k b w i j g h c.1)
-captured k (group n a) w i j g h c =
-    subst (λ l. Lays k (GroupIsIn (group n a) k) g l (taken k (group n a) w i j g h c)) (sym c.2) (lays-around n (Some (i, j)) a k g c.0 _ (captured k a w i j (forget (group n a) g) c.0 c.1))
-captured k (star a first) w i j g h (inl c) = lays-within a k g h _ (captured k a w c.1.0 j (forget a g) h c.1.2)
-captured k (star a first) w i j g h (inr (inl c)) = lays-within a k g h _ (captured k a w i i (forget a g) h c.3)
-captured k (star a first) w i j g h (inr (inr c)) = lays-none k _ g h c.1.1
-captured k (opt a first) w i j g h (inl c) = lays-within a k g h _ (captured k a w i j (forget a g) h c.1)
-captured k (opt a first) w i j g h (inr (inl c)) = lays-within a k g h _ (captured k a w i i (forget a g) h c.3)
-captured k (opt a first) w i j g h (inr (inr c)) = lays-none k _ g h c.1.1
+captured k (either_of a b) w i j g h (inl c) = lays-wider k (GroupIsIn a k) _ g h _ (or_left (has_group a k) (has_group b k)) (captured k a w i j g h c.1)
+captured k (either_of a b) w i j g h (inr c) = lays-wider k (GroupIsIn b k) _ g h _ (or_right (has_group a k) (has_group b k)) (captured k b w i j g h c.1)
+captured k (grouped n a) w i j g h c =
+    subst (λ l. Lays k (GroupIsIn (grouped n a) k) g l (taken k (grouped n a) w i j g h c)) (sym c.2) (lays-around n (Some (i, j)) a k g c.0 _ (captured k a w i j (forget (grouped n a) g) c.0 c.1))
+captured k (any_copies a first) w i j g h (inl c) = lays-within a k g h _ (captured k a w c.1.0 j (forget a g) h c.1.2)
+captured k (any_copies a first) w i j g h (inr (inl c)) = lays-within a k g h _ (captured k a w i i (forget a g) h c.3)
+captured k (any_copies a first) w i j g h (inr (inr c)) = lays-none k _ g h c.1.1
+captured k (one_or_none a first) w i j g h (inl c) = lays-within a k g h _ (captured k a w i j (forget a g) h c.1)
+captured k (one_or_none a first) w i j g h (inr (inl c)) = lays-within a k g h _ (captured k a w i i (forget a g) h c.3)
+captured k (one_or_none a first) w i j g h (inr (inr c)) = lays-none k _ g h c.1.1
 captured k other w i j g h is = lays-none k _ g h is
 
 -- a walk over the match does the same to what is due
@@ -301,39 +301,39 @@ module _ (k : ℕ) where
       )
 
   walked : (e : Tree) (w : List ℕ) (i j n : ℕ) (old new : GroupState) → Matches e w i j → WalkEnters e w i j old new n → (g : SpansOfGroups) → Ends k e w i j g old new
-  walked empty w i j n old new spans walk g = (g, refl, still old new walk.0)
-  walked (set has) w i j n old new spans walk g = (g, refl, still old new walk.0)
-  walked begin w i j n old new spans walk g = (g, refl, still old new walk.0)
-  walked end w i j n old new spans walk g = (g, refl, still old new walk.0)
+  walked null_string w i j n old new spans walk g = (g, refl, still old new walk.0)
+  walked (byte_of has) w i j n old new spans walk g = (g, refl, still old new walk.0)
+  walked text_begin w i j n old new spans walk g = (g, refl, still old new walk.0)
+  walked text_end w i j n old new spans walk g = (g, refl, still old new walk.0)
   walked other w i j n old new spans (inl by) g = passed other w i j n old new spans by g
-  walked (seq a b) w i j n old new spans (inr (p, q, is, c, cut, mid, second, first)) g =
+  walked (sequence a b) w i j n old new spans (inr (p, q, is, c, cut, mid, second, first)) g =
       let one = walked a w i c q mid new cut.left first g in
       let two = walked b w c j p old mid cut.right second one.0 in
       (two.0, (c, cut, (one.0, one.1, two.1)), takes-then k _ _ old mid new two.2 one.2)
-  walked (alt a b) w i j n old new spans (inr (p, is, inl (at, walk))) g = let one = walked a w i j p old new at walk g in (one.0, inl (at, one.1), one.2)
-  walked (alt a b) w i j n old new spans (inr (p, is, inr (not, walk))) g =
+  walked (either_of a b) w i j n old new spans (inr (p, is, inl (at, walk))) g = let one = walked a w i j p old new at walk g in (one.0, inl (at, one.1), one.2)
+  walked (either_of a b) w i j n old new spans (inr (p, is, inr (not, walk))) g =
       let at : Matches b w i j = ⊎_elim (λ (l : Matches a w i j). absurd (not l)) (λ (r : Matches b w i j). r) spans in
       let one = walked b w i j p old new at walk g in
       (one.0, inr (not, one.1), one.2)
-  walked (group m a) w i j n old new spans (inr (p, is, mid, walk, last)) g =
+  walked (grouped m a) w i j n old new spans (inr (p, is, mid, walk, last)) g =
       let v = Some (i, j) in
-      let one = walked a w i j p (settle m v old) mid spans walk (forget (group m a) g) in
+      let one = walked a w i j p (settle m v old) mid spans walk (forget (grouped m a) g) in
       (slice_set one.0 m v, (one.0, one.1, refl), takes-then k _ _ old (settle m v old) new (settle_takes m k v old) (inside a _ (settle m v old) mid new last one.2))
-  walked (star a first) w i j n old new spans (inr (p, is, inl (lt, c, copy, mid, walk, last))) g =
+  walked (any_copies a first) w i j n old new spans (inr (p, is, inl (lt, c, copy, mid, walk, last))) g =
       let one = walked a w c j p old mid (copy_spans (Matches a w) j i c copy).2 walk (forget a g) in
       (one.0, inl (lt, (c, copy, one.1)), inside a _ old mid new last one.2)
-  walked (star a first) w i j n old new spans (inr (p, is, inr (inl (same, yes_first, at, mid, walk, last)))) g =
+  walked (any_copies a first) w i j n old new spans (inr (p, is, inr (inl (same, yes_first, at, mid, walk, last)))) g =
       let one = walked a w i i p old mid at walk (forget a g) in
       (one.0, inr (inl (same, yes_first, at, one.1)), inside a _ old mid new last one.2)
-  walked (star a first) w i j n old new spans (inr (p, is, inr (inr (same, not, still_is, none)))) g = (g, inr (inr (same, (not, refl))), still old new still_is)
-  walked (opt a first) w i j n old new spans (inr (p, is, inl (lt, mid, walk, last))) g =
+  walked (any_copies a first) w i j n old new spans (inr (p, is, inr (inr (same, not, still_is, none)))) g = (g, inr (inr (same, (not, refl))), still old new still_is)
+  walked (one_or_none a first) w i j n old new spans (inr (p, is, inl (lt, mid, walk, last))) g =
       let at : Matches a w i j = ⊎_elim (λ (e : i ≡ j). absurd (omega (arith, e, lt))) (λ (r : Matches a w i j). r) spans in
       let one = walked a w i j p old mid at walk (forget a g) in
       (one.0, inl (lt, one.1), inside a _ old mid new last one.2)
-  walked (opt a first) w i j n old new spans (inr (p, is, inr (inl (same, yes_first, at, mid, walk, last)))) g =
+  walked (one_or_none a first) w i j n old new spans (inr (p, is, inr (inl (same, yes_first, at, mid, walk, last)))) g =
       let one = walked a w i i p old mid at walk (forget a g) in
       (one.0, inr (inl (same, yes_first, at, one.1)), inside a _ old mid new last one.2)
-  walked (opt a first) w i j n old new spans (inr (p, is, inr (inr (same, not, still_is, none)))) g = (g, inr (inr (same, (not, refl))), still old new still_is)
+  walked (one_or_none a first) w i j n old new spans (inr (p, is, inr (inr (same, not, still_is, none)))) g = (g, inr (inr (same, (not, refl))), still old new still_is)
 
 pub same_lists : {X : Type 0} (xs ys : List X) → ((k : ℕ) → slice_get xs k ≡ slice_get ys k) → xs ≡ ys
 same_lists [] [] each = refl
@@ -419,10 +419,10 @@ drop_as t s new blank same long shows =
 
 -- a walk passes by what has no group that is due
 pub passes_by : (e : Tree) (w : List ℕ) (i j : ℕ) (s : GroupState) → NoneDue e s → WalkEnters e w i j s s 0
-passes_by empty w i j s none = (refl, refl)
-passes_by (set has) w i j s none = (refl, refl)
-passes_by begin w i j s none = (refl, refl)
-passes_by end w i j s none = (refl, refl)
+passes_by null_string w i j s none = (refl, refl)
+passes_by (byte_of has) w i j s none = (refl, refl)
+passes_by text_begin w i j s none = (refl, refl)
+passes_by text_end w i j s none = (refl, refl)
 passes_by other w i j s none = inl (none, refl, refl)
 
 pub enters_later : (e : Tree) (w : List ℕ) (i j a b c : ℕ) → a ≤ b → EntersGroups e w i j b c → EntersGroups e w i j a c
@@ -432,11 +432,11 @@ enters_later e w i j a b c up enters =
     (enters.0, enters.1, record { last = looks.last; n = looks.n; walk = looks.walk; counts = let h = looks.counts in omega (arith, up, h) })
 
 groupless : (e : Tree) → NoGroups e → (k : ℕ) → GroupIsIn e k → ⊥
-groupless (seq a b) none k has = ⊎_elim (groupless a none.0 k) (groupless b none.1 k) (or_cases (has_group a k) (has_group b k) has)
-groupless (alt a b) none k has = ⊎_elim (groupless a none.0 k) (groupless b none.1 k) (or_cases (has_group a k) (has_group b k) has)
-groupless (group n a) none k has = none
-groupless (star a first) none k has = groupless a none k has
-groupless (opt a first) none k has = groupless a none k has
+groupless (sequence a b) none k has = ⊎_elim (groupless a none.0 k) (groupless b none.1 k) (or_cases (has_group a k) (has_group b k) has)
+groupless (either_of a b) none k has = ⊎_elim (groupless a none.0 k) (groupless b none.1 k) (or_cases (has_group a k) (has_group b k) has)
+groupless (grouped n a) none k has = none
+groupless (any_copies a first) none k has = groupless a none k has
+groupless (one_or_none a first) none k has = groupless a none k has
 groupless other none k has = true≢false (sym has)
 
 -- where an expression has no group nothing is entered

@@ -3,7 +3,7 @@ pub use Rattle.sedre.proofs.MirrorLemmas.{old_node, seen-arena, seen-length, see
 pub use Rattle.sedre.proofs.TreeLemmas.{tree_at-node}
 pub use Rattle.sedre.specs.Arena.{AreRanges, FollowsParts, GroupsWithin, HasTwoParts, IsArena, IsExpr, IsPart}
 pub use Rattle.sedre.specs.Mirror.{mirror, mirror_node, seen}
-pub use Rattle.sedre.specs.Tree.{size, Tree, WrittenExpression, alt, begin, empty, end, expression_tree, group, opt, seq, set, star, tree_at, tree_of}
+pub use Rattle.sedre.specs.Tree.{size, Tree, WrittenExpression, either_of, text_begin, null_string, text_end, expression_tree, grouped, one_or_none, sequence, byte_of, any_copies, tree_at, tree_of}
 pub use Rattle.sedre.specs.Steps.{Takes, TakesAtLeast}
 pub use Rattle.sedre.specs.declared.types.Node.{Node}
 pub use Rattle.sedre.specs.declared.types.Node.TheVariants.{Alt, Begin, Empty, End, Group, Opt, Seq, Set, Star}
@@ -16,7 +16,7 @@ pub use Rattle.sedtext.proofs.ReachLemmas.{BeginsWith-part, Enters-from, Enters-
 pub use Rattle.sedtext.proofs.SpanLemmas.{CopiesLead-append, CopiesLead-forward, CopiesLead-last, Matches-forward, Matches-within}
 pub use Rattle.sedtext.specs.Answer.{SpanAnswer}
 pub use Rattle.sedtext.specs.Beginnings.{AllBegin, NextStart, NoneIn}
-pub use Rattle.sedtext.specs.Caps.{Captures, IsReport, LastCopy, LastCut, only, then}
+pub use Rattle.sedtext.specs.Caps.{Captures, IsReport, LastCopy, LastCut, only, then_copy}
 pub use Rattle.sedtext.specs.Costs.{CostsWithin}
 pub use Rattle.sedtext.specs.Following.{LiesOn, LooksPast}
 pub use Rattle.sedtext.specs.Groups.{SpansOfGroups, forget, no_groups}

@@ -293,7 +293,7 @@ pub record MayWork (s : Subject) (tables : GroupTables) (room : GroupRoom) (deci
   pub ready : AreReady (nodes_in s) (subject_text s) tasks
   pub enough : weights (nodes_in s) tasks ≤ vec_capacity room.tasks
   pub desk : HasDesk s tables room.kept
-  pub has_blank : HasBlank decided
+  pub keeps_blank : HasBlank decided
 
 -- The tasks are done as far as those left, which are ready, and of which d fewer can still come: what is known then, its cost, where
 -- none matches more than so many bytes, and n nodes that were entered, each of which was looked at.

@@ -2,7 +2,7 @@
 -- What is found out once of an expression: facts of each node, as its groups and how long its spans are.
 use Rattle.std.specs.Prelude.{◌≡◌, ℕ, ◌+◌, ◌-◌, ◌*◌, ◌≤◌, ◌<◌, Bool, true, false, ◌&&◌, ◌||◌, eqb, List, length, slice_get, cond, Option, Some, None, IfSome, nat_lt}
 use Rattle.std.specs.Int.{bit_at, from_bool}
-use Rattle.sedre.specs.Tree.{Tree, set, begin, end, seq, alt, group, star, WrittenExpression, tree_at, empty, opt, size}
+use Rattle.sedre.specs.Tree.{Tree, byte_of, text_begin, text_end, sequence, either_of, grouped, any_copies, WrittenExpression, tree_at, null_string, one_or_none, size}
 use Rattle.sedre.specs.declared.types.Node.{Node}
 use Rattle.sedpass.specs.Classes.{AreClasses}
 use Rattle.sedpass.specs.declared.nodes.Facts.{Facts}
@@ -22,15 +22,15 @@ same_of first second = None
 
 -- the length of all spans of the expression, where one is known
 abbrev pub length_of : Tree → Option ℕ
-length_of empty = Some 0
-length_of (set members) = Some 1
-length_of begin = Some 0
-length_of end = Some 0
-length_of (seq a b) = sum_of (length_of a) (length_of b)
-length_of (alt a b) = same_of (length_of a) (length_of b)
-length_of (group k a) = length_of a
-length_of (star a first) = None
-length_of (opt a first) = None
+length_of null_string = Some 0
+length_of (byte_of members) = Some 1
+length_of text_begin = Some 0
+length_of text_end = Some 0
+length_of (sequence a b) = sum_of (length_of a) (length_of b)
+length_of (either_of a b) = same_of (length_of a) (length_of b)
+length_of (grouped k a) = length_of a
+length_of (any_copies a first) = None
+length_of (one_or_none a first) = None
 
 -- all that R leads to lies n places on
 abbrev pub AllLong : (ℕ → ℕ → Type 0) → ℕ → Type 0
@@ -51,12 +51,12 @@ pub record HeldExpression : Type 0 where
 
 -- the expression matches the null string at a place that is the text's beginning, or isn't, and its end, or isn't
 abbrev pub nullable : Bool → Bool → Tree → Bool
-nullable first last (set members) = false
-nullable first last begin = first
-nullable first last end = last
-nullable first last (seq a b) = nullable first last a && nullable first last b
-nullable first last (alt a b) = nullable first last a || nullable first last b
-nullable first last (group k a) = nullable first last a
+nullable first last (byte_of members) = false
+nullable first last text_begin = first
+nullable first last text_end = last
+nullable first last (sequence a b) = nullable first last a && nullable first last b
+nullable first last (either_of a b) = nullable first last a || nullable first last b
+nullable first last (grouped k a) = nullable first last a
 nullable first last other = true
 
 -- the node matches the null string at places of the kind
@@ -69,13 +69,13 @@ null_at kinds first last = eqb (bit_at kinds (from_bool first + 2 * from_bool la
 
 -- the expression is one byte of a set
 abbrev pub is_one_set : Tree → Bool
-is_one_set (set members) = true
+is_one_set (byte_of members) = true
 is_one_set other = false
 
 -- the part that is a set, if the expression repeats one, in groups or not; x is the index of its last node
 abbrev pub repeated_set : Tree → ℕ → Option ℕ
-repeated_set (group k a) x = repeated_set a (x - 1)
-repeated_set (star a first) x = cond (is_one_set a) (Some (x - 1)) None
+repeated_set (grouped k a) x = repeated_set a (x - 1)
+repeated_set (any_copies a first) x = cond (is_one_set a) (Some (x - 1)) None
 repeated_set other x = None
 
 -- what is known of a node: the tree there, and its index

@@ -1,7 +1,7 @@
 -- Which nodes of an expression are entered while the groups of a match are decided, from its end (this project's own).
 use Rattle.std.specs.Prelude.{◌≡◌, ℕ, ◌+◌, ◌<◌, ◌≤◌, ◌⊎◌, Bool, true, false, ◌||◌, eqb, if◌then◌else◌, List, ◌∷◌, replicate, slice_set, slice_index_or, Option, Some, None, IsTrue}
 use Rattle.sedre.specs.Steps.{TakesAtLeast}
-use Rattle.sedre.specs.Tree.{Tree, seq, alt, group, star, opt}
+use Rattle.sedre.specs.Tree.{Tree, sequence, either_of, grouped, any_copies, one_or_none}
 use Rattle.sedtext.specs.Spans.{Matches}
 use Rattle.sedtext.specs.Caps.{LastCut, LastCopy}
 use Rattle.sedtext.specs.Groups.{SpansOfGroups}
@@ -21,20 +21,20 @@ settle k v s = (if slice_index_or s.due k false then record { due = slice_set s.
 
 -- the groups inside the expression that are still due have no span
 abbrev pub drop_groups : Tree → GroupState → GroupState
-drop_groups (seq a b) s = drop_groups b (drop_groups a s)
-drop_groups (alt a b) s = drop_groups b (drop_groups a s)
-drop_groups (group k a) s = drop_groups a (settle k None s)
-drop_groups (star a first) s = drop_groups a s
-drop_groups (opt a first) s = drop_groups a s
+drop_groups (sequence a b) s = drop_groups b (drop_groups a s)
+drop_groups (either_of a b) s = drop_groups b (drop_groups a s)
+drop_groups (grouped k a) s = drop_groups a (settle k None s)
+drop_groups (any_copies a first) s = drop_groups a s
+drop_groups (one_or_none a first) s = drop_groups a s
 drop_groups other s = s
 
 -- whether group k is in the expression
 abbrev pub has_group : Tree → ℕ → Bool
-has_group (seq a b) k = has_group a k || has_group b k
-has_group (alt a b) k = has_group a k || has_group b k
-has_group (group n a) k = eqb n k || has_group a k
-has_group (star a first) k = has_group a k
-has_group (opt a first) k = has_group a k
+has_group (sequence a b) k = has_group a k || has_group b k
+has_group (either_of a b) k = has_group a k || has_group b k
+has_group (grouped n a) k = eqb n k || has_group a k
+has_group (any_copies a first) k = has_group a k
+has_group (one_or_none a first) k = has_group a k
 has_group other k = false
 
 -- group k is there
@@ -52,18 +52,18 @@ PassedBy e old new n = NoneDue e old × (new ≡ old) × (n ≡ 0)
 -- The groups that are due in the expression's match i..j are decided from its end, and n nodes are entered. A node of which no group is
 -- due is passed by; of a repetition the last copy alone is entered, and the groups in it that get no span there have none.
 abbrev pub WalkEnters : Tree → List ℕ → ℕ → ℕ → GroupState → GroupState → ℕ → Type 0
-WalkEnters (seq a b) w i j old new n = PassedBy (seq a b) old new n
+WalkEnters (sequence a b) w i j old new n = PassedBy (sequence a b) old new n
     ⊎ ((p : ℕ) × (q : ℕ) × (n ≡ 1 + (p + q)) × (k : ℕ) × LastCut (Matches a w) (Matches b w) i j k × (mid : GroupState) × WalkEnters b w k j old mid p × WalkEnters a w i k mid new q)
-WalkEnters (alt a b) w i j old new n = PassedBy (alt a b) old new n
+WalkEnters (either_of a b) w i j old new n = PassedBy (either_of a b) old new n
     ⊎ ((p : ℕ) × (n ≡ 1 + p) × ((Matches a w i j × WalkEnters a w i j old new p) ⊎ ((Matches a w i j → ⊥) × WalkEnters b w i j old new p)))
-WalkEnters (group k a) w i j old new n = PassedBy (group k a) old new n
+WalkEnters (grouped k a) w i j old new n = PassedBy (grouped k a) old new n
     ⊎ ((p : ℕ) × (n ≡ 1 + p) × (mid : GroupState) × WalkEnters a w i j (settle k (Some (i, j)) old) mid p × (new ≡ drop_groups a mid))
-WalkEnters (star a first) w i j old new n = PassedBy (star a first) old new n
+WalkEnters (any_copies a first) w i j old new n = PassedBy (any_copies a first) old new n
     ⊎ ((p : ℕ) × (n ≡ 1 + p) × (
     ((i < j) × (c : ℕ) × LastCopy (Matches a w) j i c × (mid : GroupState) × WalkEnters a w c j old mid p × (new ≡ drop_groups a mid))
     ⊎ (((i ≡ j) × IsTrue first × Matches a w i i × (mid : GroupState) × WalkEnters a w i i old mid p × (new ≡ drop_groups a mid))
     ⊎ ((i ≡ j) × (IsTrue first → Matches a w i i → ⊥) × (new ≡ old) × (p ≡ 0)))))
-WalkEnters (opt a first) w i j old new n = PassedBy (opt a first) old new n
+WalkEnters (one_or_none a first) w i j old new n = PassedBy (one_or_none a first) old new n
     ⊎ ((p : ℕ) × (n ≡ 1 + p) × (
     ((i < j) × (mid : GroupState) × WalkEnters a w i j old mid p × (new ≡ drop_groups a mid))
     ⊎ (((i ≡ j) × IsTrue first × Matches a w i i × (mid : GroupState) × WalkEnters a w i i old mid p × (new ≡ drop_groups a mid))

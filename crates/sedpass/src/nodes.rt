@@ -3,7 +3,7 @@ ghost use Rattle.std.specs.Prelude.{◌≡◌, ℕ, List, Bool, true, false, con
 ghost use Rattle.std.proofs.Props.{props};
 ghost use Rattle.sedre.specs.Arena.{IsExpr};
 ghost use Rattle.sedre.specs.declared.types.Node.{Node};
-ghost use Rattle.sedre.specs.Tree.{tree_at, tree_of, Tree, seq, alt, group, star, opt, size};
+ghost use Rattle.sedre.specs.Tree.{tree_at, tree_of, Tree, sequence, either_of, grouped, any_copies, one_or_none, size};
 ghost use Rattle.sedre.specs.Mirror.{seen};
 ghost use Rattle.sedre.specs.Packed.{PartsBelow};
 ghost use Rattle.sedre.specs.Steps.{Takes, TakesExactly, TakesAtLeast};
@@ -98,7 +98,7 @@ fn same_of(left: Option<usize>, right: Option<usize>) -> Option<usize>
 
 /// What is known of a concatenation, from what is known of its parts.
 fn of_seq(left: Facts, right: Facts) -> Facts
-    ensures { (a b : Tree) (x y z : ℕ) → IsFacts a x left → IsFacts b y right → x + size b + 1 ≡ z → y + 1 ≡ z → size a + size b ≤ 65536 → IsFacts (seq a b) z result }
+    ensures { (a b : Tree) (x y z : ℕ) → IsFacts a x left → IsFacts b y right → x + size b + 1 ≡ z → y + 1 ≡ z → size a + size b ≤ 65536 → IsFacts (sequence a b) z result }
 {
     Facts {
         null: left.null & right.null,
@@ -111,7 +111,7 @@ fn of_seq(left: Facts, right: Facts) -> Facts
 
 /// What is known of an alternation, from what is known of its parts.
 fn of_alt(left: Facts, right: Facts) -> Facts
-    ensures { (a b : Tree) (x y z : ℕ) → IsFacts a x left → IsFacts b y right → x + size b + 1 ≡ z → y + 1 ≡ z → IsFacts (alt a b) z result }
+    ensures { (a b : Tree) (x y z : ℕ) → IsFacts a x left → IsFacts b y right → x + size b + 1 ≡ z → y + 1 ≡ z → IsFacts (either_of a b) z result }
 {
     Facts {
         null: left.null | right.null,
@@ -124,7 +124,7 @@ fn of_alt(left: Facts, right: Facts) -> Facts
 
 /// What is known of a group, from what is known of its part.
 fn of_group(k: usize, part: Facts) -> Facts
-    ensures { (a : Tree) (x z : ℕ) → IsFacts a x part → x + 1 ≡ z → IsFacts (group k a) z result }
+    ensures { (a : Tree) (x z : ℕ) → IsFacts a x part → x + 1 ≡ z → IsFacts (grouped k a) z result }
 {
     Facts {
         groups: part.groups.union(GroupSet::one(k)),
@@ -146,8 +146,8 @@ fn set_at(part: NodeId, shown: Facts) -> Option<usize>
 
 /// What is known of a repetition, or of a part that may be left out, from that of the part. `run` is the part, if it is a set.
 fn of_many(part: Facts, run: Option<usize>) -> Facts
-    ensures star { (a : Tree) (first : Bool) (x z : ℕ) → IsFacts a x part → x + 1 ≡ z → run ≡ cond (is_one_set a) (Some x) None → IsFacts (star a first) z result }
-    ensures opt { (a : Tree) (first : Bool) (x z : ℕ) → IsFacts a x part → x + 1 ≡ z → run ≡ None → IsFacts (opt a first) z result }
+    ensures star { (a : Tree) (first : Bool) (x z : ℕ) → IsFacts a x part → x + 1 ≡ z → run ≡ cond (is_one_set a) (Some x) None → IsFacts (any_copies a first) z result }
+    ensures opt { (a : Tree) (first : Bool) (x z : ℕ) → IsFacts a x part → x + 1 ≡ z → run ≡ None → IsFacts (one_or_none a first) z result }
 {
     Facts {
         null: EVERYWHERE,

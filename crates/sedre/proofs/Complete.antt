@@ -2,7 +2,7 @@
 use Rattle.std.proofs.Common.{◌≡◌, ℕ, suc, List, [], ◌∷◌, ◌++◌, refl, ap, ◌∙◌, sym, append_assoc, append-nil}
 use Rattle.sedre.specs.declared.syntax.Token.{Token}
 use Rattle.sedre.specs.declared.syntax.Token.TheVariants.{Close, Bar, Repeat}
-use Rattle.sedre.specs.Tree.{Tree, group}
+use Rattle.sedre.specs.Tree.{Tree, grouped}
 use Rattle.sedre.specs.Grammar.{concatenation, alternation, repetition, AreAlternatives, ArePieces, IsPiece, first, another, none, more, byte, begin_anchor, end_anchor, subexpression, repeated}
 use Rattle.sedre.proofs.Machine.{run-append, with_last-append}
 use Rattle.sedre.specs.Stacks.{Level, Nesting, nest_all}
@@ -41,6 +41,6 @@ mutual
   piece_read end_anchor number bs ps below = refl
   piece_read (subexpression {g = g} {h = h} {is = is} a) number bs ps below =
       let r = alternatives_read a (suc g) (record { number = number; alternatives = bs; pieces = ps } ∷ below) in
-      run-append is (Close ∷ []) _ ∙ ap (λ (s : Nesting). nest_all (Close ∷ []) s) r.reads ∙ ap (λ (x : List Tree). at h number bs (ps ++ group (suc g) (alternation x) ∷ []) below) r.whole
+      run-append is (Close ∷ []) _ ∙ ap (λ (s : Nesting). nest_all (Close ∷ []) s) r.reads ∙ ap (λ (x : List Tree). at h number bs (ps ++ grouped (suc g) (alternation x) ∷ []) below) r.whole
   piece_read (repeated {h = h} least most {is = is} {t = t} q) number bs ps below =
       run-append is (Repeat least most ∷ []) _ ∙ ap (λ (s : Nesting). nest_all (Repeat least most ∷ []) s) (piece_read q number bs ps below) ∙ ap (λ (x : List Tree). at h number bs x below) (with_last-append (repetition least most) ps t)

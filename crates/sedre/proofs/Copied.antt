@@ -4,7 +4,7 @@ use Rattle.sedre.specs.declared.types.NodeId.{NodeId}
 use Rattle.sedre.specs.declared.types.Node.{Node}
 use Rattle.sedre.specs.declared.types.Node.TheVariants as node
 use Rattle.sedre.specs.Packed.{id, shifted}
-use Rattle.sedre.specs.Tree.{Tree, seq, alt, group, star, opt, size}
+use Rattle.sedre.specs.Tree.{Tree, sequence, either_of, grouped, any_copies, one_or_none, size}
 use Rattle.sedre.specs.Stacks.{postorder}
 use Rattle.sedre.proofs.Written.{size_positive}
 
@@ -43,9 +43,9 @@ two_parts make d base a b f is ea eb =
 
 -- a tree that is written further on has the same nodes with their parts further on
 pub postorder-shifted : (d base : ℕ) (t : Tree) → postorder (base + d) t ≡ map (shifted d) (postorder base t)
-postorder-shifted d base (seq a b) = two_parts node.Seq d base a b (shifted d) (λ i j. refl) (postorder-shifted d base a) (postorder-shifted d (base + size a) b)
-postorder-shifted d base (alt a b) = two_parts node.Alt d base a b (shifted d) (λ i j. refl) (postorder-shifted d base a) (postorder-shifted d (base + size a) b)
-postorder-shifted d base (group k a) = one_part (λ i. node.Group k i) d base a (shifted d) (λ i. refl) (postorder-shifted d base a)
-postorder-shifted d base (star a first) = one_part (λ i. node.Star i first) d base a (shifted d) (λ i. refl) (postorder-shifted d base a)
-postorder-shifted d base (opt a first) = one_part (λ i. node.Opt i first) d base a (shifted d) (λ i. refl) (postorder-shifted d base a)
+postorder-shifted d base (sequence a b) = two_parts node.Seq d base a b (shifted d) (λ i j. refl) (postorder-shifted d base a) (postorder-shifted d (base + size a) b)
+postorder-shifted d base (either_of a b) = two_parts node.Alt d base a b (shifted d) (λ i j. refl) (postorder-shifted d base a) (postorder-shifted d (base + size a) b)
+postorder-shifted d base (grouped k a) = one_part (λ i. node.Group k i) d base a (shifted d) (λ i. refl) (postorder-shifted d base a)
+postorder-shifted d base (any_copies a first) = one_part (λ i. node.Star i first) d base a (shifted d) (λ i. refl) (postorder-shifted d base a)
+postorder-shifted d base (one_or_none a first) = one_part (λ i. node.Opt i first) d base a (shifted d) (λ i. refl) (postorder-shifted d base a)
 postorder-shifted d base _ = refl

@@ -7,7 +7,7 @@ use Rattle.sedre.specs.declared.syntax.NextToken.TheVariants.{Is, Ends, Bad}
 use Rattle.sedre.specs.declared.syntax.Token.{Token}
 use Rattle.sedre.specs.declared.syntax.Token.TheVariants.{Byte, Open, Close, Bar, Repeat, AtBegin, AtEnd}
 use Rattle.sedre.specs.Tree.{Tree, size}
-use Rattle.sedre.specs.Grammar.{depth, concatenation, alternation, AreAlternatives, ArePieces, IsPiece, first, another, none, more, byte, begin_anchor, end_anchor, subexpression, repeated, CutExpression, done, item, open_groups, ReadsAs, FaultRow, bad, stray, unclosed, deep, large, FaultyWith}
+use Rattle.sedre.specs.Grammar.{depth, concatenation, alternation, AreAlternatives, ArePieces, IsPiece, first, another, none, more, byte, begin_anchor, end_anchor, subexpression, repeated, CutExpression, done, next_item, open_groups, ReadsAs, FaultRow, bad, stray, unclosed, deep, large, FaultyWith}
 use Rattle.sedre.specs.Tokens.{token_at}
 use Rattle.sedre.specs.Stacks.{Nesting}
 use Rattle.sedre.proofs.Complete.{alternatives_read, at as state_at}
@@ -71,8 +71,8 @@ module _ (kind : Kind) (folded : Bool) (delimiter : Option ℕ) (text : List ℕ
   begins : {before : Option Token} {at to mid : ℕ} {is js : List Token} → CutExpression kind folded delimiter text before at is to → token_at kind folded delimiter text (last_or before is) to ≡ Ends →
       CutExpression kind folded delimiter text before at js mid → After before at is to js mid
   begins {is = is} c e done = record { rest = is; whole = refl; cut = c; last = refl }
-  begins done e (item f d) = absurd cc
-  begins {before = before} {at = at} {to = to} {mid = mid} (item {next = n} {i = i} {is = is} g c) e (item {next = m} {i = j} {is = js} f d) =
+  begins done e (next_item f d) = absurd cc
+  begins {before = before} {at = at} {to = to} {mid = mid} (next_item {next = n} {i = i} {is = is} g c) e (next_item {next = m} {i = j} {is = js} f d) =
       let one : Is i n ≡ Is j m = sym g ∙ f in
       let same_item : i ≡ j = cc in
       let same_place : n ≡ m = cc in
@@ -85,19 +85,19 @@ module _ (kind : Kind) (folded : Bool) (delimiter : Option ℕ) (text : List ℕ
   never_bad : {before : Option Token} {mid to : ℕ} {rest : List Token} {place : ℕ} {reason : ExprReason} → CutExpression kind folded delimiter text before mid rest to →
       token_at kind folded delimiter text (last_or before rest) to ≡ Ends → token_at kind folded delimiter text before mid ≡ Bad (record { place = place; reason = reason }) → ⊥
   never_bad done e f = cc
-  never_bad (item g c) e f = cc
+  never_bad (next_item g c) e f = cc
 
   closes : {before : Option Token} {mid to next : ℕ} {rest : List Token} → CutExpression kind folded delimiter text before mid rest to →
       token_at kind folded delimiter text (last_or before rest) to ≡ Ends → token_at kind folded delimiter text before mid ≡ Is Close next → (more_items : List Token) × (rest ≡ Close ∷ more_items)
   closes done e f = absurd cc
-  closes (item {next = n} {i = i} {is = is} g c) e f =
+  closes (next_item {next = n} {i = i} {is = is} g c) e f =
       let same : i ≡ Close = cc in
       (is, ap (λ (x : Token). x ∷ is) same)
 
   at_end : {before : Option Token} {mid to : ℕ} {rest : List Token} → CutExpression kind folded delimiter text before mid rest to →
       token_at kind folded delimiter text before mid ≡ Ends → rest ≡ []
   at_end done f = refl
-  at_end (item g c) f = absurd cc
+  at_end (next_item g c) f = absurd cc
 
   same_items : {before : Option Token} {at to mid : ℕ} {is js : List Token} → After before at is to js mid → token_at kind folded delimiter text (last_or before js) mid ≡ Ends → is ≡ js
   same_items {js = js} b f = b.whole ∙ ap (λ (r : List Token). js ++ r) (at_end b.cut f) ∙ append-nil js

@@ -13,7 +13,7 @@ use Rattle.sedre.specs.declared.syntax.NextToken.TheVariants.{Is, Ends, Bad}
 use Rattle.sedre.specs.declared.syntax.Token.{Token}
 use Rattle.sedre.specs.declared.syntax.Token.TheVariants.{Byte, Open, Close, Bar, Repeat, AtBegin, AtEnd}
 use Rattle.sedre.specs.Tree.{Tree, size}
-use Rattle.sedre.specs.Grammar.{depth, without_alternation, concatenation, alternation, with_copies, optional, further, repetition, AreAlternatives, ArePieces, IsPiece, first, another, none, more, byte, begin_anchor, end_anchor, subexpression, repeated, CutExpression, done, item, open_groups, FaultRow, bad, stray, unclosed, deep, large, FaultyWith}
+use Rattle.sedre.specs.Grammar.{depth, without_alternation, concatenation, alternation, with_copies, optional, further, repetition, AreAlternatives, ArePieces, IsPiece, first, another, none, more, byte, begin_anchor, end_anchor, subexpression, repeated, CutExpression, done, next_item, open_groups, FaultRow, bad, stray, unclosed, deep, large, FaultyWith}
 use Rattle.sedre.specs.Tree as t
 use Rattle.sedre.specs.Brackets.{ListedBytes, judged_list, list_at, all_listed, elements_from, is_at_front}
 use Rattle.sedre.specs.Tokens.{front_symbol, token_at, token_for, list_token}
@@ -21,13 +21,13 @@ use Rattle.sedre.specs.Tokens.{front_symbol, token_at, token_for, list_token}
 -- ---- trees
 
 data Same : Tree → Tree → Type 0 where
-  sets : {m n : List Bool} → Same (t.set m) (t.set n)
+  sets : {m n : List Bool} → Same (t.byte_of m) (t.byte_of n)
   same : {a : Tree} → Same a a
-  seqs : {a b c d : Tree} → Same a c → Same b d → Same (t.seq a b) (t.seq c d)
-  alts : {a b c d : Tree} → Same a c → Same b d → Same (t.alt a b) (t.alt c d)
-  groups : {k : ℕ} {a b : Tree} → Same a b → Same (t.group k a) (t.group k b)
-  stars : {mark : Bool} {a b : Tree} → Same a b → Same (t.star a mark) (t.star b mark)
-  opts : {mark : Bool} {a b : Tree} → Same a b → Same (t.opt a mark) (t.opt b mark)
+  seqs : {a b c d : Tree} → Same a c → Same b d → Same (t.sequence a b) (t.sequence c d)
+  alts : {a b c d : Tree} → Same a c → Same b d → Same (t.either_of a b) (t.either_of c d)
+  groups : {k : ℕ} {a b : Tree} → Same a b → Same (t.grouped k a) (t.grouped k b)
+  stars : {mark : Bool} {a b : Tree} → Same a b → Same (t.any_copies a mark) (t.any_copies b mark)
+  opts : {mark : Bool} {a b : Tree} → Same a b → Same (t.one_or_none a mark) (t.one_or_none b mark)
 
 data SameAll : List Tree → List Tree → Type 0 where
   nothing : SameAll [] []
@@ -144,16 +144,16 @@ mutual
       (c.0 ++ d.0 ∷ [], subst R s.whole (more c.1 d.1), append-same c.2 (also d.2 nothing))
 
   piece_alike : {g h : ℕ} {is js : List Token} {a : Tree} → IsPiece g is a h → Alike is js → (b : Tree) × IsPiece g js b h × Same a b
-  piece_alike (byte {members = m}) (next one empty) = (t.set m, byte, same)
-  piece_alike byte (next (bytes {n = n}) empty) = (t.set n, byte, sets)
-  piece_alike begin_anchor (next one empty) = (t.begin, begin_anchor, same)
-  piece_alike end_anchor (next one empty) = (t.end, end_anchor, same)
+  piece_alike (byte {members = m}) (next one empty) = (t.byte_of m, byte, same)
+  piece_alike byte (next (bytes {n = n}) empty) = (t.byte_of n, byte, sets)
+  piece_alike begin_anchor (next one empty) = (t.text_begin, begin_anchor, same)
+  piece_alike end_anchor (next one empty) = (t.text_end, end_anchor, same)
   piece_alike {g = g} {h = h} (subexpression {is = is} b) a =
       let o = after_open a in
       let s = split is o.2 in
       let c = alternatives_alike b s.lefts in
-      let R : List Token → Type 0 = λ l. IsPiece g l (t.group (suc g) (alternation c.0)) h in
-      (t.group (suc g) (alternation c.0), subst R (ap (λ (l : List Token). Open ∷ s.left ++ l) (only_close s.rights) ∙ ap (λ (l : List Token). Open ∷ l) s.whole ∙ o.1) (subexpression c.1), groups (alternation-same c.2))
+      let R : List Token → Type 0 = λ l. IsPiece g l (t.grouped (suc g) (alternation c.0)) h in
+      (t.grouped (suc g) (alternation c.0), subst R (ap (λ (l : List Token). Open ∷ s.left ++ l) (only_close s.rights) ∙ ap (λ (l : List Token). Open ∷ l) s.whole ∙ o.1) (subexpression c.1), groups (alternation-same c.2))
   piece_alike {g = g} {h = h} (repeated least most {is = is} q) a =
       let s = split is a in
       let c = piece_alike q s.lefts in
@@ -236,10 +236,10 @@ module _ (kind : Kind) (f g : Bool) (delimiter : Option ℕ) (text : List ℕ) w
 
   cut_alike : {before after : Option Token} {at to : ℕ} {is : List Token} → CutExpression kind f delimiter text before at is to → AlikeBefore before after → CutAlike before after at is to
   cut_alike done b = record { tokens = []; cut = done; alike = empty; last = b }
-  cut_alike {at = at} (item e c) b =
+  cut_alike {at = at} (next_item e c) b =
       let h = is_alike (here_alike at b) e in
       let r = cut_alike c (there h.2) in
-      record { tokens = h.0 ∷ r.tokens; cut = item h.1 r.cut; alike = next h.2 r.alike; last = r.last }
+      record { tokens = h.0 ∷ r.tokens; cut = next_item h.1 r.cut; alike = next h.2 r.alike; last = r.last }
 
   row_alike : {max_nodes opened to place : ℕ} {reason : ExprReason} {is js : List Token} → Alike is js → AlikeBefore (last_or None is) (last_or None js) →
       FaultRow kind f delimiter text max_nodes is opened to place reason → FaultRow kind g delimiter text max_nodes js opened to place reason

@@ -5,7 +5,7 @@ use Rattle.std.proofs.lemmas.Bool.Decides.{leb_tells}
 use Rattle.std.proofs.lemmas.Option.{slice_get_within}
 use Rattle.sedre.specs.declared.types.Node.{Node}
 use Rattle.sedre.specs.declared.types.Node.TheVariants as node
-use Rattle.sedre.specs.Tree.{Tree, empty, set, begin, end, seq, alt, group, star, opt, tree_of, tree_at, size}
+use Rattle.sedre.specs.Tree.{Tree, null_string, byte_of, text_begin, text_end, sequence, either_of, grouped, any_copies, one_or_none, tree_of, tree_at, size}
 use Rattle.sedre.specs.Arena.{IsArena, FollowsParts, IsExpr}
 use Rattle.sedre.specs.Packed.{id}
 use Rattle.sedre.specs.Finished.{GroupsNumbered}
@@ -16,15 +16,15 @@ use Rattle.sedre.proofs.TreeLemmas.{tree_at-node}
 
 -- the nodes from an index on are those of a tree
 abbrev pub Holds : List Node → ℕ → Tree → Type 0
-Holds ns base empty = slice_get ns base ≡ Some node.Empty
-Holds ns base (set members) = slice_get ns base ≡ Some (node.Set members)
-Holds ns base begin = slice_get ns base ≡ Some node.Begin
-Holds ns base end = slice_get ns base ≡ Some node.End
-Holds ns base (seq a b) = Holds ns base a × Holds ns (base + size a) b × (slice_get ns (base + size a + size b) ≡ Some (node.Seq (id (base + size a - 1)) (id (base + size a + size b - 1))))
-Holds ns base (alt a b) = Holds ns base a × Holds ns (base + size a) b × (slice_get ns (base + size a + size b) ≡ Some (node.Alt (id (base + size a - 1)) (id (base + size a + size b - 1))))
-Holds ns base (group k a) = Holds ns base a × (slice_get ns (base + size a) ≡ Some (node.Group k (id (base + size a - 1))))
-Holds ns base (star a first) = Holds ns base a × (slice_get ns (base + size a) ≡ Some (node.Star (id (base + size a - 1)) first))
-Holds ns base (opt a first) = Holds ns base a × (slice_get ns (base + size a) ≡ Some (node.Opt (id (base + size a - 1)) first))
+Holds ns base null_string = slice_get ns base ≡ Some node.Empty
+Holds ns base (byte_of members) = slice_get ns base ≡ Some (node.Set members)
+Holds ns base text_begin = slice_get ns base ≡ Some node.Begin
+Holds ns base text_end = slice_get ns base ≡ Some node.End
+Holds ns base (sequence a b) = Holds ns base a × Holds ns (base + size a) b × (slice_get ns (base + size a + size b) ≡ Some (node.Seq (id (base + size a - 1)) (id (base + size a + size b - 1))))
+Holds ns base (either_of a b) = Holds ns base a × Holds ns (base + size a) b × (slice_get ns (base + size a + size b) ≡ Some (node.Alt (id (base + size a - 1)) (id (base + size a + size b - 1))))
+Holds ns base (grouped k a) = Holds ns base a × (slice_get ns (base + size a) ≡ Some (node.Group k (id (base + size a - 1))))
+Holds ns base (any_copies a first) = Holds ns base a × (slice_get ns (base + size a) ≡ Some (node.Star (id (base + size a - 1)) first))
+Holds ns base (one_or_none a first) = Holds ns base a × (slice_get ns (base + size a) ≡ Some (node.Opt (id (base + size a - 1)) first))
 
 get_seam : (front : List Node) (n : Node) (back : List Node) → slice_get (front ++ n ∷ back) (length front) ≡ Some n
 get_seam [] n back = refl
@@ -59,25 +59,25 @@ holds_two ns front back base a b n e h =
     )
 
 pub holds_of : (t : Tree) (ns front back : List Node) (base : ℕ) → ns ≡ front ++ (postorder base t ++ back) → length front ≡ base → Holds ns base t
-holds_of empty ns front back base e h = at_seam ns front back node.Empty base e h
-holds_of (set members) ns front back base e h = at_seam ns front back (node.Set members) base e h
-holds_of begin ns front back base e h = at_seam ns front back node.Begin base e h
-holds_of end ns front back base e h = at_seam ns front back node.End base e h
-holds_of (seq a b) ns front back base e h =
+holds_of null_string ns front back base e h = at_seam ns front back node.Empty base e h
+holds_of (byte_of members) ns front back base e h = at_seam ns front back (node.Set members) base e h
+holds_of text_begin ns front back base e h = at_seam ns front back node.Begin base e h
+holds_of text_end ns front back base e h = at_seam ns front back node.End base e h
+holds_of (sequence a b) ns front back base e h =
     let n : Node = node.Seq (id (base + size a - 1)) (id (base + size a + size b - 1)) in
     let r = holds_two ns front back base a b n e h in
     (holds_of a ns front (postorder (base + size a) b ++ n ∷ back) base r.0 h, holds_of b ns (front ++ postorder base a) (n ∷ back) (base + size a) r.1 r.2, r.3)
-holds_of (alt a b) ns front back base e h =
+holds_of (either_of a b) ns front back base e h =
     let n : Node = node.Alt (id (base + size a - 1)) (id (base + size a + size b - 1)) in
     let r = holds_two ns front back base a b n e h in
     (holds_of a ns front (postorder (base + size a) b ++ n ∷ back) base r.0 h, holds_of b ns (front ++ postorder base a) (n ∷ back) (base + size a) r.1 r.2, r.3)
-holds_of (group k a) ns front back base e h =
+holds_of (grouped k a) ns front back base e h =
     let n : Node = node.Group k (id (base + size a - 1)) in
     (holds_of a ns front (n ∷ back) base (e ∙ split_one front (postorder base a) back n) h, holds_one ns front back base a n e h)
-holds_of (star a first) ns front back base e h =
+holds_of (any_copies a first) ns front back base e h =
     let n : Node = node.Star (id (base + size a - 1)) first in
     (holds_of a ns front (n ∷ back) base (e ∙ split_one front (postorder base a) back n) h, holds_one ns front back base a n e h)
-holds_of (opt a first) ns front back base e h =
+holds_of (one_or_none a first) ns front back base e h =
     let n : Node = node.Opt (id (base + size a - 1)) first in
     (holds_of a ns front (n ∷ back) base (e ∙ split_one front (postorder base a) back n) h, holds_one ns front back base a n e h)
 
@@ -93,15 +93,15 @@ module _ (ns : List Node) (arena : IsArena ns) where
 
   -- the tree at its last node
   pub root_is : (t : Tree) (base : ℕ) → Holds ns base t → tree_at ns (base + size t - 1) ≡ t
-  root_is empty base h = root_leaf base empty node.Empty refl h refl
-  root_is (set members) base h = root_leaf base (set members) (node.Set members) refl h refl
-  root_is begin base h = root_leaf base begin node.Begin refl h refl
-  root_is end base h = root_leaf base end node.End refl h refl
-  root_is (seq a b) base h = root_two base a b (seq a b) _ refl h.2 (ap (λ (x : Tree). seq x (tree_at ns (base + size a + size b - 1))) (root_is a base h.0) ∙ ap (λ (x : Tree). seq a x) (root_is b (base + size a) h.1))
-  root_is (alt a b) base h = root_two base a b (alt a b) _ refl h.2 (ap (λ (x : Tree). alt x (tree_at ns (base + size a + size b - 1))) (root_is a base h.0) ∙ ap (λ (x : Tree). alt a x) (root_is b (base + size a) h.1))
-  root_is (group k a) base h = root_over base a (group k a) _ refl h.1 (ap (λ (x : Tree). group k x) (root_is a base h.0))
-  root_is (star a first) base h = root_over base a (star a first) _ refl h.1 (ap (λ (x : Tree). star x first) (root_is a base h.0))
-  root_is (opt a first) base h = root_over base a (opt a first) _ refl h.1 (ap (λ (x : Tree). opt x first) (root_is a base h.0))
+  root_is null_string base h = root_leaf base null_string node.Empty refl h refl
+  root_is (byte_of members) base h = root_leaf base (byte_of members) (node.Set members) refl h refl
+  root_is text_begin base h = root_leaf base text_begin node.Begin refl h refl
+  root_is text_end base h = root_leaf base text_end node.End refl h refl
+  root_is (sequence a b) base h = root_two base a b (sequence a b) _ refl h.2 (ap (λ (x : Tree). sequence x (tree_at ns (base + size a + size b - 1))) (root_is a base h.0) ∙ ap (λ (x : Tree). sequence a x) (root_is b (base + size a) h.1))
+  root_is (either_of a b) base h = root_two base a b (either_of a b) _ refl h.2 (ap (λ (x : Tree). either_of x (tree_at ns (base + size a + size b - 1))) (root_is a base h.0) ∙ ap (λ (x : Tree). either_of a x) (root_is b (base + size a) h.1))
+  root_is (grouped k a) base h = root_over base a (grouped k a) _ refl h.1 (ap (λ (x : Tree). grouped k x) (root_is a base h.0))
+  root_is (any_copies a first) base h = root_over base a (any_copies a first) _ refl h.1 (ap (λ (x : Tree). any_copies x first) (root_is a base h.0))
+  root_is (one_or_none a first) base h = root_over base a (one_or_none a first) _ refl h.1 (ap (λ (x : Tree). one_or_none x first) (root_is a base h.0))
 
   fits_root : (t : Tree) (base x : ℕ) → Holds ns base t → x ≡ base + size t - 1 → size (tree_at ns x) + base ≤ x + 1
   fits_root t base x h e = omega (arith, e, size_positive t, ap (λ (n : ℕ). size (tree_at ns n)) e, ap size (root_is t base h))
@@ -124,15 +124,15 @@ module _ (ns : List Node) (arena : IsArena ns) where
 
   -- the trees at its nodes are no larger than the nodes up to there
   pub sizes_fit : (t : Tree) (base x : ℕ) → Holds ns base t → base ≤ x → x < base + size t → size (tree_at ns x) + base ≤ x + 1
-  sizes_fit empty base x h lo hi = fits_root empty base x h (omega (arith, lo, hi))
-  sizes_fit (set members) base x h lo hi = fits_root (set members) base x h (omega (arith, lo, hi))
-  sizes_fit begin base x h lo hi = fits_root begin base x h (omega (arith, lo, hi))
-  sizes_fit end base x h lo hi = fits_root end base x h (omega (arith, lo, hi))
-  sizes_fit (seq a b) base x h lo hi = two_fit a b (seq a b) base x refl h (λ g. sizes_fit a base x h.0 lo g) (λ f g. sizes_fit b (base + size a) x h.1 f g) hi
-  sizes_fit (alt a b) base x h lo hi = two_fit a b (alt a b) base x refl h (λ g. sizes_fit a base x h.0 lo g) (λ f g. sizes_fit b (base + size a) x h.1 f g) hi
-  sizes_fit (group k a) base x h lo hi = one_fits a (group k a) base x refl h (λ g. sizes_fit a base x h.0 lo g) hi
-  sizes_fit (star a first) base x h lo hi = one_fits a (star a first) base x refl h (λ g. sizes_fit a base x h.0 lo g) hi
-  sizes_fit (opt a first) base x h lo hi = one_fits a (opt a first) base x refl h (λ g. sizes_fit a base x h.0 lo g) hi
+  sizes_fit null_string base x h lo hi = fits_root null_string base x h (omega (arith, lo, hi))
+  sizes_fit (byte_of members) base x h lo hi = fits_root (byte_of members) base x h (omega (arith, lo, hi))
+  sizes_fit text_begin base x h lo hi = fits_root text_begin base x h (omega (arith, lo, hi))
+  sizes_fit text_end base x h lo hi = fits_root text_end base x h (omega (arith, lo, hi))
+  sizes_fit (sequence a b) base x h lo hi = two_fit a b (sequence a b) base x refl h (λ g. sizes_fit a base x h.0 lo g) (λ f g. sizes_fit b (base + size a) x h.1 f g) hi
+  sizes_fit (either_of a b) base x h lo hi = two_fit a b (either_of a b) base x refl h (λ g. sizes_fit a base x h.0 lo g) (λ f g. sizes_fit b (base + size a) x h.1 f g) hi
+  sizes_fit (grouped k a) base x h lo hi = one_fits a (grouped k a) base x refl h (λ g. sizes_fit a base x h.0 lo g) hi
+  sizes_fit (any_copies a first) base x h lo hi = one_fits a (any_copies a first) base x refl h (λ g. sizes_fit a base x h.0 lo g) hi
+  sizes_fit (one_or_none a first) base x h lo hi = one_fits a (one_or_none a first) base x refl h (λ g. sizes_fit a base x h.0 lo g) hi
 
   -- what is at an index, said of an equal one
   follows_at : (x y : ℕ) (own n : Node) → x ≡ y → slice_get ns y ≡ Some own → slice_get ns x ≡ Some n → FollowsParts ns y own → FollowsParts ns x n
@@ -168,23 +168,23 @@ module _ (ns : List Node) (arena : IsArena ns) where
 
   -- each node at the indices of a tree follows its parts
   pub follow_parts : (t : Tree) (base x : ℕ) (n : Node) → Holds ns base t → base ≤ x → x < base + size t → slice_get ns x ≡ Some n → FollowsParts ns x n
-  follow_parts empty base x n h lo hi is = follows_at x base node.Empty n (omega (arith, lo, hi)) h is tt
-  follow_parts (set members) base x n h lo hi is = follows_at x base (node.Set members) n (omega (arith, lo, hi)) h is tt
-  follow_parts begin base x n h lo hi is = follows_at x base node.Begin n (omega (arith, lo, hi)) h is tt
-  follow_parts end base x n h lo hi is = follows_at x base node.End n (omega (arith, lo, hi)) h is tt
-  follow_parts (seq a b) base x n h lo hi is =
+  follow_parts null_string base x n h lo hi is = follows_at x base node.Empty n (omega (arith, lo, hi)) h is tt
+  follow_parts (byte_of members) base x n h lo hi is = follows_at x base (node.Set members) n (omega (arith, lo, hi)) h is tt
+  follow_parts text_begin base x n h lo hi is = follows_at x base node.Begin n (omega (arith, lo, hi)) h is tt
+  follow_parts text_end base x n h lo hi is = follows_at x base node.End n (omega (arith, lo, hi)) h is tt
+  follow_parts (sequence a b) base x n h lo hi is =
       two_follow a b base x (node.Seq (id (base + size a - 1)) (id (base + size a + size b - 1))) n h.2
       (right_size b base (size a) h.1 (size_positive a), last_part b (base + size a)) is
       (λ g. follow_parts a base x n h.0 lo g is) (λ f g. follow_parts b (base + size a) x n h.1 f g is) hi
-  follow_parts (alt a b) base x n h lo hi is =
+  follow_parts (either_of a b) base x n h lo hi is =
       two_follow a b base x (node.Alt (id (base + size a - 1)) (id (base + size a + size b - 1))) n h.2
       (right_size b base (size a) h.1 (size_positive a), last_part b (base + size a)) is
       (λ g. follow_parts a base x n h.0 lo g is) (λ f g. follow_parts b (base + size a) x n h.1 f g is) hi
-  follow_parts (group k a) base x n h lo hi is =
+  follow_parts (grouped k a) base x n h lo hi is =
       one_follows a base x (node.Group k (id (base + size a - 1))) n h.1 (last_part a base) is (λ g. follow_parts a base x n h.0 lo g is) hi
-  follow_parts (star a first) base x n h lo hi is =
+  follow_parts (any_copies a first) base x n h lo hi is =
       one_follows a base x (node.Star (id (base + size a - 1)) first) n h.1 (last_part a base) is (λ g. follow_parts a base x n h.0 lo g is) hi
-  follow_parts (opt a first) base x n h lo hi is =
+  follow_parts (one_or_none a first) base x n h lo hi is =
       one_follows a base x (node.Opt (id (base + size a - 1)) first) n h.1 (last_part a base) is (λ g. follow_parts a base x n h.0 lo g is) hi
 
 -- ---- the numbers of groups
@@ -202,11 +202,11 @@ all-append most [] ys p q = q
 all-append most (x ∷ xs) ys p q = (p.0, all-append most xs ys p.1 q)
 
 numbered_nodes : (most base : ℕ) (t : Tree) → GroupsNumbered most t → AllNumbered most (postorder base t)
-numbered_nodes most base (seq a b) h = all-append most (postorder base a ++ postorder (base + size a) b) _ (all-append most (postorder base a) (postorder (base + size a) b) (numbered_nodes most base a h.0) (numbered_nodes most (base + size a) b h.1)) (tt, tt)
-numbered_nodes most base (alt a b) h = all-append most (postorder base a ++ postorder (base + size a) b) _ (all-append most (postorder base a) (postorder (base + size a) b) (numbered_nodes most base a h.0) (numbered_nodes most (base + size a) b h.1)) (tt, tt)
-numbered_nodes most base (group k a) h = all-append most (postorder base a) _ (numbered_nodes most base a h.2) ((h.0, h.1), tt)
-numbered_nodes most base (star a first) h = all-append most (postorder base a) _ (numbered_nodes most base a h) (tt, tt)
-numbered_nodes most base (opt a first) h = all-append most (postorder base a) _ (numbered_nodes most base a h) (tt, tt)
+numbered_nodes most base (sequence a b) h = all-append most (postorder base a ++ postorder (base + size a) b) _ (all-append most (postorder base a) (postorder (base + size a) b) (numbered_nodes most base a h.0) (numbered_nodes most (base + size a) b h.1)) (tt, tt)
+numbered_nodes most base (either_of a b) h = all-append most (postorder base a ++ postorder (base + size a) b) _ (all-append most (postorder base a) (postorder (base + size a) b) (numbered_nodes most base a h.0) (numbered_nodes most (base + size a) b h.1)) (tt, tt)
+numbered_nodes most base (grouped k a) h = all-append most (postorder base a) _ (numbered_nodes most base a h.2) ((h.0, h.1), tt)
+numbered_nodes most base (any_copies a first) h = all-append most (postorder base a) _ (numbered_nodes most base a h) (tt, tt)
+numbered_nodes most base (one_or_none a first) h = all-append most (postorder base a) _ (numbered_nodes most base a h) (tt, tt)
 numbered_nodes most base _ h = (tt, tt)
 
 number_at : (most : ℕ) (ns : List Node) (x : ℕ) (n : Node) → AllNumbered most ns → slice_get ns x ≡ Some n → NumberedNode most n

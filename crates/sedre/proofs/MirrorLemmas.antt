@@ -3,7 +3,7 @@ use Rattle.std.proofs.Common.{◌≡◌, ℕ, zero, suc, ◌+◌, ◌<◌, List,
 use Rattle.std.specs.Prelude.{slice_get, option_map}
 use Rattle.std.proofs.lemmas.Option.{slice_get-map}
 use Rattle.std.proofs.lemmas.List.{length-map}
-use Rattle.sedre.specs.Tree.{Tree, empty, seq, alt, group, star, opt, WrittenExpression, tree_of, tree_within, tree_at, size}
+use Rattle.sedre.specs.Tree.{Tree, null_string, sequence, either_of, grouped, any_copies, one_or_none, WrittenExpression, tree_of, tree_within, tree_at, size}
 use Rattle.std.specs.Option.{option_map_or}
 use Rattle.sedre.specs.Arena.{IsArena, IsPart, HasTwoParts}
 use Rattle.sedre.specs.Mirror.{mirror, mirror_node, node_seen, seen}
@@ -12,19 +12,19 @@ use Rattle.sedre.specs.declared.types.Node.TheVariants.{Seq, Alt, Group, Star, O
 
 -- mirrored twice it is as it was
 pub mirror-mirror : (t : Tree) → mirror (mirror t) ≡ t
-mirror-mirror (seq a b) = rw (mirror-mirror a, mirror-mirror b)
-mirror-mirror (alt a b) = rw (mirror-mirror a, mirror-mirror b)
-mirror-mirror (group k a) = rw (mirror-mirror a)
-mirror-mirror (star a first) = rw (mirror-mirror a)
-mirror-mirror (opt a first) = rw (mirror-mirror a)
+mirror-mirror (sequence a b) = rw (mirror-mirror a, mirror-mirror b)
+mirror-mirror (either_of a b) = rw (mirror-mirror a, mirror-mirror b)
+mirror-mirror (grouped k a) = rw (mirror-mirror a)
+mirror-mirror (any_copies a first) = rw (mirror-mirror a)
+mirror-mirror (one_or_none a first) = rw (mirror-mirror a)
 mirror-mirror _ = refl
 
 pub size-mirror : (t : Tree) → size (mirror t) ≡ size t
-size-mirror (seq a b) = omega (arith, size-mirror a, size-mirror b)
-size-mirror (alt a b) = omega (arith, size-mirror a, size-mirror b)
-size-mirror (group k a) = omega (arith, size-mirror a)
-size-mirror (star a first) = omega (arith, size-mirror a)
-size-mirror (opt a first) = omega (arith, size-mirror a)
+size-mirror (sequence a b) = omega (arith, size-mirror a, size-mirror b)
+size-mirror (either_of a b) = omega (arith, size-mirror a, size-mirror b)
+size-mirror (grouped k a) = omega (arith, size-mirror a)
+size-mirror (any_copies a first) = omega (arith, size-mirror a)
+size-mirror (one_or_none a first) = omega (arith, size-mirror a)
 size-mirror _ = refl
 
 -- the trees of a mirrored node
@@ -36,7 +36,7 @@ tree_of-mirror f g same (Star a first) = rw (same a.index)
 tree_of-mirror f g same (Opt a first) = rw (same a.index)
 tree_of-mirror f g same _ = refl
 
-node-mirror : (f g : ℕ → Tree) → ((c : ℕ) → f c ≡ mirror (g c)) → (o : Option Node) → option_map_or (tree_of f) (option_map mirror_node o) empty ≡ mirror (option_map_or (tree_of g) o empty)
+node-mirror : (f g : ℕ → Tree) → ((c : ℕ) → f c ≡ mirror (g c)) → (o : Option Node) → option_map_or (tree_of f) (option_map mirror_node o) null_string ≡ mirror (option_map_or (tree_of g) o null_string)
 node-mirror f g same None = refl
 node-mirror f g same (Some node) = tree_of-mirror f g same node
 

@@ -1,7 +1,7 @@
 -- The groups of what is read are numbered by their openings.
 use Rattle.std.proofs.Common.{ℕ, zero, suc, ◌-◌, ◌≤◌, List, [], ◌∷◌, ◌++◌, Bool, false, Option, Some, None, arith, nat_eq}
 use Rattle.sedre.specs.declared.syntax.Token.{Token}
-use Rattle.sedre.specs.Tree.{Tree, seq, alt, group, star, opt}
+use Rattle.sedre.specs.Tree.{Tree, sequence, either_of, grouped, any_copies, one_or_none}
 use Rattle.sedre.specs.Grammar.{concatenation, alternation, with_copies, optional, further, repetition, AreAlternatives, ArePieces, IsPiece, first, another, none, more, subexpression, repeated}
 use Rattle.sedre.specs.Finished.{GroupsNumbered}
 
@@ -10,11 +10,11 @@ AllOf most [] = Unit {0}
 AllOf most (t ∷ ts) = GroupsNumbered most t × AllOf most ts
 
 more_groups : (m n : ℕ) (t : Tree) → m ≤ n → GroupsNumbered m t → GroupsNumbered n t
-more_groups m n (seq a b) h p = (more_groups m n a h p.0, more_groups m n b h p.1)
-more_groups m n (alt a b) h p = (more_groups m n a h p.0, more_groups m n b h p.1)
-more_groups m n (group k a) h p = (p.0, omega (arith, p.1, h), more_groups m n a h p.2)
-more_groups m n (star a mark) h p = more_groups m n a h p
-more_groups m n (opt a mark) h p = more_groups m n a h p
+more_groups m n (sequence a b) h p = (more_groups m n a h p.0, more_groups m n b h p.1)
+more_groups m n (either_of a b) h p = (more_groups m n a h p.0, more_groups m n b h p.1)
+more_groups m n (grouped k a) h p = (p.0, omega (arith, p.1, h), more_groups m n a h p.2)
+more_groups m n (any_copies a mark) h p = more_groups m n a h p
+more_groups m n (one_or_none a mark) h p = more_groups m n a h p
 more_groups m n _ h p = tt
 
 all_more : (m n : ℕ) (ts : List Tree) → m ≤ n → AllOf m ts → AllOf n ts
@@ -48,7 +48,7 @@ of_further m zero t mark p = tt
 of_further m (suc n) t mark p = (of_optional m n t mark p, tt)
 
 of_repetition : (m least : ℕ) (most : Option ℕ) (t : Tree) → GroupsNumbered m t → GroupsNumbered m (repetition least most t)
-of_repetition m least None t p = of_concatenation m (with_copies least t (star t (nat_eq least 0) ∷ [])) (of_copies m least t (star t (nat_eq least 0) ∷ []) p (p, tt))
+of_repetition m least None t p = of_concatenation m (with_copies least t (any_copies t (nat_eq least 0) ∷ [])) (of_copies m least t (any_copies t (nat_eq least 0) ∷ []) p (p, tt))
 of_repetition m least (Some most) t p = of_concatenation m (with_copies least t (further (most - least) t (nat_eq least 0))) (of_copies m least t (further (most - least) t (nat_eq least 0)) p (of_further m (most - least) t (nat_eq least 0) p))
 
 mutual

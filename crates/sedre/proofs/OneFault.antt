@@ -9,7 +9,7 @@ use Rattle.sedre.specs.declared.syntax.NextToken.TheVariants.{Is, Bad}
 use Rattle.sedre.specs.declared.syntax.Token.{Token}
 use Rattle.sedre.specs.declared.syntax.Token.TheVariants.{Close}
 use Rattle.sedre.specs.Tree.{Tree}
-use Rattle.sedre.specs.Grammar.{depth, alternation, AreAlternatives, CutExpression, done, item, open_groups, FaultRow, bad, stray, unclosed, deep, large, FaultyWith}
+use Rattle.sedre.specs.Grammar.{depth, alternation, AreAlternatives, CutExpression, done, next_item, open_groups, FaultRow, bad, stray, unclosed, deep, large, FaultyWith}
 use Rattle.sedre.proofs.Exclusive.{one_reading, go_on, open-append}
 
 -- the place and the reason that both have
@@ -61,8 +61,8 @@ module _ (kind : Kind) (folded : Bool) (delimiter : Option ℕ) (text : List ℕ
   either : {before : Option Token} {at to mid : ℕ} {is js : List Token} → CutExpression kind folded delimiter text before at is to → CutExpression kind folded delimiter text before at js mid →
       After before is to js mid ⊎ After before js mid is to
   either {is = is} c done = inl (record { rest = is; whole = refl; cut = c })
-  either {js = js} done (item f d) = inr (record { rest = js; whole = refl; cut = item f d })
-  either {before = before} {to = to} {mid = mid} (item {next = n} {i = i} {is = is} g c) (item {next = m} {i = j} {is = js} f d) =
+  either {js = js} done (next_item f d) = inr (record { rest = js; whole = refl; cut = next_item f d })
+  either {before = before} {to = to} {mid = mid} (next_item {next = n} {i = i} {is = is} g c) (next_item {next = m} {i = j} {is = js} f d) =
       let one : ◌≡◌ {A = NextToken} (Is i n) (Is j m) = sym g ∙ f in
       let same_item : i ≡ j = cc in
       let same_place : n ≡ m = cc in
@@ -78,14 +78,14 @@ module _ (kind : Kind) (folded : Bool) (delimiter : Option ℕ) (text : List ℕ
   row_ends : {o n mid to p : ℕ} {js rest : List Token} {r : ExprReason} → FaultRow kind folded delimiter text max_nodes js o mid p r → CutExpression kind folded delimiter text (last_or None js) mid rest to →
       open_groups o rest ≡ Some n → (rest ≡ []) × (to ≡ mid)
   row_ends w done h = (refl, refl)
-  row_ends (bad f) (item g c) h = absurd cc
-  row_ends {n = n} (stray f) (item {i = i} {is = is} g c) h =
+  row_ends (bad f) (next_item g c) h = absurd cc
+  row_ends {n = n} (stray f) (next_item {i = i} {is = is} g c) h =
       let same : i ≡ Close = cc in
       let other : open_groups 0 (Close ∷ is) ≡ Some n = subst (λ (x : Token). open_groups 0 (x ∷ is) ≡ Some n) same h in
       absurd cc
-  row_ends (unclosed f) (item g c) h = absurd cc
-  row_ends (deep ds f d far) (item g c) h = absurd cc
-  row_ends (large ds f d near far) (item g c) h = absurd cc
+  row_ends (unclosed f) (next_item g c) h = absurd cc
+  row_ends (deep ds f d far) (next_item g c) h = absurd cc
+  row_ends (large ds f d near far) (next_item g c) h = absurd cc
 
   -- the faults after two cuts, the one after the other, are one
   after_same : {o n mid to p q : ℕ} {is js : List Token} {r s : ExprReason} → After None is to js mid → open_groups 0 is ≡ Some n → open_groups 0 js ≡ Some o →

@@ -7,8 +7,8 @@ use Rattle.sedre.specs.declared.types.ExprReason.TheVariants.{StrayClose, OpenGr
 use Rattle.sedre.specs.declared.syntax.NextToken.TheVariants.{Is, Ends, Bad}
 use Rattle.sedre.specs.declared.syntax.Token.{Token}
 use Rattle.sedre.specs.declared.syntax.Token.TheVariants.{Byte, Open, Close, Bar, Repeat, AtBegin, AtEnd}
-use Rattle.sedre.specs.Tree.{Tree, set, size}
-use Rattle.sedre.specs.Grammar.{depth, alternation, repetition, none, byte, begin_anchor, end_anchor, CutExpression, done, item, open_groups, ReadsAs, bad, stray, unclosed, deep, large, FaultyWith}
+use Rattle.sedre.specs.Tree.{Tree, byte_of, size}
+use Rattle.sedre.specs.Grammar.{depth, alternation, repetition, none, byte, begin_anchor, end_anchor, CutExpression, done, next_item, open_groups, ReadsAs, bad, stray, unclosed, deep, large, FaultyWith}
 use Rattle.sedre.specs.Tokens.{token_at, is_repeatable}
 use Rattle.sedre.specs.Stacks.{Level, Nesting, no_nesting, step, with_last, all_alternatives}
 use Rattle.sedre.proofs.Sound.{NestedAs, base, only as only_pieces, nested_piece, nested_bar, nested_repeat, nested_open, nested_close, nested_whole}
@@ -29,8 +29,8 @@ reading_start kind folded delimiter text = record { tokens = []; cut = done; las
 
 pub cut-snoc : {kind : Kind} {folded : Bool} {delimiter : Option ℕ} {text : List ℕ} {before : Option Token} {at to next : ℕ} {is : List Token} {i : Token} →
     CutExpression kind folded delimiter text before at is to → token_at kind folded delimiter text (last_or before is) to ≡ Is i next → CutExpression kind folded delimiter text before at (is ++ i ∷ []) next
-cut-snoc done f = item f done
-cut-snoc (item g c) f = item g (cut-snoc c f)
+cut-snoc done f = next_item f done
+cut-snoc (next_item g c) f = next_item g (cut-snoc c f)
 
 last-snoc : (before : Option Token) (is : List Token) (i : Token) → last_or before (is ++ i ∷ []) ≡ Some i
 last-snoc before [] i = refl
@@ -67,7 +67,7 @@ module _ (kind : Kind) (folded : Bool) (delimiter : Option ℕ) (text : List ℕ
       by_token : (i : Token) (s : Nesting) (is : List Token) → token_at kind folded delimiter text before at ≡ Is i next → (i ≡ Close → s.below ≢ []) →
           CutExpression kind folded delimiter text None 0 (is ++ i ∷ []) next → last_or None (is ++ i ∷ []) ≡ Some i → open_groups 0 (is ++ i ∷ []) ≡ open_groups (length s.below) (i ∷ []) →
           NestedAs is s.opened s.top s.below → (is_repeatable before ≡ true → s.top.pieces ≢ []) → Reading kind folded delimiter text (Some i) next (step i s)
-      by_token (Byte members) s is f closes c l o st ready = record { tokens = is ++ Byte members ∷ []; cut = c; last = l; balanced = o; stands = nested_piece st byte; ready = λ _. not_empty s.top.pieces (set members) }
+      by_token (Byte members) s is f closes c l o st ready = record { tokens = is ++ Byte members ∷ []; cut = c; last = l; balanced = o; stands = nested_piece st byte; ready = λ _. not_empty s.top.pieces (byte_of members) }
       by_token Open s is f closes c l o st ready = record { tokens = is ++ Open ∷ []; cut = c; last = l; balanced = o; stands = nested_open st; ready = λ h. absurd cc }
       by_token Bar s is f closes c l o st ready = record { tokens = is ++ Bar ∷ []; cut = c; last = l; balanced = o; stands = nested_bar st; ready = λ h. absurd cc }
       by_token AtBegin s is f closes c l o st ready = record { tokens = is ++ AtBegin ∷ []; cut = c; last = l; balanced = o; stands = nested_piece st begin_anchor; ready = λ h. absurd cc }

@@ -2,7 +2,7 @@
 use Rattle.std.proofs.Common.{◌≡◌, ℕ, zero, suc, ◌+◌, ◌-◌, ◌<◌, length, List, [], ◌∷◌, ◌++◌, Bool, true, false, ◌&&◌, refl, ap, subst, ◌∙◌, sym, append_assoc, append-nil, arith, length-append, nat_eq, inl, inr}
 use Rattle.std.proofs.lemmas.Bool.Decides.{eqb_tells}
 use Rattle.sedre.specs.declared.stack.Stack.{Stack}
-use Rattle.sedre.specs.Tree.{Tree, seq, star, opt}
+use Rattle.sedre.specs.Tree.{Tree, sequence, any_copies, one_or_none}
 use Rattle.sedre.specs.Grammar.{with_copies, optional, further}
 use Rattle.sedre.specs.Stacks.{StoresTrees}
 use Rattle.sedre.proofs.Stacked.{count_of}
@@ -27,10 +27,10 @@ module _ (limit : ℕ) (ts : List Tree) (a : Tree) where
   copies_step s k = subst (λ (x : List Tree). StoresTrees limit s (x ++ a ∷ [])) (copies_then ts k a (a ∷ []) ∙ ap (λ (r : List Tree). ts ++ r) (sym (copies_add k 1 a [])))
 
   -- the innermost optional copy
-  pub nest_start : (s : Stack) (count : ℕ) (first mark : Bool) → mark ≡ (first && nat_eq 0 count) → StoresTrees limit s ((ts ++ with_copies count a []) ++ opt a mark ∷ []) →
+  pub nest_start : (s : Stack) (count : ℕ) (first mark : Bool) → mark ≡ (first && nat_eq 0 count) → StoresTrees limit s ((ts ++ with_copies count a []) ++ one_or_none a mark ∷ []) →
       StoresTrees limit s ((ts ++ with_copies (count - 0) a []) ++ optional 0 a (first && nat_eq 0 count) ∷ [])
   nest_start s count first mark e st =
-      let P : ℕ → Bool → Type 0 = λ n m. StoresTrees limit s ((ts ++ with_copies n a []) ++ opt a m ∷ []) in
+      let P : ℕ → Bool → Type 0 = λ n m. StoresTrees limit s ((ts ++ with_copies n a []) ++ one_or_none a m ∷ []) in
       subst (λ (n : ℕ). P n (first && nat_eq 0 count)) (let h : count ≡ count - 0 = omega arith in h) (subst (λ (m : Bool). P count m) e st)
 
   not_yet : (first : Bool) (k count : ℕ) → k < count → (first && nat_eq k count) ≡ false
@@ -54,13 +54,13 @@ module _ (limit : ℕ) (ts : List Tree) (a : Tree) where
       let Q : List Tree → Type 0 = λ x. StoresTrees limit s x in
       subst Q (append_assoc (ts ++ with_copies m a []) (a ∷ []) (optional k a false ∷ [])) (subst (λ (x : List Tree). P x false) one (subst (λ (b : Bool). P (ts ++ with_copies (count - k) a []) b) (not_yet first k count h) st))
 
-  pub nest_step : (s : Stack) (k count : ℕ) (first mark : Bool) → mark ≡ (first && nat_eq (k + 1) count) → StoresTrees limit s ((ts ++ with_copies (count - (k + 1)) a []) ++ opt (seq a (optional k a false)) mark ∷ []) →
+  pub nest_step : (s : Stack) (k count : ℕ) (first mark : Bool) → mark ≡ (first && nat_eq (k + 1) count) → StoresTrees limit s ((ts ++ with_copies (count - (k + 1)) a []) ++ one_or_none (sequence a (optional k a false)) mark ∷ []) →
       StoresTrees limit s ((ts ++ with_copies (count - (k + 1)) a []) ++ optional (k + 1) a (first && nat_eq (k + 1) count) ∷ [])
   nest_step s k count first mark e st =
       let us : List Tree = ts ++ with_copies (count - (k + 1)) a [] in
       let P : Tree → Type 0 = λ x. StoresTrees limit s (us ++ x ∷ []) in
       let n : suc k ≡ k + 1 = omega arith in
-      subst P (ap (λ (b : Bool). opt (seq a (optional k a false)) b) e ∙ ap (λ (i : ℕ). optional i a (first && nat_eq (k + 1) count)) n) st
+      subst P (ap (λ (b : Bool). one_or_none (sequence a (optional k a false)) b) e ∙ ap (λ (i : ℕ). optional i a (first && nat_eq (k + 1) count)) n) st
 
   pub nest_end : (s : Stack) (k count : ℕ) (first : Bool) → k ≡ count → StoresTrees limit s ((ts ++ with_copies (count - k) a []) ++ optional k a (first && nat_eq k count) ∷ []) → StoresTrees limit s (ts ++ optional count a first ∷ [])
   nest_end s k count first h st =
@@ -74,10 +74,10 @@ module _ (limit : ℕ) (ts : List Tree) (a : Tree) where
       always false = refl
 
   -- a repetition without a limit
-  pub open_end : (s : Stack) (least : ℕ) (mark : Bool) → mark ≡ nat_eq least 0 → StoresTrees limit s ((ts ++ with_copies least a []) ++ star a mark ∷ []) → StoresTrees limit s (ts ++ with_copies least a (star a (nat_eq least 0) ∷ []))
+  pub open_end : (s : Stack) (least : ℕ) (mark : Bool) → mark ≡ nat_eq least 0 → StoresTrees limit s ((ts ++ with_copies least a []) ++ any_copies a mark ∷ []) → StoresTrees limit s (ts ++ with_copies least a (any_copies a (nat_eq least 0) ∷ []))
   open_end s least mark e st =
       let P : List Tree → Type 0 = λ x. StoresTrees limit s x in
-      subst P (copies_then ts least a (star a mark ∷ []) ∙ ap (λ (b : Bool). ts ++ with_copies least a (star a b ∷ [])) e) st
+      subst P (copies_then ts least a (any_copies a mark ∷ []) ∙ ap (λ (b : Bool). ts ++ with_copies least a (any_copies a b ∷ [])) e) st
 
   -- a number of copies
   pub exactly : (s : Stack) (count less : ℕ) → less + 1 ≡ count → StoresTrees limit s ((ts ++ with_copies less a []) ++ a ∷ []) → StoresTrees limit s (ts ++ with_copies count a (further (count - count) a (nat_eq count 0)))

@@ -4,7 +4,7 @@ use Rattle.sedre.specs.declared.parts.Mark.{Mark}
 use Rattle.sedre.specs.declared.stack.Stack.{Stack}
 use Rattle.sedre.specs.declared.builder.Builder.{Builder}
 use Rattle.sedre.specs.declared.syntax.Token.TheVariants.{Open, Close, Bar, Repeat}
-use Rattle.sedre.specs.Tree.{Tree, group}
+use Rattle.sedre.specs.Tree.{Tree, grouped}
 use Rattle.sedre.specs.Grammar.{concatenation, alternation, repetition}
 use Rattle.sedre.specs.Stacks.{Level, Nesting, step, close, with_piece, with_last, whole_level, StoresTrees, trees_in, mark_of, marks_of_levels, Represents}
 use Rattle.sedre.proofs.Written.{snoc_last, split_last}
@@ -80,7 +80,7 @@ module _ (limit : ℕ) where
       b.opened ≡ opened → b.top ≡ mark_of top below → b.below.items ≡ marks_of_levels below →
       ((m : ℕ) (ts ps : List Tree) → length ts ≡ b.top.pieces → StoresTrees m b.stack (ts ++ ps) → StoresTrees m s₁ (ts ++ concatenation ps ∷ [])) →
       ((m : ℕ) (ts ps : List Tree) → length ts ≡ b.top.alternatives → StoresTrees m s₁ (ts ++ ps) → StoresTrees m s₂ (ts ++ alternation ps ∷ [])) →
-      ((m : ℕ) (ts : List Tree) (a : Tree) → StoresTrees m s₂ (ts ++ a ∷ []) → StoresTrees m c.stack (ts ++ group b.top.number a ∷ [])) →
+      ((m : ℕ) (ts : List Tree) (a : Tree) → StoresTrees m s₂ (ts ++ a ∷ []) → StoresTrees m c.stack (ts ++ grouped b.top.number a ∷ [])) →
       c.opened ≡ b.opened → b.below.items ≡ c.below.items ++ c.top ∷ [] → Represents limit c (close top below opened)
   represents_close_levels b c opened top [] s₁ s₂ st o t l f g h eo eb = absurd (omega (arith, sym (ap length l) ∙ ap length eb ∙ length-append c.below.items (c.top ∷ [])))
   represents_close_levels b c opened top (k ∷ ks) s₁ s₂ st o t l f g h eo eb =
@@ -96,10 +96,10 @@ module _ (limit : ℕ) where
       let st₁ : T ((A ++ B) ++ one) = f limit (A ++ B) top.pieces from (subst S (sym (append_assoc A B top.pieces)) st) in
       let st₂ : StoresTrees limit s₂ (A ++ inner ∷ []) = g limit A (B ++ one) (sym (ap (λ (m : Mark). m.alternatives) t)) (subst T (append_assoc A B one) st₁) in
       let number : b.top.number ≡ top.number = ap (λ (m : Mark). m.number) t in
-      let st₃ : U (group top.number inner) = subst (λ (x : ℕ). U (group x inner)) number (h limit A inner st₂) in
+      let st₃ : U (grouped top.number inner) = subst (λ (x : ℕ). U (grouped x inner)) number (h limit A inner st₂) in
       let marks = snoc_last c.below.items (marks_of_levels ks) c.top (mark_of k ks) (sym eb ∙ l) in
       record {
-        stored = subst V (sym (trees_snoc (trees_in ks) k.alternatives k.pieces (group top.number inner))) st₃;
+        stored = subst V (sym (trees_snoc (trees_in ks) k.alternatives k.pieces (grouped top.number inner))) st₃;
         opened = eo ∙ o;
         top = marks.1;
         below = marks.0;
@@ -109,7 +109,7 @@ module _ (limit : ℕ) where
   pub represents_close : (b c : Builder) (s : Nesting) (s₁ s₂ : Stack) → Represents limit b s →
       ((m : ℕ) (ts ps : List Tree) → length ts ≡ b.top.pieces → StoresTrees m b.stack (ts ++ ps) → StoresTrees m s₁ (ts ++ concatenation ps ∷ [])) →
       ((m : ℕ) (ts ps : List Tree) → length ts ≡ b.top.alternatives → StoresTrees m s₁ (ts ++ ps) → StoresTrees m s₂ (ts ++ alternation ps ∷ [])) →
-      ((m : ℕ) (ts : List Tree) (a : Tree) → StoresTrees m s₂ (ts ++ a ∷ []) → StoresTrees m c.stack (ts ++ group b.top.number a ∷ [])) →
+      ((m : ℕ) (ts : List Tree) (a : Tree) → StoresTrees m s₂ (ts ++ a ∷ []) → StoresTrees m c.stack (ts ++ grouped b.top.number a ∷ [])) →
       c.opened ≡ b.opened → b.below.items ≡ c.below.items ++ c.top ∷ [] → Represents limit c (step Close s)
   represents_close b c s s₁ s₂ r f g h eo eb = represents_close_levels b c s.opened s.top s.below s₁ s₂ r.stored r.opened r.top r.below f g h eo eb
 

@@ -2,7 +2,7 @@
 use Rattle.std.proofs.Common.{◌≢◌, ℕ, suc, List, [], ◌∷◌, ◌++◌, Option, refl, subst, sym, append_assoc}
 use Rattle.sedre.specs.declared.syntax.Token.{Token}
 use Rattle.sedre.specs.declared.syntax.Token.TheVariants.{Open, Close, Bar, Repeat}
-use Rattle.sedre.specs.Tree.{Tree, group}
+use Rattle.sedre.specs.Tree.{Tree, grouped}
 use Rattle.sedre.specs.Grammar.{concatenation, alternation, repetition, AreAlternatives, ArePieces, IsPiece, first, another, none, more, subexpression, repeated}
 use Rattle.sedre.proofs.Machine.{with_last-append}
 use Rattle.sedre.specs.Stacks.{Level, with_last, with_piece, all_alternatives}
@@ -68,9 +68,9 @@ nested_repeat {h = h} {ls = ls} least most (inside {g = g} {is = is} {js = js} {
 pub nested_open : {h : ℕ} {is : List Token} {l : Level} {ls : List Level} → NestedAs is h l ls → NestedAs (is ++ Open ∷ []) (suc h) (record { number = suc h; alternatives = []; pieces = [] }) (l ∷ ls)
 nested_open s = inside s (only none)
 
-pub nested_close : {h : ℕ} {is : List Token} {l k : Level} {ls : List Level} → NestedAs is h l (k ∷ ls) → NestedAs (is ++ Close ∷ []) h (with_piece (group l.number (alternation (all_alternatives l))) k) ls
+pub nested_close : {h : ℕ} {is : List Token} {l k : Level} {ls : List Level} → NestedAs is h l (k ∷ ls) → NestedAs (is ++ Close ∷ []) h (with_piece (grouped l.number (alternation (all_alternatives l))) k) ls
 nested_close {h = h} {k = k} {ls = ls} (inside {g = g} {is = is} {js = js} {bs = bs} {ps = ps} s b) =
-    let B : List Token → Type 0 = λ xs. NestedAs xs h (with_piece (group (suc g) (alternation (bs ++ concatenation ps ∷ []))) k) ls in
+    let B : List Token → Type 0 = λ xs. NestedAs xs h (with_piece (grouped (suc g) (alternation (bs ++ concatenation ps ∷ []))) k) ls in
     subst B (sym (append_assoc is (Open ∷ js) (Close ∷ []))) (nested_piece s (subexpression (body_all b)))
 
 -- at the end_anchor with no subexpression open, the whole is alternatives

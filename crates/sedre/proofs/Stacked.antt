@@ -11,7 +11,7 @@ use Rattle.sedre.specs.declared.parts.Cover.TheVariants as cover
 use Rattle.sedre.specs.declared.stack.Stack.{Stack}
 use Rattle.sedre.specs.Covers.{cover_node}
 use Rattle.sedre.specs.Packed.{id, PartsBelow, shifted}
-use Rattle.sedre.specs.Tree.{Tree, empty, seq, alt, size}
+use Rattle.sedre.specs.Tree.{Tree, null_string, sequence, either_of, size}
 use Rattle.sedre.specs.Grammar.{depth, without_alternation, concatenation}
 use Rattle.sedre.specs.Stacks.{postorder, written_trees, total, fitting, extent_kept, extents_kept, last_end, IsLeaf, PutsTree, StoresTrees, pair, chain, covered}
 use Rattle.sedre.proofs.Written.{size_positive, length-postorder, length-written, written-append_0, total-append, snoc_last, split_last}
@@ -123,20 +123,20 @@ two_over over make spelled sized below limit old new ts a b p1 p0 p q left right
     ed ei
 
 pub stored_alt : (limit : ℕ) (old new : Stack) (ts : List Tree) (a b : Tree) (p1 p0 : List TreeExtent) (p q : TreeExtent) (left right : NodeId) (d i : ℕ) → StoresTrees limit old (ts ++ a ∷ b ∷ []) → old.parts.items ≡ p1 ++ q ∷ [] → p1 ≡ p0 ++ p ∷ [] →
-    left.index ≡ p.end - 1 → right.index ≡ q.end - 1 → i ≡ max p.depth q.inner → d ≡ min 600 i + 1 → PutsTree old.limit old.nodes p0 new (node.Alt left right) q.end d i → StoresTrees limit new (ts ++ alt a b ∷ [])
+    left.index ≡ p.end - 1 → right.index ≡ q.end - 1 → i ≡ max p.depth q.inner → d ≡ min 600 i + 1 → PutsTree old.limit old.nodes p0 new (node.Alt left right) q.end d i → StoresTrees limit new (ts ++ either_of a b ∷ [])
 stored_alt limit old new ts a b p1 p0 p q left right d i s e1 e0 el er ei ed put =
     let last = last_two limit old ts a b p1 p0 p q s e1 e0 in
     let deep : p.depth ≡ min 601 (depth a) = ap (λ (x : TreeExtent). x.depth) last.1 in
     let inner : q.inner ≡ min 601 (without_alternation b (depth b)) = ap (λ (x : TreeExtent). x.inner) last.2 in
-    two_over alt node.Alt (λ _ _ _. refl) (λ _ _. refl) (λ _ _ _ h g. (h, g)) limit old new ts a b p1 p0 p q left right d i s e1 e0 el er (omega (arith, ed, ei, deep, inner)) (omega (arith, ei, deep, inner)) put
+    two_over either_of node.Alt (λ _ _ _. refl) (λ _ _. refl) (λ _ _ _ h g. (h, g)) limit old new ts a b p1 p0 p q left right d i s e1 e0 el er (omega (arith, ed, ei, deep, inner)) (omega (arith, ei, deep, inner)) put
 
 pub stored_seq : (limit : ℕ) (old new : Stack) (ts : List Tree) (a b : Tree) (p1 p0 : List TreeExtent) (p q : TreeExtent) (left right : NodeId) (d : ℕ) → StoresTrees limit old (ts ++ a ∷ b ∷ []) → old.parts.items ≡ p1 ++ q ∷ [] → p1 ≡ p0 ++ p ∷ [] →
-    left.index ≡ p.end - 1 → right.index ≡ q.end - 1 → d ≡ max p.depth q.depth → PutsTree old.limit old.nodes p0 new (node.Seq left right) q.end d d → StoresTrees limit new (ts ++ seq a b ∷ [])
+    left.index ≡ p.end - 1 → right.index ≡ q.end - 1 → d ≡ max p.depth q.depth → PutsTree old.limit old.nodes p0 new (node.Seq left right) q.end d d → StoresTrees limit new (ts ++ sequence a b ∷ [])
 stored_seq limit old new ts a b p1 p0 p q left right d s e1 e0 el er ed put =
     let last = last_two limit old ts a b p1 p0 p q s e1 e0 in
     let deep : p.depth ≡ min 601 (depth a) = ap (λ (x : TreeExtent). x.depth) last.1 in
     let deeper : q.depth ≡ min 601 (depth b) = ap (λ (x : TreeExtent). x.depth) last.2 in
-    two_over seq node.Seq (λ _ _ _. refl) (λ _ _. refl) (λ _ _ _ h g. (h, g)) limit old new ts a b p1 p0 p q left right d d s e1 e0 el er (omega (arith, ed, deep, deeper)) (omega (arith, ed, deep, deeper)) put
+    two_over sequence node.Seq (λ _ _ _. refl) (λ _ _. refl) (λ _ _ _ h g. (h, g)) limit old new ts a b p1 p0 p q left right d d s e1 e0 el er (omega (arith, ed, deep, deeper)) (omega (arith, ed, deep, deeper)) put
 
 -- the last tree goes away
 pub stored_drop : (limit : ℕ) (old new : Stack) (ts : List Tree) (a : Tree) (p : TreeExtent) → StoresTrees limit old (ts ++ a ∷ []) → old.parts.items ≡ new.parts.items ++ p ∷ [] → new.limit ≡ old.limit →
@@ -254,10 +254,10 @@ partly_end alternatives limit s ts ps h p =
     by_front (f ∷ fs) w st n = absurd (omega (arith, n))
 
 -- no trees make an empty concatenation
-pub stored_none : (limit : ℕ) (old new : Stack) (ts ps : List Tree) → length old.parts.items ≡ length ts → StoresTrees limit old (ts ++ ps) → (StoresTrees limit old ts → StoresTrees limit new (ts ++ empty ∷ [])) →
+pub stored_none : (limit : ℕ) (old new : Stack) (ts ps : List Tree) → length old.parts.items ≡ length ts → StoresTrees limit old (ts ++ ps) → (StoresTrees limit old ts → StoresTrees limit new (ts ++ null_string ∷ [])) →
     StoresTrees limit new (ts ++ concatenation ps ∷ [])
 stored_none limit old new ts [] h s leaf = leaf (subst (λ (x : List Tree). StoresTrees limit old x) (append-nil ts) s)
 stored_none limit old new ts (p ∷ ps) h s leaf = absurd (omega (arith, h, count_of s, length-append ts (p ∷ ps)))
 
-pub empty_leaf : IsLeaf node.Empty empty
+pub empty_leaf : IsLeaf node.Empty null_string
 empty_leaf = (λ base. refl, refl, refl, refl, λ k. tt)

@@ -4,7 +4,7 @@ use Rattle.std.specs.Prelude.{slice_get}
 use Rattle.std.proofs.lemmas.Bool.Decides.{eqb_tells, leb_tells}
 use Rattle.sedre.specs.declared.types.Node.{Node}
 use Rattle.sedre.specs.declared.types.Node.TheVariants as node
-use Rattle.sedre.specs.Tree.{Tree, seq, alt, group, star, opt, size}
+use Rattle.sedre.specs.Tree.{Tree, sequence, either_of, grouped, any_copies, one_or_none, size}
 use Rattle.sedre.specs.Arena.{IsPart, HasTwoParts, IsArena}
 use Rattle.sedre.specs.Packed.{id}
 use Rattle.sedre.specs.Stacks.{postorder}
@@ -111,11 +111,11 @@ two_once base a b i n e p q =
 
 -- each node of a tree but its root is a part once, and no other number is
 pub parts_once : (base : ℕ) (t : Tree) (i : ℕ) → Once base (base + size t - 1) i (times i (all_parts (postorder base t)))
-parts_once base (seq a b) i = two_once base a b i (node.Seq (id (base + size a - 1)) (id (base + size a + size b - 1))) refl (parts_once base a i) (parts_once (base + size a) b i)
-parts_once base (alt a b) i = two_once base a b i (node.Alt (id (base + size a - 1)) (id (base + size a + size b - 1))) refl (parts_once base a i) (parts_once (base + size a) b i)
-parts_once base (group k a) i = one_once base a i (node.Group k (id (base + size a - 1))) refl (parts_once base a i)
-parts_once base (star a first) i = one_once base a i (node.Star (id (base + size a - 1)) first) refl (parts_once base a i)
-parts_once base (opt a first) i = one_once base a i (node.Opt (id (base + size a - 1)) first) refl (parts_once base a i)
+parts_once base (sequence a b) i = two_once base a b i (node.Seq (id (base + size a - 1)) (id (base + size a + size b - 1))) refl (parts_once base a i) (parts_once (base + size a) b i)
+parts_once base (either_of a b) i = two_once base a b i (node.Alt (id (base + size a - 1)) (id (base + size a + size b - 1))) refl (parts_once base a i) (parts_once (base + size a) b i)
+parts_once base (grouped k a) i = one_once base a i (node.Group k (id (base + size a - 1))) refl (parts_once base a i)
+parts_once base (any_copies a first) i = one_once base a i (node.Star (id (base + size a - 1)) first) refl (parts_once base a i)
+parts_once base (one_or_none a first) i = one_once base a i (node.Opt (id (base + size a - 1)) first) refl (parts_once base a i)
 parts_once base _ i = record { inside = λ a b. absurd (omega arith); under = λ a. refl; over = λ a. refl }
 
 below-append : (base : ℕ) (xs ys : List Node) → AreBelow base xs → AreBelow (base + length xs) ys → AreBelow base (xs ++ ys)
@@ -127,19 +127,19 @@ below_last base xs n p h = below-append base xs (n ∷ []) p (h, tt)
 
 -- the parts of each node come before it
 pub parts_below : (base : ℕ) (t : Tree) → AreBelow base (postorder base t)
-parts_below base (seq a b) = below_last base (postorder base a ++ postorder (base + size a) b) (node.Seq (id (base + size a - 1)) (id (base + size a + size b - 1)))
+parts_below base (sequence a b) = below_last base (postorder base a ++ postorder (base + size a) b) (node.Seq (id (base + size a - 1)) (id (base + size a + size b - 1)))
     (below-append base (postorder base a) (postorder (base + size a) b) (parts_below base a) (subst (λ (m : ℕ). AreBelow m (postorder (base + size a) b)) (ap (λ (m : ℕ). base + m) (sym (length-postorder base a))) (parts_below (base + size a) b))) (
       omega (arith, length-append (postorder base a) (postorder (base + size a) b), length-postorder base a, length-postorder (base + size a) b, size_positive a, size_positive b),
       (omega (arith, length-append (postorder base a) (postorder (base + size a) b), length-postorder base a, length-postorder (base + size a) b, size_positive a, size_positive b), tt),
     )
-parts_below base (alt a b) = below_last base (postorder base a ++ postorder (base + size a) b) (node.Alt (id (base + size a - 1)) (id (base + size a + size b - 1)))
+parts_below base (either_of a b) = below_last base (postorder base a ++ postorder (base + size a) b) (node.Alt (id (base + size a - 1)) (id (base + size a + size b - 1)))
     (below-append base (postorder base a) (postorder (base + size a) b) (parts_below base a) (subst (λ (m : ℕ). AreBelow m (postorder (base + size a) b)) (ap (λ (m : ℕ). base + m) (sym (length-postorder base a))) (parts_below (base + size a) b))) (
       omega (arith, length-append (postorder base a) (postorder (base + size a) b), length-postorder base a, length-postorder (base + size a) b, size_positive a, size_positive b),
       (omega (arith, length-append (postorder base a) (postorder (base + size a) b), length-postorder base a, length-postorder (base + size a) b, size_positive a, size_positive b), tt),
     )
-parts_below base (group k a) = below_last base (postorder base a) (node.Group k (id (base + size a - 1))) (parts_below base a) (omega (arith, length-postorder base a, size_positive a), tt)
-parts_below base (star a first) = below_last base (postorder base a) (node.Star (id (base + size a - 1)) first) (parts_below base a) (omega (arith, length-postorder base a, size_positive a), tt)
-parts_below base (opt a first) = below_last base (postorder base a) (node.Opt (id (base + size a - 1)) first) (parts_below base a) (omega (arith, length-postorder base a, size_positive a), tt)
+parts_below base (grouped k a) = below_last base (postorder base a) (node.Group k (id (base + size a - 1))) (parts_below base a) (omega (arith, length-postorder base a, size_positive a), tt)
+parts_below base (any_copies a first) = below_last base (postorder base a) (node.Star (id (base + size a - 1)) first) (parts_below base a) (omega (arith, length-postorder base a, size_positive a), tt)
+parts_below base (one_or_none a first) = below_last base (postorder base a) (node.Opt (id (base + size a - 1)) first) (parts_below base a) (omega (arith, length-postorder base a, size_positive a), tt)
 parts_below base _ = (tt, tt)
 
 -- ---- the same by index

@@ -1,7 +1,7 @@
 -- The tree at a node is made of the trees at its parts.
 use Rattle.std.proofs.Common.{◌≡◌, ℕ, zero, suc, ◌<◌, List, Option, Some, None, refl, inl, inr, arith}
 use Rattle.std.specs.Prelude.{slice_get}
-use Rattle.sedre.specs.Tree.{Tree, empty, tree_of, tree_within, tree_at}
+use Rattle.sedre.specs.Tree.{Tree, null_string, tree_of, tree_within, tree_at}
 use Rattle.std.specs.Option.{option_map_or}
 use Rattle.sedre.specs.Arena.{IsArena, IsPart}
 use Rattle.sedre.specs.declared.types.Node.{Node}
@@ -16,7 +16,7 @@ tree_of-same f g (Star a first) same = rw (same a.index refl)
 tree_of-same f g (Opt a first) same = rw (same a.index refl)
 tree_of-same f g _ same = refl
 
-node-same : (f g : ℕ → Tree) (node : Option Node) → ((n : Node) (c : ℕ) → node ≡ Some n → IsPart n c → f c ≡ g c) → option_map_or (tree_of f) node empty ≡ option_map_or (tree_of g) node empty
+node-same : (f g : ℕ → Tree) (node : Option Node) → ((n : Node) (c : ℕ) → node ≡ Some n → IsPart n c → f c ≡ g c) → option_map_or (tree_of f) node null_string ≡ option_map_or (tree_of g) node null_string
 node-same f g None same = refl
 node-same f g (Some n) same = tree_of-same f g n (λ c part. same n c refl part)
 

@@ -2,19 +2,19 @@
 use Rattle.std.proofs.Common.{◌≡◌, ℕ, ◌+◌, ◌<◌, length, List, [], ◌∷◌, ◌++◌, refl, ap, ◌∙◌, sym, append_assoc, arith, length-append, Option, Some}
 use Rattle.std.specs.Option.{option_to_list}
 use Rattle.sedre.specs.declared.types.Node.{Node}
-use Rattle.sedre.specs.Tree.{Tree, empty, seq, alt, group, star, opt, size}
+use Rattle.sedre.specs.Tree.{Tree, null_string, sequence, either_of, grouped, any_copies, one_or_none, size}
 use Rattle.sedre.specs.Stacks.{postorder, written_trees, total}
 
 pub size_positive : (t : Tree) → 0 < size t
-size_positive empty = omega arith
+size_positive null_string = omega arith
 size_positive _ = omega arith
 
 pub length-postorder : (base : ℕ) (t : Tree) → length (postorder base t) ≡ size t
-length-postorder base (seq a b) = simp (length-append, length-postorder base a, length-postorder (base + size a) b) (omega arith)
-length-postorder base (alt a b) = simp (length-append, length-postorder base a, length-postorder (base + size a) b) (omega arith)
-length-postorder base (group k a) = simp (length-append, length-postorder base a) (omega arith)
-length-postorder base (star a first) = simp (length-append, length-postorder base a) (omega arith)
-length-postorder base (opt a first) = simp (length-append, length-postorder base a) (omega arith)
+length-postorder base (sequence a b) = simp (length-append, length-postorder base a, length-postorder (base + size a) b) (omega arith)
+length-postorder base (either_of a b) = simp (length-append, length-postorder base a, length-postorder (base + size a) b) (omega arith)
+length-postorder base (grouped k a) = simp (length-append, length-postorder base a) (omega arith)
+length-postorder base (any_copies a first) = simp (length-append, length-postorder base a) (omega arith)
+length-postorder base (one_or_none a first) = simp (length-append, length-postorder base a) (omega arith)
 length-postorder base _ = refl
 
 pub written-append : (base : ℕ) (ts us : List Tree) → written_trees base (ts ++ us) ≡ written_trees base ts ++ written_trees (base + total ts) us

@@ -2,17 +2,17 @@
 -- What the reader answers after a token, and at the end of a text.
 use Rattle.std.specs.Prelude.{◌≡◌, ◌≤◌, ◌<◌, ◌⊎◌, ℕ, length}
 use Rattle.sedre.specs.Types.{TooDeep, TooManyNodes, ExprFault, NextToken, Is, Ends, Bad}
-use Rattle.sedre.specs.Tree.{Tree, seq, alt, group, star, opt, WrittenExpression, expression_tree, size}
+use Rattle.sedre.specs.Tree.{Tree, sequence, either_of, grouped, any_copies, one_or_none, WrittenExpression, expression_tree, size}
 use Rattle.sedre.specs.Grammar.{depth}
 use Rattle.sedre.specs.Stacks.{Nesting, whole_level}
 
 -- each group of the tree has a number from 1 to the bound
 abbrev pub GroupsNumbered : ℕ → Tree → Type 0
-GroupsNumbered most (seq a b) = GroupsNumbered most a × GroupsNumbered most b
-GroupsNumbered most (alt a b) = GroupsNumbered most a × GroupsNumbered most b
-GroupsNumbered most (group k a) = (1 ≤ k) × (k ≤ most) × GroupsNumbered most a
-GroupsNumbered most (star a first) = GroupsNumbered most a
-GroupsNumbered most (opt a first) = GroupsNumbered most a
+GroupsNumbered most (sequence a b) = GroupsNumbered most a × GroupsNumbered most b
+GroupsNumbered most (either_of a b) = GroupsNumbered most a × GroupsNumbered most b
+GroupsNumbered most (grouped k a) = (1 ≤ k) × (k ≤ most) × GroupsNumbered most a
+GroupsNumbered most (any_copies a first) = GroupsNumbered most a
+GroupsNumbered most (one_or_none a first) = GroupsNumbered most a
 GroupsNumbered most other = Unit {0}
 
 -- the expression is what the state stands for

@@ -3,19 +3,19 @@ use Rattle.std.specs.Prelude.{◌≡◌, ℕ, zero, suc, ◌-◌, ◌+◌, max, 
 use Rattle.std.specs.List.{last_or}
 use Rattle.sedre.specs.Types.{Token, Byte, Open, Close, Bar, Repeat, AtBegin, AtEnd, Kind, ExprReason, StrayClose, OpenGroup, TooDeep, TooManyNodes, Is, Ends, Bad}
 use Rattle.sedre.specs.Tokens.{token_at}
-use Rattle.sedre.specs.Tree.{Tree, empty, set, begin, end, seq, alt, star, opt, group, size}
+use Rattle.sedre.specs.Tree.{Tree, null_string, byte_of, text_begin, text_end, sequence, either_of, any_copies, one_or_none, grouped, size}
 
 -- pieces one after the other (XBD 9.3.6, 9.4.6, 9.4.7); an empty text, group or alternative matches the null string (this project's own)
 abbrev pub concatenation : List Tree → Tree
-concatenation [] = empty
+concatenation [] = null_string
 concatenation (a ∷ []) = a
-concatenation (a ∷ b ∷ rest) = seq a (concatenation (b ∷ rest))
+concatenation (a ∷ b ∷ rest) = sequence a (concatenation (b ∷ rest))
 
 -- alternatives
 abbrev pub alternation : List Tree → Tree
-alternation [] = empty
+alternation [] = null_string
 alternation (a ∷ []) = a
-alternation (a ∷ b ∷ rest) = alt a (alternation (b ∷ rest))
+alternation (a ∷ b ∷ rest) = either_of a (alternation (b ∷ rest))
 
 -- a number of copies, and what comes after them
 abbrev pub with_copies : ℕ → Tree → List Tree → List Tree
@@ -24,8 +24,8 @@ with_copies (suc n) e rest = e ∷ with_copies n e rest
 
 -- up to one copy more than the number, each contained in the one before it
 abbrev pub optional : ℕ → Tree → Bool → Tree
-optional zero e first = opt e first
-optional (suc n) e first = opt (seq e (optional n e false)) first
+optional zero e first = one_or_none e first
+optional (suc n) e first = one_or_none (sequence e (optional n e false)) first
 
 -- what may follow the copies that must come
 abbrev pub further : ℕ → Tree → Bool → List Tree
@@ -34,21 +34,21 @@ further (suc n) e first = optional n e first ∷ []
 
 -- a repetition: at least so many copies, and at most so many where there is a limit
 abbrev pub repetition : ℕ → Option ℕ → Tree → Tree
-repetition least None e = concatenation (with_copies least e (star e (nat_eq least 0) ∷ []))
+repetition least None e = concatenation (with_copies least e (any_copies e (nat_eq least 0) ∷ []))
 repetition least (Some most) e = concatenation (with_copies least e (further (most - least) e (nat_eq least 0)))
 
 -- the depth d of a tree, less the one that it adds if it is an alternation
 abbrev pub without_alternation : Tree → (d : ℕ) → ℕ
-without_alternation (alt a b) d = d - 1
+without_alternation (either_of a b) d = d - 1
 without_alternation other d = d
 
 -- how deep it nests: a group and a repetition add one, and an alternation one for all its alternatives (this project's own)
 abbrev pub depth : Tree → ℕ
-depth (seq a b) = max (depth a) (depth b)
-depth (alt a b) = 1 + max (depth a) (without_alternation b (depth b))
-depth (group k a) = 1 + depth a
-depth (star a first) = 1 + depth a
-depth (opt a first) = 1 + depth a
+depth (sequence a b) = max (depth a) (depth b)
+depth (either_of a b) = 1 + max (depth a) (without_alternation b (depth b))
+depth (grouped k a) = 1 + depth a
+depth (any_copies a first) = 1 + depth a
+depth (one_or_none a first) = 1 + depth a
 depth other = 0
 
 -- Groups are numbered by their openings from 1 (XBD 9.3.6): a fact has the count of openings before the tokens and that after.
@@ -69,11 +69,11 @@ mutual
 
   -- these tokens are this piece
   pub data IsPiece : ℕ → List Token → Tree → ℕ → Type 0 where
-    byte : {g : ℕ} {members : List Bool} → IsPiece g (Byte members ∷ []) (set members) g
-    begin_anchor : {g : ℕ} → IsPiece g (AtBegin ∷ []) begin g
-    end_anchor : {g : ℕ} → IsPiece g (AtEnd ∷ []) end g
+    byte : {g : ℕ} {members : List Bool} → IsPiece g (Byte members ∷ []) (byte_of members) g
+    begin_anchor : {g : ℕ} → IsPiece g (AtBegin ∷ []) text_begin g
+    end_anchor : {g : ℕ} → IsPiece g (AtEnd ∷ []) text_end g
     subexpression : {g h : ℕ} {is : List Token} {bs : List Tree} →
-        AreAlternatives (suc g) is bs h → IsPiece g (Open ∷ is ++ Close ∷ []) (group (suc g) (alternation bs)) h
+        AreAlternatives (suc g) is bs h → IsPiece g (Open ∷ is ++ Close ∷ []) (grouped (suc g) (alternation bs)) h
     -- the groups of what is repeated count, also where no copy of it is left (this project's own)
     repeated : {g h : ℕ} (least : ℕ) (most : Option ℕ) {is : List Token} {t : Tree} →
         IsPiece g is t h → IsPiece g (is ++ Repeat least most ∷ []) (repetition least most t) h
@@ -82,7 +82,7 @@ mutual
 pub data CutExpression (kind : Kind) (folded : Bool) (delimiter : Option ℕ) (text : List ℕ) :
     Option Token → ℕ → List Token → ℕ → Type 0 where
   done : {before : Option Token} {at : ℕ} → CutExpression kind folded delimiter text before at [] at
-  item : {before : Option Token} {at next to : ℕ} {i : Token} {is : List Token} →
+  next_item : {before : Option Token} {at next to : ℕ} {i : Token} {is : List Token} →
       token_at kind folded delimiter text before at ≡ Is i next → CutExpression kind folded delimiter text (Some i) next is to →
       CutExpression kind folded delimiter text before at (i ∷ is) to
 

@@ -1,18 +1,18 @@
 -- An expression read from its end: it matches what the expression itself matches, from the last byte to the first.
 use Rattle.std.specs.Prelude.{Bool, true, false, map}
-use Rattle.sedre.specs.Tree.{Tree, begin, end, seq, alt, group, star, opt, WrittenExpression}
+use Rattle.sedre.specs.Tree.{Tree, text_begin, text_end, sequence, either_of, grouped, any_copies, one_or_none, WrittenExpression}
 use Rattle.sedre.specs.declared.types.Node.{Node}
 use Rattle.sedre.specs.declared.types.Node.TheVariants.{Begin, End, Seq}
 
 -- the tree with the parts of each concatenation and the two anchors exchanged
 abbrev pub mirror : Tree → Tree
-mirror begin = end
-mirror end = begin
-mirror (seq a b) = seq (mirror b) (mirror a)
-mirror (alt a b) = alt (mirror a) (mirror b)
-mirror (group k a) = group k (mirror a)
-mirror (star a first) = star (mirror a) first
-mirror (opt a first) = opt (mirror a) first
+mirror text_begin = text_end
+mirror text_end = text_begin
+mirror (sequence a b) = sequence (mirror b) (mirror a)
+mirror (either_of a b) = either_of (mirror a) (mirror b)
+mirror (grouped k a) = grouped k (mirror a)
+mirror (any_copies a first) = any_copies (mirror a) first
+mirror (one_or_none a first) = one_or_none (mirror a) first
 mirror other = other
 
 -- the node of the mirrored tree that stands for a node: its parts exchanged where it is a concatenation

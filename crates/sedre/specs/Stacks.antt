@@ -12,7 +12,7 @@ use Rattle.sedre.specs.declared.parts.Cover.TheVariants as cover
 use Rattle.sedre.specs.declared.stack.Stack.{Stack}
 use Rattle.sedre.specs.declared.builder.Builder.{Builder}
 use Rattle.sedre.specs.Packed.{id, PartsBelow}
-use Rattle.sedre.specs.Tree.{Tree, empty, set, begin, end, seq, alt, group, star, opt, size}
+use Rattle.sedre.specs.Tree.{Tree, null_string, byte_of, text_begin, text_end, sequence, either_of, grouped, any_copies, one_or_none, size}
 use Rattle.sedre.specs.Grammar.{depth, without_alternation, concatenation, alternation, repetition}
 
 -- the finished alternatives of an open group, and the pieces of the one that is read
@@ -48,12 +48,12 @@ with_last f (t ∷ u ∷ us) = t ∷ with_last f (u ∷ us)
 
 abbrev pub close : Level → List Level → ℕ → Nesting
 close top [] opened = record { opened = opened; top = top; below = [] }
-close top (l ∷ ls) opened = record { opened = opened; top = with_piece (group top.number (whole_level top)) l; below = ls }
+close top (l ∷ ls) opened = record { opened = opened; top = with_piece (grouped top.number (whole_level top)) l; below = ls }
 
 abbrev pub step : Token → Nesting → Nesting
-step (Byte members) s = record { opened = s.opened; top = with_piece (set members) s.top; below = s.below }
-step AtBegin s = record { opened = s.opened; top = with_piece begin s.top; below = s.below }
-step AtEnd s = record { opened = s.opened; top = with_piece end s.top; below = s.below }
+step (Byte members) s = record { opened = s.opened; top = with_piece (byte_of members) s.top; below = s.below }
+step AtBegin s = record { opened = s.opened; top = with_piece text_begin s.top; below = s.below }
+step AtEnd s = record { opened = s.opened; top = with_piece text_end s.top; below = s.below }
 step Open s = record {
   opened = suc s.opened;
   top = record { number = suc s.opened; alternatives = []; pieces = [] };
@@ -81,19 +81,19 @@ nest_all (i ∷ is) s = nest_all is (step i s)
 
 -- the nodes of a tree from an index on: those of its parts, and then its root
 abbrev pub postorder : ℕ → Tree → List Node
-postorder base empty = node.Empty ∷ []
-postorder base (set members) = node.Set members ∷ []
-postorder base begin = node.Begin ∷ []
-postorder base end = node.End ∷ []
-postorder base (seq a b) =
+postorder base null_string = node.Empty ∷ []
+postorder base (byte_of members) = node.Set members ∷ []
+postorder base text_begin = node.Begin ∷ []
+postorder base text_end = node.End ∷ []
+postorder base (sequence a b) =
     (postorder base a ++ postorder (base + size a) b)
     ++ node.Seq (id (base + size a - 1)) (id (base + size a + size b - 1)) ∷ []
-postorder base (alt a b) =
+postorder base (either_of a b) =
     (postorder base a ++ postorder (base + size a) b)
     ++ node.Alt (id (base + size a - 1)) (id (base + size a + size b - 1)) ∷ []
-postorder base (group k a) = postorder base a ++ node.Group k (id (base + size a - 1)) ∷ []
-postorder base (star a first) = postorder base a ++ node.Star (id (base + size a - 1)) first ∷ []
-postorder base (opt a first) = postorder base a ++ node.Opt (id (base + size a - 1)) first ∷ []
+postorder base (grouped k a) = postorder base a ++ node.Group k (id (base + size a - 1)) ∷ []
+postorder base (any_copies a first) = postorder base a ++ node.Star (id (base + size a - 1)) first ∷ []
+postorder base (one_or_none a first) = postorder base a ++ node.Opt (id (base + size a - 1)) first ∷ []
 
 -- trees written out one after another
 abbrev pub written_trees : ℕ → List Tree → List Node
@@ -172,8 +172,8 @@ marks_of_levels (l ∷ ls) = marks_of_levels ls ++ mark_of l ls ∷ []
 
 -- two trees as an alternation or a concatenation
 abbrev pub pair : Bool → Tree → Tree → Tree
-pair true a b = alt a b
-pair false a b = seq a b
+pair true a b = either_of a b
+pair false a b = sequence a b
 
 -- several
 abbrev pub chain : Bool → List Tree → Tree
@@ -182,9 +182,9 @@ chain false ts = concatenation ts
 
 -- a tree under a node
 abbrev pub covered : Cover → Tree → Tree
-covered (cover.Group k) a = group k a
-covered (cover.Star first) a = star a first
-covered (cover.Opt first) a = opt a first
+covered (cover.Group k) a = grouped k a
+covered (cover.Star first) a = any_copies a first
+covered (cover.Opt first) a = one_or_none a first
 
 -- the reader stands for this state
 pub record Represents (limit : ℕ) (b : Builder) (s : Nesting) : Type 0 where

@@ -21,7 +21,7 @@ use Rattle.sedscript.specs.declared.items.ItemOrEnd.TheVariants.{Is}
 use Rattle.sedscript.specs.Bytes.{◌>>=◌ as ◌then◌}
 use Rattle.sedscript.specs.Strings.{counterpart, table_of}
 use Rattle.sedscript.specs.Items.{item_at, Reading}
-use Rattle.sedscript.specs.Script.{Gives, value, after_expression, CutScript, done, item, text_in, texts_of, substitution_in, substitutions_of, table_in, tables_of, action_of, command_of, commands_of, Means, ActionWithin, count_with, commands_in, label_in, is_label, close_in, depth_after, block_end, written_in, branch_in, is_standard_output, is_file, sink_name, name_in, file_in, files_in, number_in}
+use Rattle.sedscript.specs.Script.{Gives, value, after_expression, CutScript, done, next_item, text_in, texts_of, substitution_in, substitutions_of, table_in, tables_of, action_of, command_of, commands_of, Means, ActionWithin, count_with, commands_in, label_in, is_label, close_in, depth_after, block_end, written_in, branch_in, is_standard_output, is_file, sink_name, name_in, file_in, files_in, number_in}
 use Rattle.sedscript.specs.Letters.{becomes_command, is_close}
 use Rattle.sedscript.specs.Program.{Program}
 use Rattle.sedscript.specs.declared.substitution.Substitution.{Substitution}
@@ -167,7 +167,7 @@ fit_read text kind m _ _ x (after_expression {k = k} {es = es} e is g) = (is.fit
 
 cut_fit : (text : List ℕ) (kind : Kind) (m count at to : ℕ) (is : List Item) (es : List WrittenExpression) → CutScript text kind m count at is es to → AllFit m es
 cut_fit text kind m count at to _ _ done = tt
-cut_fit text kind m count at to _ _ (item {next = next} {i = i} {is = is} es fs read rest) =
+cut_fit text kind m count at to _ _ (next_item {next = next} {i = i} {is = is} es fs read rest) =
     fit_append m es fs (fit_read text kind m (item_at text count at) es (Is i next) read) (cut_fit text kind m (count + length es) next to is fs rest)
 
 from_none : (n m : ℕ) → m ≡ n → 0 + n ≡ m

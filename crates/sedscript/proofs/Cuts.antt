@@ -9,7 +9,7 @@ use Rattle.sedscript.specs.declared.items.ItemOrEnd.TheVariants.{Is, Ends}
 use Rattle.sedscript.specs.declared.bytes.Sort.TheVariants.{Separator}
 use Rattle.sedscript.specs.Bytes.{past}
 use Rattle.sedscript.specs.Items.{plainly, item_at, item_from}
-use Rattle.sedscript.specs.Script.{Gives, value, CutScript, done, item, IsEnd}
+use Rattle.sedscript.specs.Script.{Gives, value, CutScript, done, next_item, IsEnd}
 use Rattle.sedscript.specs.Answers.{IsHere}
 
 -- one item more
@@ -18,10 +18,10 @@ pub cut_more : (text : List ℕ) (kind : Kind) (m count at to next n : ℕ) (is 
 cut_more text kind m count at to next n _ _ fs i done e is =
     let same : n ≡ count = e ∙ omega arith in
     subst (λ (z : List WrittenExpression). CutScript text kind m count at (i ∷ []) z next) (append-nil fs)
-    (item fs [] (subst (λ (k : ℕ). Gives text kind m (item_at text k at) fs (Is i next)) same is) done)
-cut_more text kind m count at to next n _ _ gs i (item {i = j} {is = is} es fs f rest) e is' =
+    (next_item fs [] (subst (λ (k : ℕ). Gives text kind m (item_at text k at) fs (Is i next)) same is) done)
+cut_more text kind m count at to next n _ _ gs i (next_item {i = j} {is = is} es fs f rest) e is' =
     subst (λ (z : List WrittenExpression). CutScript text kind m count at (j ∷ is ++ i ∷ []) z next) (sym (append_assoc es fs gs))
-    (item es (fs ++ gs) f (cut_more text kind m (count + length es) _ to next n is fs gs i rest (e ∙ (ap (λ (k : ℕ). count + k) (length-append es fs) ∙ omega arith)) is'))
+    (next_item es (fs ++ gs) f (cut_more text kind m (count + length es) _ to next n is fs gs i rest (e ∙ (ap (λ (k : ℕ). count + k) (length-append es fs) ∙ omega arith)) is'))
 
 -- at the end no expression was read
 nothing : {A : Type 0} (text : List ℕ) (kind : Kind) (m : ℕ) (x y : A) (es : List WrittenExpression) → Gives text kind m (plainly (Ok x)) es y → es ≡ []

@@ -11,7 +11,7 @@ use Rattle.sedscript.specs.declared.items.ItemOrEnd.TheVariants.{Is, Ends}
 use Rattle.sedscript.specs.declared.bytes.Sort.TheVariants.{Separator}
 use Rattle.sedscript.specs.Bytes.{past, bytes_between}
 use Rattle.sedscript.specs.Items.{PatternExtent, Reading, item_at, item_from}
-use Rattle.sedscript.specs.Script.{IsRead, Gives, value, after_expression, CutScript, done, item, IsEnd, Means, CutWithoutFault, target_fault}
+use Rattle.sedscript.specs.Script.{IsRead, Gives, value, after_expression, CutScript, done, next_item, IsEnd, Means, CutWithoutFault, target_fault}
 use Rattle.sedscript.specs.FirstFault.{Fails, no_expression, later, Faulty, early, afterwards}
 use Rattle.sedscript.specs.Program.{Program}
 
@@ -71,11 +71,11 @@ pub cut_no_fault : (text : List ℕ) (kind : Kind) (m count at to stop : ℕ) (i
     CutScript text kind m count at is es to → IsEnd text to → CutScript text kind m count at js fs stop → n ≡ count + length fs → Fails text kind m (item_at text n stop) f → ⊥
 cut_no_fault text kind m count at to stop _ _ _ _ f n one done ends done e bad =
     no_fails text kind m (item_at text n at) [] Ends f one (end_gives text kind m n at ends) bad
-cut_no_fault text kind m count at to stop _ _ _ _ f n one done ends (item {next = next} {i = j} es fs is rest) e bad = no_item text kind m count at next j es one ends is
-cut_no_fault text kind m count at to stop _ _ _ _ f n one (item {next = next} {i = i} es fs is rest) ends done e bad =
+cut_no_fault text kind m count at to stop _ _ _ _ f n one done ends (next_item {next = next} {i = j} es fs is rest) e bad = no_item text kind m count at next j es one ends is
+cut_no_fault text kind m count at to stop _ _ _ _ f n one (next_item {next = next} {i = i} es fs is rest) ends done e bad =
     let same : n ≡ count = e ∙ omega arith in
     no_fails text kind m (item_at text count at) es (Is i next) f one is (subst (λ (k : ℕ). Fails text kind m (item_at text k at) f) same bad)
-cut_no_fault text kind m count at to stop _ _ _ _ f n one (item {next = next} {i = i} {is = is0} es fs is rest) ends (item {next = other} {i = j} {is = js0} gs hs is' rest') e bad =
+cut_no_fault text kind m count at to stop _ _ _ _ f n one (next_item {next = next} {i = i} {is = is0} es fs is rest) ends (next_item {next = other} {i = j} {is = js0} gs hs is' rest') e bad =
     let same = same_rest text kind m count at next other stop i j js0 es gs hs one is is' rest' in
     cut_no_fault text kind m (count + length es) next to stop is0 js0 fs hs f n one rest ends same.2 (e ∙ (ap (λ (k : ℕ). count + k) (length-append gs hs) ∙ omega (arith, same.1))) bad
 
@@ -95,9 +95,9 @@ gives_alike look text kind m _ _ _ a b alike one (after_expression {p = p} {k = 
 pub cut_alike : {X : Type 0} (look : WrittenExpression → X) (text : List ℕ) (kind : Kind) (m count at to stop : ℕ) (is js : List Item) (es fs : List WrittenExpression) → Alike look → ReadsAsOne →
     CutScript text kind m count at is es to → IsEnd text to → CutScript text kind m count at js fs stop → IsEnd text stop → (is ≡ js) × (map look es ≡ map look fs)
 cut_alike look text kind m count at to stop _ _ _ _ alike one done ends done stops = (refl, refl)
-cut_alike look text kind m count at to stop _ _ _ _ alike one done ends (item {next = next} {i = j} es fs is rest) stops = no_item text kind m count at next j es one ends is
-cut_alike look text kind m count at to stop _ _ _ _ alike one (item {next = next} {i = i} es fs is rest) ends done stops = no_item text kind m count at next i es one stops is
-cut_alike look text kind m count at to stop _ _ _ _ alike one (item {next = next} {i = i} {is = is0} es fs is rest) ends (item {next = other} {i = j} {is = js0} gs hs is' rest') stops =
+cut_alike look text kind m count at to stop _ _ _ _ alike one done ends (next_item {next = next} {i = j} es fs is rest) stops = no_item text kind m count at next j es one ends is
+cut_alike look text kind m count at to stop _ _ _ _ alike one (next_item {next = next} {i = i} es fs is rest) ends done stops = no_item text kind m count at next i es one stops is
+cut_alike look text kind m count at to stop _ _ _ _ alike one (next_item {next = next} {i = i} {is = is0} es fs is rest) ends (next_item {next = other} {i = j} {is = js0} gs hs is' rest') stops =
     let same = same_rest text kind m count at next other stop i j js0 es gs hs one is is' rest' in
     let here = gives_alike look text kind m (item_at text count at) es gs (Is i next) (Is j other) alike one is is' in
     let tail = cut_alike look text kind m (count + length es) next to stop is0 js0 fs hs alike one rest ends same.2 stops in (

@@ -11,7 +11,7 @@ use Rattle.sedscript.specs.declared.items.ItemOrEnd.TheVariants.{Is}
 use Rattle.sedscript.specs.Bytes.{bytes_between}
 use Rattle.sedscript.specs.Items.{Reading, item_at}
 use Rattle.sedscript.specs.FirstFault.{Fails, own, no_expression, later, in_script, Faulty, early, afterwards}
-use Rattle.sedscript.specs.Script.{CutScript, done, item, target_fault}
+use Rattle.sedscript.specs.Script.{CutScript, done, next_item, target_fault}
 use Rattle.sedscript.proofs.Exclusive.{ReadsAsOne, as_other, no_fails, same_rest, cut_no_fault, cut_same}
 
 -- an expression's text has one first fault at most
@@ -43,13 +43,13 @@ pub cut_one_fault : (text : List ℕ) (kind : Kind) (m count at to stop : ℕ) (
 cut_one_fault text kind m count at to stop _ _ _ _ f g n k one once done e bad done d worse =
     let same : k ≡ n = d ∙ sym e in
     fails_one text kind m (item_at text n at) f g one once bad (subst (λ (x : ℕ). Fails text kind m (item_at text x at) g) same worse)
-cut_one_fault text kind m count at to stop _ _ _ _ f g n k one once done e bad (item {next = next} {i = j} es fs is rest) d worse =
+cut_one_fault text kind m count at to stop _ _ _ _ f g n k one once done e bad (next_item {next = next} {i = j} es fs is rest) d worse =
     let same : n ≡ count = e ∙ omega arith in
     absurd (no_fails text kind m (item_at text count at) es (Is j next) f one is (subst (λ (x : ℕ). Fails text kind m (item_at text x at) f) same bad))
-cut_one_fault text kind m count at to stop _ _ _ _ f g n k one once (item {next = next} {i = i} es fs is rest) e bad done d worse =
+cut_one_fault text kind m count at to stop _ _ _ _ f g n k one once (next_item {next = next} {i = i} es fs is rest) e bad done d worse =
     let same : k ≡ count = d ∙ omega arith in
     absurd (no_fails text kind m (item_at text count at) es (Is i next) g one is (subst (λ (x : ℕ). Fails text kind m (item_at text x at) g) same worse))
-cut_one_fault text kind m count at to stop _ _ _ _ f g n k one once (item {next = next} {i = i} {is = is0} es fs is rest) e bad (item {next = other} {i = j} {is = js0} gs hs is' rest') d worse =
+cut_one_fault text kind m count at to stop _ _ _ _ f g n k one once (next_item {next = next} {i = i} {is = is0} es fs is rest) e bad (next_item {next = other} {i = j} {is = js0} gs hs is' rest') d worse =
     let same = same_rest text kind m count at next other stop i j js0 es gs hs one is is' rest' in
     cut_one_fault text kind m (count + length es) next to stop is0 js0 fs hs f g n k one once
     rest (e ∙ (ap (λ (x : ℕ). count + x) (length-append es fs) ∙ omega arith)) bad

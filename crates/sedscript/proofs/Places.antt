@@ -33,7 +33,7 @@ use Rattle.sedscript.specs.Strings.{escapes, string_end, escaped_piece, exceeds,
 use Rattle.sedscript.specs.Arguments.{to_command_end, may_end, text_end, text_from, name_from, spanned, no_flags, with_flag_number, with_number, with_flag, flags_from, own_delimiter, strings_after, substitute_strings, transliterate_strings, unless_fault, flags_after, with_file, ends_flags}
 use Rattle.sedscript.specs.Items.{Reading, plainly, expression, ◌>>=◌, Addressed, Headed, with_addresses, line_address, folds_at, past_flag, match_at, own_match, address_of, address_at, with_second, second_at, after_first, addresses_at, with_bang, substitute_with, substitute_at, argument_with, function_at, item_from, item_at, item_of, match_to, function_after, item_with}
 use Rattle.sedscript.specs.Letters.{verb_of, most_addresses, allowed, label_at, transliterate_at, substituted, argument_of}
-use Rattle.sedscript.specs.Script.{Gives, value, after_expression, CutScript, done, item, target_fault_at, target_fault_in, depth_after, block_end, written_in, branch_in, label_in}
+use Rattle.sedscript.specs.Script.{Gives, value, after_expression, CutScript, done, next_item, target_fault_at, target_fault_in, depth_after, block_end, written_in, branch_in, label_in}
 use Rattle.sedscript.specs.FirstFault.{Fails, own, no_expression, later, Faulty, early, afterwards}
 use Rattle.sedscript.specs.Ranges.{IsOneOf, AddressWithin}
 
@@ -606,7 +606,7 @@ ItemsWithin n is = Each (ItemWithin n) is
 pub cut_up_to : (text : List ℕ) (kind : Kind) (m count at to n : ℕ) (is : List Item) (es : List WrittenExpression) → CutScript text kind m count at is es to → at ≤ length text → n ≡ count + length es →
     (to ≤ length text) × ItemsUpTo (length text) is × ItemsWithin n is
 cut_up_to text kind m count at to n _ _ done le e = (le, tt, tt)
-cut_up_to text kind m count at to n _ _ (item {next = next} {i = i} {is = is} es fs read rest) le e =
+cut_up_to text kind m count at to n _ _ (next_item {next = next} {i = i} {is = is} es fs read rest) le e =
     let here = reading_gives (HereUpTo (length text)) (length text) text kind m count (item_at text count at) es (Is i next) read (item_read text count at le) in
     let rest_of = cut_up_to text kind m (count + length es) next to n is fs rest here.2 (e ∙ omega (arith, length-append es fs)) in
     let more : count + length es ≤ n = omega (arith, e, length-append es fs) in

@@ -37,7 +37,7 @@ pub data Gives (text : List ℕ) (kind : Kind) (max_nodes : ℕ) {A : Type 0} : 
 -- the text has these items and expressions from one place, with so many expressions before it, up to another
 pub data CutScript (text : List ℕ) (kind : Kind) (max_nodes : ℕ) : ℕ → ℕ → List Item → List WrittenExpression → ℕ → Type 0 where
   done : {count at : ℕ} → CutScript text kind max_nodes count at [] [] at
-  item : {count at next to : ℕ} {i : Item} {is : List Item} (es fs : List WrittenExpression) →
+  next_item : {count at next to : ℕ} {i : Item} {is : List Item} (es fs : List WrittenExpression) →
       Gives text kind max_nodes (item_at text count at) es (Is i next) →
       CutScript text kind max_nodes (count + length es) next is fs to →
       CutScript text kind max_nodes count at (i ∷ is) (es ++ fs) to

@@ -79,7 +79,7 @@ NumbersAre first names m = (name : List ℕ) → labelled m name ≡ position_fr
 -- these are the names of the files, and their numbers, counted from the first
 pub record AreNumbered (first : ℕ) (names : List (List ℕ)) (f : NumberedFiles) : Type 0 where
   pub names_are : map (λ n. n.items) f.names.items ≡ names
-  pub numbers_are : NumbersAre first names f.numbers
+  pub numbered_so : NumbersAre first names f.numbers
 
 -- the files that the items name; 0 is the number of the standard output
 pub record FilesAre (text : List ℕ) (items : List Item) (f : Files) : Type 0 where
@@ -89,6 +89,6 @@ pub record FilesAre (text : List ℕ) (items : List Item) (f : Files) : Type 0 w
 -- the tables are those of all items
 pub record TargetsAre (text : List ℕ) (items : List Item) (labels : BTreeMap (Bor (List ℕ)) FirstLabel)
     (ends : List (Option ℕ)) (commands : ℕ) : Type 0 where
-  pub labels_are : LabelsAre text items labels
+  pub labelled_so : LabelsAre text items labels
   pub ends_are : ends ≡ ends_in 0 items
   pub commands_are : commands ≡ commands_in items

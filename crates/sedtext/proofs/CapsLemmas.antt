@@ -1,9 +1,9 @@
 -- At most one outcome belongs to a span and the groups before it.
 use Rattle.std.proofs.Common.{◌≡◌, ℕ, ◌≤◌, ◌⊎◌, List, Some, IsTrue, refl, sym, ap, ◌∙◌, subst, inl, inr, ⊎_elim, arith}
 use Rattle.std.specs.Prelude.{slice_set}
-use Rattle.sedre.specs.Tree.{Tree, seq, alt, group, star, opt}
+use Rattle.sedre.specs.Tree.{Tree, sequence, either_of, grouped, any_copies, one_or_none}
 use Rattle.sedtext.specs.Spans.{no_copy, Matches}
-use Rattle.sedtext.specs.Caps.{Captures, LastCut, LastCopy, only, then}
+use Rattle.sedtext.specs.Caps.{Captures, LastCut, LastCopy, only, then_copy}
 use Rattle.sedtext.specs.Groups.{SpansOfGroups, forget}
 
 LastCut-unique : (A B : ℕ → ℕ → Type 0) (i j k l : ℕ) → LastCut A B i j k → LastCut A B i j l → k ≡ l
@@ -14,11 +14,11 @@ LastCut-unique A B i j k l one other =
 
 LastCopy-unique : (R : ℕ → ℕ → Type 0) (j i c : ℕ) → LastCopy R j i c → (d : ℕ) → LastCopy R j i d → c ≡ d
 LastCopy-unique R j i c (only _ lt r) d (only _ lt' r') = refl
-LastCopy-unique R j i c (only _ lt r) d (then _ k _ up low r' rest most last) =
+LastCopy-unique R j i c (only _ lt r) d (then_copy _ k _ up low r' rest most last) =
     let high : j ≤ k = most j lt r no_copy in absurd (omega arith)
-LastCopy-unique R j i c (then _ k _ up low r rest most last) d (only _ lt r') =
+LastCopy-unique R j i c (then_copy _ k _ up low r rest most last) d (only _ lt r') =
     let high : j ≤ k = most j lt r' no_copy in absurd (omega arith)
-LastCopy-unique R j i c (then _ k _ up low r rest most last) d (then _ l _ up' low' r' rest' most' last') =
+LastCopy-unique R j i c (then_copy _ k _ up low r rest most last) d (then_copy _ l _ up' low' r' rest' most' last') =
     let right : l ≤ k = most l up' r' rest' in
     let left : k ≤ l = most' k up r rest in
     let same : l ≡ k = omega arith in
@@ -35,11 +35,11 @@ empty_unique i j F S P old new other same (inr h) (inr k) = h.1.1 ∙ sym k.1.1
 
 -- at most one outcome
 pub Captures-unique : (e : Tree) (w : List ℕ) (i j : ℕ) (old new other : SpansOfGroups) → Captures e w i j old new → Captures e w i j old other → new ≡ other
-Captures-unique (seq a b) w i j old new other h k =
+Captures-unique (sequence a b) w i j old new other h k =
     let same : h.0 ≡ k.0 = LastCut-unique (Matches a w) (Matches b w) i j h.0 k.0 h.1 k.1 in
     let mid : h.2.0 ≡ k.2.0 = Captures-unique a w i h.0 old h.2.0 k.2.0 h.2.1 (subst (λ v. Captures a w i v old k.2.0) (sym same) k.2.1) in
     Captures-unique b w h.0 j h.2.0 new other h.2.2 (subst (λ g. Captures b w h.0 j g other) (sym mid) (subst (λ v. Captures b w v j k.2.0 other) (sym same) k.2.2))
-Captures-unique (alt a b) w i j old new other h k =
+Captures-unique (either_of a b) w i j old new other h k =
     ⊎_elim
     (λ (l : Matches a w i j × Captures a w i j old new). ⊎_elim
     (λ (m : Matches a w i j × Captures a w i j old other). Captures-unique a w i j old new other l.1 m.1)
@@ -48,19 +48,19 @@ Captures-unique (alt a b) w i j old new other h k =
     (λ (m : Matches a w i j × Captures a w i j old other). absurd (r.0 m.0))
     (λ (m : (Matches a w i j → ⊥) × Captures b w i j old other). Captures-unique b w i j old new other r.1 m.1) k)
     h
-Captures-unique (group n a) w i j old new other h k =
-    let inner : h.0 ≡ k.0 = Captures-unique a w i j (forget (group n a) old) h.0 k.0 h.1 k.1 in
+Captures-unique (grouped n a) w i j old new other h k =
+    let inner : h.0 ≡ k.0 = Captures-unique a w i j (forget (grouped n a) old) h.0 k.0 h.1 k.1 in
     h.2 ∙ ap (λ g. slice_set g n (Some (i, j))) inner ∙ sym k.2
-Captures-unique (star a first) w i j old new other (inl h) (inl k) =
+Captures-unique (any_copies a first) w i j old new other (inl h) (inl k) =
     let same : h.1.0 ≡ k.1.0 = LastCopy-unique (Matches a w) j i h.1.0 h.1.1 k.1.0 k.1.1 in
     Captures-unique a w h.1.0 j (forget a old) new other h.1.2 (subst (λ v. Captures a w v j (forget a old) other) (sym same) k.1.2)
-Captures-unique (star a first) w i j old new other (inl h) (inr k) = absurd (let lt = h.0 in ⊎_elim (λ (e : (i ≡ j) × IsTrue first × Matches a w i i × Captures a w i i (forget a old) other). (let same = e.0 in omega arith)) (λ (e : (i ≡ j) × ((IsTrue first → Matches a w i i → ⊥) × (other ≡ old))). (let same = e.0 in omega arith)) k)
-Captures-unique (star a first) w i j old new other (inr h) (inl k) = absurd (let lt = k.0 in ⊎_elim (λ (e : (i ≡ j) × IsTrue first × Matches a w i i × Captures a w i i (forget a old) new). (let same = e.0 in omega arith)) (λ (e : (i ≡ j) × ((IsTrue first → Matches a w i i → ⊥) × (new ≡ old))). (let same = e.0 in omega arith)) h)
-Captures-unique (star a first) w i j old new other (inr h) (inr k) =
+Captures-unique (any_copies a first) w i j old new other (inl h) (inr k) = absurd (let lt = h.0 in ⊎_elim (λ (e : (i ≡ j) × IsTrue first × Matches a w i i × Captures a w i i (forget a old) other). (let same = e.0 in omega arith)) (λ (e : (i ≡ j) × ((IsTrue first → Matches a w i i → ⊥) × (other ≡ old))). (let same = e.0 in omega arith)) k)
+Captures-unique (any_copies a first) w i j old new other (inr h) (inl k) = absurd (let lt = k.0 in ⊎_elim (λ (e : (i ≡ j) × IsTrue first × Matches a w i i × Captures a w i i (forget a old) new). (let same = e.0 in omega arith)) (λ (e : (i ≡ j) × ((IsTrue first → Matches a w i i → ⊥) × (new ≡ old))). (let same = e.0 in omega arith)) h)
+Captures-unique (any_copies a first) w i j old new other (inr h) (inr k) =
     empty_unique i j (IsTrue first) (Matches a w i i) (Captures a w i i (forget a old)) old new other (Captures-unique a w i i (forget a old)) h k
-Captures-unique (opt a first) w i j old new other (inl h) (inl k) = Captures-unique a w i j (forget a old) new other h.1 k.1
-Captures-unique (opt a first) w i j old new other (inl h) (inr k) = absurd (let lt = h.0 in ⊎_elim (λ (e : (i ≡ j) × IsTrue first × Matches a w i i × Captures a w i i (forget a old) other). (let same = e.0 in omega arith)) (λ (e : (i ≡ j) × ((IsTrue first → Matches a w i i → ⊥) × (other ≡ old))). (let same = e.0 in omega arith)) k)
-Captures-unique (opt a first) w i j old new other (inr h) (inl k) = absurd (let lt = k.0 in ⊎_elim (λ (e : (i ≡ j) × IsTrue first × Matches a w i i × Captures a w i i (forget a old) new). (let same = e.0 in omega arith)) (λ (e : (i ≡ j) × ((IsTrue first → Matches a w i i → ⊥) × (new ≡ old))). (let same = e.0 in omega arith)) h)
-Captures-unique (opt a first) w i j old new other (inr h) (inr k) =
+Captures-unique (one_or_none a first) w i j old new other (inl h) (inl k) = Captures-unique a w i j (forget a old) new other h.1 k.1
+Captures-unique (one_or_none a first) w i j old new other (inl h) (inr k) = absurd (let lt = h.0 in ⊎_elim (λ (e : (i ≡ j) × IsTrue first × Matches a w i i × Captures a w i i (forget a old) other). (let same = e.0 in omega arith)) (λ (e : (i ≡ j) × ((IsTrue first → Matches a w i i → ⊥) × (other ≡ old))). (let same = e.0 in omega arith)) k)
+Captures-unique (one_or_none a first) w i j old new other (inr h) (inl k) = absurd (let lt = k.0 in ⊎_elim (λ (e : (i ≡ j) × IsTrue first × Matches a w i i × Captures a w i i (forget a old) new). (let same = e.0 in omega arith)) (λ (e : (i ≡ j) × ((IsTrue first → Matches a w i i → ⊥) × (new ≡ old))). (let same = e.0 in omega arith)) h)
+Captures-unique (one_or_none a first) w i j old new other (inr h) (inr k) =
     empty_unique i j (IsTrue first) (Matches a w i i) (Captures a w i i (forget a old)) old new other (Captures-unique a w i i (forget a old)) h k
 Captures-unique _ w i j old new other h k = h ∙ sym k

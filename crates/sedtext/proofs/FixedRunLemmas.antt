@@ -2,7 +2,7 @@
 use Rattle.std.proofs.Common.{◌≡◌, ℕ, ◌+◌, ◌<◌, ◌≤◌, Bool, List, length, Option, Some, None, IfSome, refl, sym, subst, ◌∙◌, ⊎_elim, arith}
 use Rattle.std.specs.Prelude.{slice_get, slice_index_or, false, IsTrue, SomeIff}
 use Rattle.std.proofs.lemmas.Bool.{cases_lt}
-use Rattle.sedre.specs.Tree.{set, star}
+use Rattle.sedre.specs.Tree.{byte_of, any_copies}
 use Rattle.sedre.specs.declared.types.Node.{Node}
 use Rattle.sedtext.specs.Spans.{Matches, CopiesLead, no_copy, one_more}
 use Rattle.sedtext.specs.Runs.{SetRepeats, RunBegins}
@@ -21,7 +21,7 @@ CopiesLead-join R j k i (one_more _ l lt r rest) more = one_more i l lt r (Copie
 
 module _ (members : List Bool) (w : List ℕ) where
   abbrev R : ℕ → ℕ → Type 0
-  R = Matches (set members) w
+  R = Matches (byte_of members) w
 
   -- bytes of the set can be cut at each place between them
   pub repeated_cut : (m j i : ℕ) → i ≤ m → m ≤ j → SetRepeats members w i j → SetRepeats members w i m × SetRepeats members w m j
@@ -49,10 +49,10 @@ module _ (members : List Bool) (w : List ℕ) where
 
   -- they end in the text
   pub repeated_within : (i j : ℕ) → i ≤ length w → SetRepeats members w i j → j ≤ length w
-  repeated_within i j within all = Matches-within (star (set members) false) w i j within all
+  repeated_within i j within all = Matches-within (any_copies (byte_of members) false) w i j within all
 
   -- those of one byte
-  pub repeated_one : (i j : ℕ) → Matches (set members) w i j → IsFixedRun members 1 w i j
+  pub repeated_one : (i j : ℕ) → Matches (byte_of members) w i j → IsFixedRun members 1 w i j
   repeated_one i j s = (one_more i j (omega (arith, s.3)) s no_copy, s.3)
 
 -- the same, where the byte was looked at
@@ -88,7 +88,7 @@ module _ (nodes : List Node) (x : ℕ) (members : List Bool) where
         let f = (both.2 w i j).0 at in
         let these = (left w bytes i f.0).0 f.1 in
         let those = (right w bytes f.0 j).0 f.2 in
-        (CopiesLead-join (Matches (set members) w) j f.0 i these.0 those.0, omega (arith, these.1, those.1))),
+        (CopiesLead-join (Matches (byte_of members) w) j f.0 i these.0 those.0, omega (arith, these.1, those.1))),
     (λ h.
         let cut = repeated_cut members w (i + first) j i (omega arith) (omega (arith, h.1)) h.0 in
         (both.2 w i j).1 (i + first, (left w bytes i (i + first)).1 (cut.0, refl), (right w bytes (i + first) j).1 (cut.1, omega (arith, h.1)))),
@@ -138,4 +138,4 @@ module _ (members : List Bool) (count : ℕ) (w : List ℕ) (from : ℕ) where
   -- here they do
   pub times_here : (start seen : ℕ) → from ≤ start → start + count ≤ length w → SetRepeats members w start seen → SetRepeats members w seen (start + count) →
       ((h : ℕ) → from ≤ h → h < start → SetRepeats members w h (h + count) → ⊥) → FirstFixedRun members count w from (Some start)
-  times_here start seen after within these those before = (after, within, CopiesLead-join (Matches (set members) w) (start + count) seen start these those, before)
+  times_here start seen after within these those before = (after, within, CopiesLead-join (Matches (byte_of members) w) (start + count) seen start these those, before)

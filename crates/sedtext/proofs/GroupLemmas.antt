@@ -1,7 +1,7 @@
 -- An expression without groups leaves all groups as they are.
 use Rattle.std.proofs.Common.{◌≡◌, ℕ, zero, suc, ◌<◌, Bool, true, false, List, length, Some, refl, sym, ap, ◌∙◌, subst, inl, inr, arith}
 use Rattle.std.specs.Prelude.{slice_get, cond}
-use Rattle.sedre.specs.Tree.{Tree, seq, alt, group, star, opt, tree_at, tree_of}
+use Rattle.sedre.specs.Tree.{Tree, sequence, either_of, grouped, any_copies, one_or_none, tree_at, tree_of}
 use Rattle.sedtext.specs.Spans.{Matches}
 use Rattle.sedre.specs.Arena.{IsExpr}
 use Rattle.sedre.specs.declared.types.Node.{Node}
@@ -15,19 +15,19 @@ use Rattle.sedtext.proofs.MatchingLemmas.{groups_after-is}
 
 -- there is no group in the tree
 abbrev pub NoGroups : Tree → Type 0
-NoGroups (seq a b) = NoGroups a × NoGroups b
-NoGroups (alt a b) = NoGroups a × NoGroups b
-NoGroups (group k a) = ⊥
-NoGroups (star a first) = NoGroups a
-NoGroups (opt a first) = NoGroups a
+NoGroups (sequence a b) = NoGroups a × NoGroups b
+NoGroups (either_of a b) = NoGroups a × NoGroups b
+NoGroups (grouped k a) = ⊥
+NoGroups (any_copies a first) = NoGroups a
+NoGroups (one_or_none a first) = NoGroups a
 NoGroups other = Unit {0}
 
 forget-none : (e : Tree) → NoGroups e → (g : SpansOfGroups) → forget e g ≡ g
-forget-none (seq a b) none g = ap (forget b) (forget-none a none.0 g) ∙ forget-none b none.1 g
-forget-none (alt a b) none g = ap (forget b) (forget-none a none.0 g) ∙ forget-none b none.1 g
-forget-none (group k a) none g = absurd none
-forget-none (star a first) none g = forget-none a none g
-forget-none (opt a first) none g = forget-none a none g
+forget-none (sequence a b) none g = ap (forget b) (forget-none a none.0 g) ∙ forget-none b none.1 g
+forget-none (either_of a b) none g = ap (forget b) (forget-none a none.0 g) ∙ forget-none b none.1 g
+forget-none (grouped k a) none g = absurd none
+forget-none (any_copies a first) none g = forget-none a none g
+forget-none (one_or_none a first) none g = forget-none a none g
 forget-none _ none g = refl
 
 cond-same : (b : Bool) (x y g : SpansOfGroups) → x ≡ g → y ≡ g → cond b x y ≡ g
@@ -36,15 +36,15 @@ cond-same false x y g left right = right
 
 groups_after-none : (e : Tree) → NoGroups e → (w : List ℕ) (i j : ℕ) (g : SpansOfGroups) → groups_after e w i j g ≡ g
 unfolding groups_after
-groups_after-none (seq a b) none w i j g =
+groups_after-none (sequence a b) none w i j g =
     let k = greatest_cut (spans a w) (spans b w) i j in
     groups_after-none b none.1 w k j (groups_after a w i k g) ∙ groups_after-none a none.0 w i k g
-groups_after-none (alt a b) none w i j g = cond-same (spans a w i j) (groups_after a w i j g) (groups_after b w i j g) g (groups_after-none a none.0 w i j g) (groups_after-none b none.1 w i j g)
-groups_after-none (group k a) none w i j g = absurd none
-groups_after-none (star a first) none w i j g =
+groups_after-none (either_of a b) none w i j g = cond-same (spans a w i j) (groups_after a w i j g) (groups_after b w i j g) g (groups_after-none a none.0 w i j g) (groups_after-none b none.1 w i j g)
+groups_after-none (grouped k a) none w i j g = absurd none
+groups_after-none (any_copies a first) none w i j g =
     cond-same _ _ _ g (groups_after-none a none w (last_start j (spans a w) i j) j (forget a g) ∙ forget-none a none g)
     (cond-same _ _ _ g (groups_after-none a none w i i (forget a g) ∙ forget-none a none g) refl)
-groups_after-none (opt a first) none w i j g =
+groups_after-none (one_or_none a first) none w i j g =
     cond-same _ _ _ g (groups_after-none a none w i j (forget a g) ∙ forget-none a none g)
     (cond-same _ _ _ g (groups_after-none a none w i i (forget a g) ∙ forget-none a none g) refl)
 groups_after-none _ none w i j g = refl

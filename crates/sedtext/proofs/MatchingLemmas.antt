@@ -4,9 +4,9 @@ use Rattle.std.specs.Prelude.{cond, eqb, ltb, slice_get, slice_set, is_some, unw
 use Rattle.std.proofs.lemmas.Bool.{and_parts, and_from, or_cases, or_left, or_right, cases_lt, cases_eq, eqb-true, eq-eqb, ltb-true, lt-ltb, cases_Bool}
 use Rattle.std.proofs.lemmas.Bool.Decides.{same_from_decides}
 use Rattle.std.proofs.lemmas.Option.{slice_get_within, none-some}
-use Rattle.sedre.specs.Tree.{Tree, empty, set, begin, end, seq, alt, group, star, opt}
+use Rattle.sedre.specs.Tree.{Tree, null_string, byte_of, text_begin, text_end, sequence, either_of, grouped, any_copies, one_or_none}
 use Rattle.sedtext.specs.Spans.{CopiesLead, no_copy, one_more, Matches, IsLeftmostLongest, NotFound, SomeFound}
-use Rattle.sedtext.specs.Caps.{Captures, LastCut, LastCopy, only, then}
+use Rattle.sedtext.specs.Caps.{Captures, LastCut, LastCopy, only, then_copy}
 use Rattle.sedtext.specs.Groups.{SpansOfGroups, forget, no_groups}
 use Rattle.sedtext.specs.Reach.{IsLongestFrom}
 use Rattle.sedtext.specs.Matching.{any, greatest, copies, byte_is_in, spans, longest, found_from, leftmost_longest, greatest_cut, first_copy, last_start, groups_after, reported_groups}
@@ -123,7 +123,7 @@ module _ (step : ℕ → ℕ → Bool) (R : ℕ → ℕ → Type 0) (each : (i k
       let within = is.1 in
       ⊎_elim
       (λ (low : k < j). subst (λ b. LastCopy R j i (cond b (last_start n step k j) i)) (sym (lt-ltb k j low))
-      (then i k (last_start n step k j) is.0 low is.2 is.3 is.4 (last_start-is n k j low (omega arith) is.3)))
+      (then_copy i k (last_start n step k j) is.0 low is.2 is.3 is.4 (last_start-is n k j low (omega arith) is.3)))
       (λ (high : j ≤ k).
       let same : k ≡ j = omega arith in
       ⊎_elim
@@ -150,16 +150,16 @@ equal-iff i j = (eqb-true i j, eq-eqb i j)
 
 pub spans-iff : SpansLaw
 unfolding spans
-spans-iff empty w i j = equal-iff i j
-spans-iff (set has) w i j = (
+spans-iff null_string w i j = equal-iff i j
+spans-iff (byte_of has) w i j = (
   λ h. let both = and_parts (byte_is_in (slice_get w i) has) (eqb j (i + 1)) h in
       let byte = takes_some (slice_get w i) has both.0 in
       (byte.0, byte.1, byte.2, eqb-true j (i + 1) both.1),
   λ h. and_from (byte_is_in (slice_get w i) has) (eqb j (i + 1)) (ap (λ b. byte_is_in b has) h.1 ∙ h.2) (eq-eqb j (i + 1) h.3),
 )
-spans-iff begin w i j = both-iff (eqb i 0) (eqb j 0) (i ≡ 0) (j ≡ 0) (equal-iff i 0) (equal-iff j 0)
-spans-iff end w i j = both-iff (eqb i (length w)) (eqb j (length w)) (i ≡ length w) (j ≡ length w) (equal-iff i (length w)) (equal-iff j (length w))
-spans-iff (seq a b) w i j = (
+spans-iff text_begin w i j = both-iff (eqb i 0) (eqb j 0) (i ≡ 0) (j ≡ 0) (equal-iff i 0) (equal-iff j 0)
+spans-iff text_end w i j = both-iff (eqb i (length w)) (eqb j (length w)) (i ≡ length w) (j ≡ length w) (equal-iff i (length w)) (equal-iff j (length w))
+spans-iff (sequence a b) w i j = (
   λ h. let k = any-some (λ k. spans a w i k && spans b w k j) (j + 1) h in
       let both = and_parts (spans a w i k.0) (spans b w k.0 j) k.2 in
       (k.0, (spans-iff a w i k.0).0 both.0, (spans-iff b w k.0 j).0 both.1),
@@ -167,10 +167,10 @@ spans-iff (seq a b) w i j = (
       any-from (λ k. spans a w i k && spans b w k j) (j + 1) h.0 (omega arith)
       (and_from (spans a w i h.0) (spans b w h.0 j) ((spans-iff a w i h.0).1 h.1) ((spans-iff b w h.0 j).1 h.2)),
 )
-spans-iff (alt a b) w i j = either-iff (spans a w i j) (spans b w i j) (Matches a w i j) (Matches b w i j) (spans-iff a w i j) (spans-iff b w i j)
-spans-iff (group k a) w i j = spans-iff a w i j
-spans-iff (star a first) w i j = copies-all (spans a w) (Matches a w) (spans-iff a w) j i
-spans-iff (opt a first) w i j = either-iff (eqb i j) (spans a w i j) (i ≡ j) (Matches a w i j) (equal-iff i j) (spans-iff a w i j)
+spans-iff (either_of a b) w i j = either-iff (spans a w i j) (spans b w i j) (Matches a w i j) (Matches b w i j) (spans-iff a w i j) (spans-iff b w i j)
+spans-iff (grouped k a) w i j = spans-iff a w i j
+spans-iff (any_copies a first) w i j = copies-all (spans a w) (Matches a w) (spans-iff a w) j i
+spans-iff (one_or_none a first) w i j = either-iff (eqb i j) (spans a w i j) (i ≡ j) (Matches a w i j) (equal-iff i j) (spans-iff a w i j)
 
 -- the longest match from a place of the text
 longest-of : (e : Tree) (w : List ℕ) (i : ℕ) → i ≤ length w → (best : Option ℕ) → GreatestBelow (λ k. spans e w i k ≡ true) (length w + 1) best → IsLongestFrom e w i best
@@ -221,28 +221,28 @@ CopiesLead-past R h j i still no_copy = refl
 CopiesLead-past R h j i still (one_more _ k lt r rest) = let same = still k r in absurd (omega arith)
 
 past-still : (e : Tree) (w : List ℕ) (i k : ℕ) → length w < i → Matches e w i k → k ≡ i
-past-still empty w i k high s = sym s
-past-still (set has) w i k high s = let within = slice_get_within w i s.0 s.1 in absurd (omega arith)
-past-still (seq a b) w i k high s =
+past-still null_string w i k high s = sym s
+past-still (byte_of has) w i k high s = let within = slice_get_within w i s.0 s.1 in absurd (omega arith)
+past-still (sequence a b) w i k high s =
     let left : s.0 ≡ i = past-still a w i s.0 high s.1 in
     let right : k ≡ s.0 = past-still b w s.0 k (omega arith) s.2 in
     right ∙ left
-past-still (alt a b) w i k high s = ⊎_elim (past-still a w i k high) (past-still b w i k high) s
-past-still (group n a) w i k high s = past-still a w i k high s
-past-still (star a first) w i k high s = CopiesLead-past (Matches a w) i k i (λ l r. past-still a w i l high r) s
-past-still (opt a first) w i k high s = ⊎_elim (λ (e : i ≡ k). sym e) (past-still a w i k high) s
+past-still (either_of a b) w i k high s = ⊎_elim (past-still a w i k high) (past-still b w i k high) s
+past-still (grouped n a) w i k high s = past-still a w i k high s
+past-still (any_copies a first) w i k high s = CopiesLead-past (Matches a w) i k i (λ l r. past-still a w i l high r) s
+past-still (one_or_none a first) w i k high s = ⊎_elim (λ (e : i ≡ k). sym e) (past-still a w i k high) s
 past-still _ w i k high s = let at = s.0 in absurd (omega arith)
 
 past-everywhere : (e : Tree) (w : List ℕ) (i k : ℕ) → length w < i → Matches e w i k → (h : ℕ) → Matches e w h h
-past-everywhere empty w i k high s h = refl
-past-everywhere (set has) w i k high s h = let within = slice_get_within w i s.0 s.1 in absurd (omega arith)
-past-everywhere (seq a b) w i k high s h =
+past-everywhere null_string w i k high s h = refl
+past-everywhere (byte_of has) w i k high s h = let within = slice_get_within w i s.0 s.1 in absurd (omega arith)
+past-everywhere (sequence a b) w i k high s h =
     let left : s.0 ≡ i = past-still a w i s.0 high s.1 in
     (h, past-everywhere a w i s.0 high s.1 h, past-everywhere b w s.0 k (omega arith) s.2 h)
-past-everywhere (alt a b) w i k high s h = ⊎_elim (λ (l : Matches a w i k). inl (past-everywhere a w i k high l h)) (λ (r : Matches b w i k). inr (past-everywhere b w i k high r h)) s
-past-everywhere (group n a) w i k high s h = past-everywhere a w i k high s h
-past-everywhere (star a first) w i k high s h = no_copy
-past-everywhere (opt a first) w i k high s h = inl refl
+past-everywhere (either_of a b) w i k high s h = ⊎_elim (λ (l : Matches a w i k). inl (past-everywhere a w i k high l h)) (λ (r : Matches b w i k). inr (past-everywhere b w i k high r h)) s
+past-everywhere (grouped n a) w i k high s h = past-everywhere a w i k high s h
+past-everywhere (any_copies a first) w i k high s h = no_copy
+past-everywhere (one_or_none a first) w i k high s h = inl refl
 past-everywhere _ w i k high s h = let at = s.0 in absurd (omega arith)
 
 -- a match that begins in the text or after it begins in the text
@@ -331,7 +331,7 @@ choose P false x y holds fails = fails refl
 
 pub LastCopy-copy : (R : ℕ → ℕ → Type 0) (j i c : ℕ) → LastCopy R j i c → R c j
 LastCopy-copy R j i c (only _ lt r) = r
-LastCopy-copy R j i c (then _ k _ up low r rest most last) = LastCopy-copy R j k c last
+LastCopy-copy R j i c (then_copy _ k _ up low r rest most last) = LastCopy-copy R j k c last
 
 -- a copy of the null string, or none
 abbrev NullCopy : Tree → Bool → List ℕ → ℕ → ℕ → SpansOfGroups → SpansOfGroups → Type 0
@@ -350,32 +350,32 @@ null_copy a first w i j old on fails inner =
 
 pub groups_after-is : (e : Tree) (w : List ℕ) (i j : ℕ) (old : SpansOfGroups) → Matches e w i j → Captures e w i j old (groups_after e w i j old)
 unfolding groups_after
-groups_after-is (seq a b) w i j old s =
+groups_after-is (sequence a b) w i j old s =
     let k = greatest_cut (spans a w) (spans b w) i j in
     let is = cut-is a b w i j s.0 s.1 s.2 in
     (k, is, (groups_after a w i k old, groups_after-is a w i k old is.left, groups_after-is b w k j (groups_after a w i k old) is.right))
-groups_after-is (alt a b) w i j old s =
+groups_after-is (either_of a b) w i j old s =
     choose (λ g. (Matches a w i j × Captures a w i j old g) ⊎ ((Matches a w i j → ⊥) × Captures b w i j old g)) (spans a w i j) (groups_after a w i j old) (groups_after b w i j old)
     (λ holds. let l = (spans-iff a w i j).0 holds in inl (l, groups_after-is a w i j old l))
     (λ fails.
     let missing : Matches a w i j → ⊥ = λ l. true≢false (sym ((spans-iff a w i j).1 l) ∙ fails) in
     inr (missing, groups_after-is b w i j old (⊎_elim (λ (l : Matches a w i j). absurd (missing l)) (λ (r : Matches b w i j). r) s)))
-groups_after-is (group k a) w i j old s =
-    (groups_after a w i j (forget (group k a) old), groups_after-is a w i j (forget (group k a) old) s, refl)
-groups_after-is (star a first) w i j old s =
-    choose (Captures (star a first) w i j old) (ltb i j) (groups_after a w (last_start j (spans a w) i j) j (forget a old)) (cond (first && spans a w i i) (groups_after a w i i (forget a old)) old)
+groups_after-is (grouped k a) w i j old s =
+    (groups_after a w i j (forget (grouped k a) old), groups_after-is a w i j (forget (grouped k a) old) s, refl)
+groups_after-is (any_copies a first) w i j old s =
+    choose (Captures (any_copies a first) w i j old) (ltb i j) (groups_after a w (last_start j (spans a w) i j) j (forget a old)) (cond (first && spans a w i i) (groups_after a w i i (forget a old)) old)
     (λ holds.
     let lt = ltb-true i j holds in
     let last = last_start-is (spans a w) (Matches a w) (spans-iff a w) j i j lt (omega arith) s in
     let c = last_start j (spans a w) i j in
     inl (lt, (c, last, groups_after-is a w c j (forget a old) (LastCopy-copy (Matches a w) j i c last))))
     (λ fails. inr (null_copy a first w i j old (CopiesLead-forward (Matches a w) j i s) fails (groups_after-is a w i i (forget a old))))
-groups_after-is (opt a first) w i j old s =
-    choose (Captures (opt a first) w i j old) (ltb i j) (groups_after a w i j (forget a old)) (cond (first && spans a w i i) (groups_after a w i i (forget a old)) old)
+groups_after-is (one_or_none a first) w i j old s =
+    choose (Captures (one_or_none a first) w i j old) (ltb i j) (groups_after a w i j (forget a old)) (cond (first && spans a w i i) (groups_after a w i i (forget a old)) old)
     (λ holds.
     let lt = ltb-true i j holds in
     inl (lt, groups_after-is a w i j (forget a old) (⊎_elim (λ (e : i ≡ j). absurd (omega arith)) (λ (r : Matches a w i j). r) s)))
-    (λ fails. inr (null_copy a first w i j old (Matches-forward (opt a first) w i j s) fails (groups_after-is a w i i (forget a old))))
+    (λ fails. inr (null_copy a first w i j old (Matches-forward (one_or_none a first) w i j s) fails (groups_after-is a w i i (forget a old))))
 groups_after-is _ w i j old s = refl
 
 pub groups_after-iff : CapsLaw

@@ -3,7 +3,7 @@ use Rattle.std.proofs.Common.{sym, ◌≡◌, ℕ, ◌+◌, ◌-◌, ◌<◌, �
 use Rattle.std.specs.Prelude.{slice_get, slice_index_or, true}
 use Rattle.std.proofs.lemmas.Option.{get_or_from_slice_get, slice_get-get_or}
 use Rattle.std.proofs.lemmas.List.{length-reverse, reverse-reverse, get_or-reverse}
-use Rattle.sedre.specs.Tree.{Tree, empty, set, begin, end, seq, alt, group, star, opt, WrittenExpression, tree_at}
+use Rattle.sedre.specs.Tree.{Tree, null_string, byte_of, text_begin, text_end, sequence, either_of, grouped, any_copies, one_or_none, WrittenExpression, tree_at}
 use Rattle.sedre.specs.Mirror.{mirror, seen}
 use Rattle.sedre.proofs.MirrorLemmas.{mirror-mirror, tree_at-mirror}
 use Rattle.sedtext.specs.Reach.{HasSpan}
@@ -34,23 +34,23 @@ CopiesLead-mirror R S n each within j i a b left right (one_more _ k lt r rest) 
 
 -- what the expression matches is matched from its end by the mirrored one
 pub Matches-mirror : (e : Tree) (w : List ℕ) (i j a b : ℕ) → i + a ≡ length w → j + b ≡ length w → Matches e w i j → Matches (mirror e) (reverse w) b a
-Matches-mirror empty w i j a b left right s = omega arith
-Matches-mirror (set members) w i j a b left right s =
+Matches-mirror null_string w i j a b left right s = omega arith
+Matches-mirror (byte_of members) w i j a b left right s =
     let next = s.3 in
     (s.0, get-reverse w i b s.0 (omega arith) s.1, s.2, omega arith)
-Matches-mirror begin w i j a b left right s = let long = length-reverse w in (omega arith, omega arith)
-Matches-mirror end w i j a b left right s = (omega arith, omega arith)
-Matches-mirror (seq x y) w i j a b left right s =
+Matches-mirror text_begin w i j a b left right s = let long = length-reverse w in (omega arith, omega arith)
+Matches-mirror text_end w i j a b left right s = (omega arith, omega arith)
+Matches-mirror (sequence x y) w i j a b left right s =
     let low : s.0 ≤ length w = Matches-within x w i s.0 (omega arith) s.1 in
     let c = length w - s.0 in
     let middle : s.0 + c ≡ length w = omega arith in
     (c, Matches-mirror y w s.0 j c b middle right s.2, Matches-mirror x w i s.0 a c left middle s.1)
-Matches-mirror (alt x y) w i j a b left right s =
+Matches-mirror (either_of x y) w i j a b left right s =
     ⊎_elim (λ (l : Matches x w i j). inl (Matches-mirror x w i j a b left right l)) (λ (r : Matches y w i j). inr (Matches-mirror y w i j a b left right r)) s
-Matches-mirror (group k x) w i j a b left right s = Matches-mirror x w i j a b left right s
-Matches-mirror (star x first) w i j a b left right s =
+Matches-mirror (grouped k x) w i j a b left right s = Matches-mirror x w i j a b left right s
+Matches-mirror (any_copies x first) w i j a b left right s =
     CopiesLead-mirror (Matches x w) (Matches (mirror x) (reverse w)) (length w) (Matches-mirror x w) (Matches-within x w) j i a b left right s
-Matches-mirror (opt x first) w i j a b left right s =
+Matches-mirror (one_or_none x first) w i j a b left right s =
     ⊎_elim (λ (e : i ≡ j). inl (let same : b ≡ a = omega arith in same)) (λ (h : Matches x w i j). inr (Matches-mirror x w i j a b left right h)) s
 
 -- and nothing else is

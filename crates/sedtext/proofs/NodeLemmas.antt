@@ -2,7 +2,7 @@
 use Rattle.std.proofs.Common.{◌≡◌, ℕ, zero, suc, ◌+◌, ◌<◌, ◌≤◌, List, [], ◌∷◌, length, Some, refl, inl, inr, arith}
 use Rattle.std.specs.Prelude.{slice_get}
 use Rattle.sedre.specs.Arena.{IsArena}
-use Rattle.sedre.specs.Tree.{tree_at, Tree, empty, size}
+use Rattle.sedre.specs.Tree.{tree_at, Tree, null_string, size}
 use Rattle.sedre.specs.Packed.{PartsBelow}
 use Rattle.sedre.specs.declared.types.Node.{Node}
 use Rattle.sedre.specs.declared.types.Node.TheVariants.{Empty, Seq, Alt, Group, Star, Opt}
@@ -32,7 +32,7 @@ parts_below nodes arena x _ is n le = tt
 
 -- a tree has a node
 pub size-pos : (t : Tree) → 1 ≤ size t
-size-pos empty = omega arith
+size-pos null_string = omega arith
 size-pos _ = omega arith
 
 -- and one more than its parts

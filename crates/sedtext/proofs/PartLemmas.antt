@@ -3,7 +3,7 @@ use Rattle.std.proofs.Common.{◌≡◌, ℕ, zero, suc, ◌<◌, ◌≤◌, inl
 use Rattle.std.specs.Prelude.{slice_set, replicate}
 use Rattle.std.proofs.lemmas.Bool.{cases_lt, cases_eq}
 use Rattle.std.proofs.lemmas.List.{get_or-set_same, get_or-set_other, set_past}
-use Rattle.sedre.specs.Tree.{Tree, seq, alt, group, star, opt}
+use Rattle.sedre.specs.Tree.{Tree, sequence, either_of, grouped, any_copies, one_or_none}
 use Rattle.sedtext.specs.Spans.{Matches}
 use Rattle.sedtext.specs.Caps.{Captures, IsReport}
 use Rattle.sedtext.specs.Groups.{SpansOfGroups, forget, no_groups, span_of}
@@ -26,35 +26,35 @@ Lie-set n g k v within old c =
     (cases_eq c k)
 
 Lie-forget : (n : ℕ) (e : Tree) (g : SpansOfGroups) → Lie n g → Lie n (forget e g)
-Lie-forget n (seq a b) g old = Lie-forget n b (forget a g) (Lie-forget n a g old)
-Lie-forget n (alt a b) g old = Lie-forget n b (forget a g) (Lie-forget n a g old)
-Lie-forget n (group k a) g old = Lie-forget n a (slice_set g k None) (Lie-set n g k None tt old)
-Lie-forget n (star a first) g old = Lie-forget n a g old
-Lie-forget n (opt a first) g old = Lie-forget n a g old
+Lie-forget n (sequence a b) g old = Lie-forget n b (forget a g) (Lie-forget n a g old)
+Lie-forget n (either_of a b) g old = Lie-forget n b (forget a g) (Lie-forget n a g old)
+Lie-forget n (grouped k a) g old = Lie-forget n a (slice_set g k None) (Lie-set n g k None tt old)
+Lie-forget n (any_copies a first) g old = Lie-forget n a g old
+Lie-forget n (one_or_none a first) g old = Lie-forget n a g old
 Lie-forget n _ g old = old
 
 pub Captures-lie : (n : ℕ) (e : Tree) (w : List ℕ) (i j : ℕ) (old new : SpansOfGroups) → i ≤ j → j ≤ n → Captures e w i j old new → Lie n old → Lie n new
-Captures-lie n (seq a b) w i j old new up high h lie =
+Captures-lie n (sequence a b) w i j old new up high h lie =
     let left = Matches-forward a w i h.0 h.1.left in
     let right = Matches-forward b w h.0 j h.1.right in
     Captures-lie n b w h.0 j h.2.0 new right high h.2.2 (Captures-lie n a w i h.0 old h.2.0 left (omega arith) h.2.1 lie)
-Captures-lie n (alt a b) w i j old new up high h lie =
+Captures-lie n (either_of a b) w i j old new up high h lie =
     ⊎_elim
     (λ (l : Matches a w i j × Captures a w i j old new). Captures-lie n a w i j old new up high l.1 lie)
     (λ (r : (Matches a w i j → ⊥) × Captures b w i j old new). Captures-lie n b w i j old new up high r.1 lie)
     h
-Captures-lie n (group k a) w i j old new up high h lie =
-    subst (Lie n) (sym h.2) (Lie-set n h.0 k (Some (i, j)) (up, high) (Captures-lie n a w i j (forget (group k a) old) h.0 up high h.1 (Lie-forget n (group k a) old lie)))
-Captures-lie n (star a first) w i j old new up high (inl h) lie =
+Captures-lie n (grouped k a) w i j old new up high h lie =
+    subst (Lie n) (sym h.2) (Lie-set n h.0 k (Some (i, j)) (up, high) (Captures-lie n a w i j (forget (grouped k a) old) h.0 up high h.1 (Lie-forget n (grouped k a) old lie)))
+Captures-lie n (any_copies a first) w i j old new up high (inl h) lie =
     Captures-lie n a w h.1.0 j (forget a old) new (Matches-forward a w h.1.0 j (LastCopy-copy (Matches a w) j i h.1.0 h.1.1)) high h.1.2 (Lie-forget n a old lie)
-Captures-lie n (star a first) w i j old new up high (inr (inl h)) lie =
+Captures-lie n (any_copies a first) w i j old new up high (inr (inl h)) lie =
     Captures-lie n a w i i (forget a old) new (omega arith) (omega arith) h.3 (Lie-forget n a old lie)
-Captures-lie n (star a first) w i j old new up high (inr (inr h)) lie = subst (Lie n) (sym h.1.1) lie
-Captures-lie n (opt a first) w i j old new up high (inl h) lie =
+Captures-lie n (any_copies a first) w i j old new up high (inr (inr h)) lie = subst (Lie n) (sym h.1.1) lie
+Captures-lie n (one_or_none a first) w i j old new up high (inl h) lie =
     Captures-lie n a w i j (forget a old) new up high h.1 (Lie-forget n a old lie)
-Captures-lie n (opt a first) w i j old new up high (inr (inl h)) lie =
+Captures-lie n (one_or_none a first) w i j old new up high (inr (inl h)) lie =
     Captures-lie n a w i i (forget a old) new (omega arith) (omega arith) h.3 (Lie-forget n a old lie)
-Captures-lie n (opt a first) w i j old new up high (inr (inr h)) lie = subst (Lie n) (sym h.1.1) lie
+Captures-lie n (one_or_none a first) w i j old new up high (inr (inr h)) lie = subst (Lie n) (sym h.1.1) lie
 Captures-lie n _ w i j old new up high h lie = subst (Lie n) (sym h) lie
 
 replicate_none : (m k : ℕ) → span_of (replicate m None) k ≡ None

@@ -3,7 +3,7 @@ use Rattle.std.proofs.Common.{◌≡◌, ℕ, ◌+◌, ◌<◌, ◌≤◌, Bool,
 use Rattle.std.specs.Prelude.{slice_get, slice_index_or}
 use Rattle.std.proofs.lemmas.Bool.{cases_lt}
 use Rattle.std.proofs.lemmas.Option.{slice_get_within}
-use Rattle.sedre.specs.Tree.{set}
+use Rattle.sedre.specs.Tree.{byte_of}
 use Rattle.sedre.specs.declared.types.Node.{Node}
 use Rattle.sedtext.specs.Spans.{Matches, CopiesLead, no_copy, one_more}
 use Rattle.sedtext.specs.Reach.{HasSpan}
@@ -14,7 +14,7 @@ use Rattle.sedtext.specs.Runs.{SetRepeats, AllRepeat, IsRun}
 use Rattle.sedtext.proofs.SpanLemmas.{CopiesLead-forward, CopiesLead-append}
 
 -- copies end in the run
-pub in_run : (members : List Bool) (w : List ℕ) (k j i : ℕ) → i ≤ k → (MemberAt members w k → ⊥) → CopiesLead (Matches (set members) w) j i → j ≤ k
+pub in_run : (members : List Bool) (w : List ℕ) (k j i : ℕ) → i ≤ k → (MemberAt members w k → ⊥) → CopiesLead (Matches (byte_of members) w) j i → j ≤ k
 in_run members w k j i low stop no_copy = low
 in_run members w k j i low stop (one_more _ l lt r rest) =
     ⊎_elim
@@ -26,7 +26,7 @@ in_run members w k j i low stop (one_more _ l lt r rest) =
 pub longer_run : (members : List Bool) (w : List ℕ) (i place byte : ℕ) (has : Bool) →
     slice_get w place ≡ Some byte → has ≡ slice_index_or members byte false → IsTrue has → SetRepeats members w i place → SetRepeats members w i (place + 1)
 longer_run members w i place byte has is value holds copies =
-    CopiesLead-append (Matches (set members) w) place i (place + 1) copies (omega arith) (byte, is, sym value ∙ holds, refl)
+    CopiesLead-append (Matches (byte_of members) w) place i (place + 1) copies (omega arith) (byte, is, sym value ∙ holds, refl)
 
 -- no byte is at the end of the text
 pub stops_behind : (members : List Bool) (w : List ℕ) (place : ℕ) → length w ≤ place → MemberAt members w place → ⊥
@@ -34,7 +34,7 @@ stops_behind members w place long can = let inside = slice_get_within w place ca
 
 -- a run goes forward
 pub run_forward : (members : List Bool) (w : List ℕ) (i k : ℕ) → IsRun members w i k → i ≤ k
-run_forward members w i k run = CopiesLead-forward (Matches (set members) w) k i run.1
+run_forward members w i k run = CopiesLead-forward (Matches (byte_of members) w) k i run.1
 
 -- the longest of the copies is the run
 pub run_longest : (members : List Bool) (w : List ℕ) (i k : ℕ) → IsRun members w i k →
@@ -49,6 +49,6 @@ copies_alike R S each j i (one_more _ k lt r rest) = one_more i k lt (each i k r
 -- a repetition of a set
 pub star_repeats : (nodes : List Node) (x y : ℕ) (members : List Bool) → HasForm nodes x (Copies y) → IsOfSet nodes y members → AllRepeat nodes x members
 star_repeats nodes x y members star inner w i j = (
-  λ at. copies_alike (HasSpan nodes w y) (Matches (set members) w) (λ p q at. let f = (inner w p q).0 at in (f.0.0, f.0.1, f.0.2, f.1)) j i ((star.1 w i j).0 at),
-  λ copies. (star.1 w i j).1 (copies_alike (Matches (set members) w) (HasSpan nodes w y) (λ p q r. (inner w p q).1 ((r.0, r.1, r.2), r.3)) j i copies),
+  λ at. copies_alike (HasSpan nodes w y) (Matches (byte_of members) w) (λ p q at. let f = (inner w p q).0 at in (f.0.0, f.0.1, f.0.2, f.1)) j i ((star.1 w i j).0 at),
+  λ copies. (star.1 w i j).1 (copies_alike (Matches (byte_of members) w) (HasSpan nodes w y) (λ p q r. (inner w p q).1 ((r.0, r.1, r.2), r.3)) j i copies),
 )

@@ -1,7 +1,7 @@
 -- Spans go forward, and copies can be cut and joined at their end.
 use Rattle.std.proofs.Common.{◌≡◌, ℕ, ◌<◌, ◌≤◌, ◌⊎◌, List, length, refl, subst, inl, inr, ⊎_elim, arith}
 use Rattle.std.proofs.lemmas.Option.{slice_get_within}
-use Rattle.sedre.specs.Tree.{Tree, set, seq, alt, group, star, opt}
+use Rattle.sedre.specs.Tree.{Tree, byte_of, sequence, either_of, grouped, any_copies, one_or_none}
 use Rattle.sedtext.specs.Spans.{CopiesLead, no_copy, one_more, Matches}
 
 pub CopiesLead-forward : (R : ℕ → ℕ → Type 0) (j i : ℕ) → CopiesLead R j i → i ≤ j
@@ -9,14 +9,14 @@ CopiesLead-forward R j i no_copy = omega arith
 CopiesLead-forward R j i (one_more _ k lt r rest) = let on = CopiesLead-forward R j k rest in omega arith
 
 pub Matches-forward : (e : Tree) (w : List ℕ) (i j : ℕ) → Matches e w i j → i ≤ j
-Matches-forward (seq a b) w i j s =
+Matches-forward (sequence a b) w i j s =
     let left = Matches-forward a w i s.0 s.1 in
     let right = Matches-forward b w s.0 j s.2 in
     omega arith
-Matches-forward (alt a b) w i j s = ⊎_elim (Matches-forward a w i j) (Matches-forward b w i j) s
-Matches-forward (group k a) w i j s = Matches-forward a w i j s
-Matches-forward (star a first) w i j s = CopiesLead-forward (Matches a w) j i s
-Matches-forward (opt a first) w i j s = ⊎_elim (λ (e : i ≡ j). omega arith) (Matches-forward a w i j) s
+Matches-forward (either_of a b) w i j s = ⊎_elim (Matches-forward a w i j) (Matches-forward b w i j) s
+Matches-forward (grouped k a) w i j s = Matches-forward a w i j s
+Matches-forward (any_copies a first) w i j s = CopiesLead-forward (Matches a w) j i s
+Matches-forward (one_or_none a first) w i j s = ⊎_elim (λ (e : i ≡ j). omega arith) (Matches-forward a w i j) s
 Matches-forward _ w i j s = omega arith
 
 CopiesLead-within : (R : ℕ → ℕ → Type 0) (n : ℕ) → ((i j : ℕ) → i ≤ n → R i j → j ≤ n) → (j i : ℕ) → i ≤ n → CopiesLead R j i → j ≤ n
@@ -24,12 +24,12 @@ CopiesLead-within R n each j i fits no_copy = fits
 CopiesLead-within R n each j i fits (one_more _ k lt r rest) = CopiesLead-within R n each j k (each i k fits r) rest
 
 pub Matches-within : (e : Tree) (w : List ℕ) (i j : ℕ) → i ≤ length w → Matches e w i j → j ≤ length w
-Matches-within (set has) w i j fits s = omega (arith, slice_get_within w i s.0 s.1)
-Matches-within (seq a b) w i j fits s = Matches-within b w s.0 j (Matches-within a w i s.0 fits s.1) s.2
-Matches-within (alt a b) w i j fits s = ⊎_elim (Matches-within a w i j fits) (Matches-within b w i j fits) s
-Matches-within (group k a) w i j fits s = Matches-within a w i j fits s
-Matches-within (star a first) w i j fits s = CopiesLead-within (Matches a w) (length w) (Matches-within a w) j i fits s
-Matches-within (opt a first) w i j fits s = ⊎_elim (λ (e : i ≡ j). omega arith) (Matches-within a w i j fits) s
+Matches-within (byte_of has) w i j fits s = omega (arith, slice_get_within w i s.0 s.1)
+Matches-within (sequence a b) w i j fits s = Matches-within b w s.0 j (Matches-within a w i s.0 fits s.1) s.2
+Matches-within (either_of a b) w i j fits s = ⊎_elim (Matches-within a w i j fits) (Matches-within b w i j fits) s
+Matches-within (grouped k a) w i j fits s = Matches-within a w i j fits s
+Matches-within (any_copies a first) w i j fits s = CopiesLead-within (Matches a w) (length w) (Matches-within a w) j i fits s
+Matches-within (one_or_none a first) w i j fits s = ⊎_elim (λ (e : i ≡ j). omega arith) (Matches-within a w i j fits) s
 Matches-within _ w i j fits s = omega arith
 
 -- one more copy at the end

@@ -1,6 +1,6 @@
 -- The groups of a match: which span each has, and the part of the text that it reports.
 use Rattle.std.specs.Prelude.{ℕ, List, Option, slice_set, None, replicate, slice_index_or, Some, [], slice_range}
-use Rattle.sedre.specs.Tree.{Tree, seq, alt, group, star, opt}
+use Rattle.sedre.specs.Tree.{Tree, sequence, either_of, grouped, any_copies, one_or_none}
 
 -- entry k is the span of group k; a group without an entry of its own is not kept
 abbrev pub SpansOfGroups : Type 0
@@ -8,11 +8,11 @@ SpansOfGroups = List (Option (ℕ × ℕ))
 
 -- the groups inside the expression have no span
 abbrev pub forget : Tree → SpansOfGroups → SpansOfGroups
-forget (seq a b) g = forget b (forget a g)
-forget (alt a b) g = forget b (forget a g)
-forget (group k a) g = forget a (slice_set g k None)
-forget (star a first) g = forget a g
-forget (opt a first) g = forget a g
+forget (sequence a b) g = forget b (forget a g)
+forget (either_of a b) g = forget b (forget a g)
+forget (grouped k a) g = forget a (slice_set g k None)
+forget (any_copies a first) g = forget a g
+forget (one_or_none a first) g = forget a g
 forget other g = g
 
 -- before a match no group has a span

@@ -1,6 +1,6 @@
 -- What is matched, computed by trying all places. That it is what the relations determine, MatchingLaws says.
 use Rattle.std.specs.Prelude.{ℕ, zero, suc, ◌+◌, ◌-◌, Bool, false, ◌&&◌, ◌||◌, cond, eqb, ltb, List, length, slice_get, slice_index_or, slice_set, Option, Some, None, unwrap_or, option_map, nat_eq, nat_lt, if◌then◌else◌}
-use Rattle.sedre.specs.Tree.{Tree, empty, set, begin, end, seq, alt, group, star, opt}
+use Rattle.sedre.specs.Tree.{Tree, null_string, byte_of, text_begin, text_end, sequence, either_of, grouped, any_copies, one_or_none}
 use Rattle.sedtext.specs.Groups.{SpansOfGroups, forget, no_groups}
 
 -- some number below n passes the test
@@ -26,15 +26,15 @@ byte_is_in (Some byte) members = slice_index_or members byte false
 
 -- the expression matches i..j
 unfoldable pub spans : Tree → List ℕ → ℕ → ℕ → Bool
-spans empty w i j = eqb i j
-spans (set members) w i j = byte_is_in (slice_get w i) members && eqb j (i + 1)
-spans begin w i j = eqb i 0 && eqb j 0
-spans end w i j = eqb i (length w) && eqb j (length w)
-spans (seq a b) w i j = any (λ k. spans a w i k && spans b w k j) (j + 1)
-spans (alt a b) w i j = spans a w i j || spans b w i j
-spans (group k a) w i j = spans a w i j
-spans (star a first) w i j = copies j (spans a w) i j
-spans (opt a first) w i j = eqb i j || spans a w i j
+spans null_string w i j = eqb i j
+spans (byte_of members) w i j = byte_is_in (slice_get w i) members && eqb j (i + 1)
+spans text_begin w i j = eqb i 0 && eqb j 0
+spans text_end w i j = eqb i (length w) && eqb j (length w)
+spans (sequence a b) w i j = any (λ k. spans a w i k && spans b w k j) (j + 1)
+spans (either_of a b) w i j = spans a w i j || spans b w i j
+spans (grouped k a) w i j = spans a w i j
+spans (any_copies a first) w i j = copies j (spans a w) i j
+spans (one_or_none a first) w i j = eqb i j || spans a w i j
 
 -- where the longest match from i ends
 unfoldable pub longest : Tree → List ℕ → ℕ → Option ℕ
@@ -64,13 +64,13 @@ last_start (suc n) step i j = cond (ltb (first_copy step i j) j) (last_start n s
 
 -- the groups after a match of i..j
 unfoldable pub groups_after : Tree → List ℕ → ℕ → ℕ → SpansOfGroups → SpansOfGroups
-groups_after (seq a b) w i j old = groups_after b w (greatest_cut (spans a w) (spans b w) i j) j (groups_after a w i (greatest_cut (spans a w) (spans b w) i j) old)
-groups_after (alt a b) w i j old = cond (spans a w i j) (groups_after a w i j old) (groups_after b w i j old)
-groups_after (group k a) w i j old = slice_set (groups_after a w i j (forget (group k a) old)) k (Some (i, j))
-groups_after (star a first) w i j old =
+groups_after (sequence a b) w i j old = groups_after b w (greatest_cut (spans a w) (spans b w) i j) j (groups_after a w i (greatest_cut (spans a w) (spans b w) i j) old)
+groups_after (either_of a b) w i j old = cond (spans a w i j) (groups_after a w i j old) (groups_after b w i j old)
+groups_after (grouped k a) w i j old = slice_set (groups_after a w i j (forget (grouped k a) old)) k (Some (i, j))
+groups_after (any_copies a first) w i j old =
     cond (ltb i j) (groups_after a w (last_start j (spans a w) i j) j (forget a old))
     (cond (first && spans a w i i) (groups_after a w i i (forget a old)) old)
-groups_after (opt a first) w i j old =
+groups_after (one_or_none a first) w i j old =
     cond (ltb i j) (groups_after a w i j (forget a old))
     (cond (first && spans a w i i) (groups_after a w i i (forget a old)) old)
 groups_after other w i j old = old

@@ -1,7 +1,7 @@
 -- Private to the proofs: no contract that `sedmatch` makes public cites what is here.
 -- Bytes of a set, any number of them one after another.
 use Rattle.std.specs.Prelude.{◌<◌, ℕ, ◌≤◌, ◌↔◌, Bool, List, length}
-use Rattle.sedre.specs.Tree.{set}
+use Rattle.sedre.specs.Tree.{byte_of}
 use Rattle.sedre.specs.declared.types.Node.{Node}
 use Rattle.sedtext.specs.Spans.{Matches, CopiesLead}
 use Rattle.sedtext.specs.Reach.{HasSpan}
@@ -9,7 +9,7 @@ use Rattle.sedtext.specs.Bytes.{MemberAt}
 
 -- any number of bytes of the set lead from i to j
 abbrev pub SetRepeats : List Bool → List ℕ → ℕ → ℕ → Type 0
-SetRepeats members w i j = CopiesLead (Matches (set members) w) j i
+SetRepeats members w i j = CopiesLead (Matches (byte_of members) w) j i
 
 -- the spans of the node x are those of a repetition of the set
 abbrev pub AllRepeat : List Node → ℕ → List Bool → Type 0

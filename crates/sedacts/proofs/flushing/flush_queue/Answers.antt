@@ -1,7 +1,7 @@
 use Rattle.std.proofs.Common.{◌∷◌, ◌∙◌, Ok, Err, drop, refl, arith}
 use Rattle.std.proofs.KnownBytes.{Keeps-refl, Keeps-trans}
 use Rattle.std.proofs.lemmas.Result.{err_from_is_err_and}
-use Rattle.sedacts.specs.State.{flush, State}
+use Rattle.sedacts.specs.State.{flush, MachineState}
 use Rattle.sedacts.specs.Keeping.{entries_of}
 use Rattle.sedacts.proofs.Writing.{Delivers-none, Delivers-then}
 use Rattle.sedacts.proofs.Moves.{same_self}
@@ -34,7 +34,7 @@ returns-in_err-write_entry g c =
     rw (p.1, p.2) (record {
       moves = λ setting shown s now rest rest_entries at queue turns fits same lines.
           let later = entries_of script (drop c.loop-index.index items) in
-          let m : State = at_entries s later (flush ∷ rest) c.loop-index.turns in
+          let m : MachineState = at_entries s later (flush ∷ rest) c.loop-index.turns in
           let fewer = entries_fewer script items c.loop-index.index s.queue queue in
           let left = entries_left script items c.loop-index.index c.entry.result (omega arith) c.entry.ensures in
           let call = w.moves setting (gives_on _ _ _ shown h.kept) m now rest _ refl left refl
@@ -66,7 +66,7 @@ loop-index-preserved g c =
       output = Delivers-then g.O.MeteredSinks.tally g.O.MeteredSinks.count c.args.outputs.now c.loop-index.outputs c.write_entry.new.outputs (Ok tt) h.output e.devices.output;
       reached = λ setting shown s rest at queue turns fits.
           let later = entries_of script (drop c.loop-index.index items) in
-          let m : State = at_entries s later (flush ∷ rest) c.loop-index.turns in
+          let m : MachineState = at_entries s later (flush ∷ rest) c.loop-index.turns in
           let fewer = entries_fewer script items c.loop-index.index s.queue queue in
           let left = entries_left script items c.loop-index.index c.entry.result (omega arith) c.entry.ensures in
           let call = e.moves setting (gives_on _ _ _ shown h.kept) m m rest _ refl left refl

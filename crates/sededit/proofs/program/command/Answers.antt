@@ -5,13 +5,13 @@ use Rattle.sededit.proofs.program.command.Goals as goal
 
 pub returns-in-Ok-clause-status : goal.returns-in-Ok-clause-status
 returns-in-Ok-clause-status g c = elim c.run_line.ensures [
-  | inl refused ↦ inr (inl refused.is_refused)
+  | inl refused ↦ inr (inl refused.says_refused)
   | inr ran ↦ one_of_four _ ran.2.1.is_one
 ]
 
 pub returns-in-Ok-clause-means : goal.returns-in-Ok-clause-means
 returns-in-Ok-clause-means g c = λ runs. elim c.run_line.ensures [
-  | inl refused ↦ absurd (runs refused.is_refused)
+  | inl refused ↦ absurd (runs refused.says_refused)
   | inr ran ↦ inl (c.in-Ok.ensures.sound, (c.in-Ok.line, c.in-Ok.ensures.line, (ran.0, ran.1, (ran.2.0, ran.2.1.meaning))))
 ]
 

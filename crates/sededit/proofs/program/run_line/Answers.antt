@@ -6,13 +6,13 @@ use Rattle.sededit.proofs.program.run_line.Goals as goal
 
 pub returns-in-Err : goal.returns-in-Err
 returns-in-Err g c =
-    inl (record { is_refused = c.refuse.ensures; contents = λ k. refl; failures = λ k. refl; unread = c.in-Err.ensures.inputs; created = inl refl })
+    inl (record { says_refused = c.refuse.ensures; contents = λ k. refl; failures = λ k. refl; unread = c.in-Err.ensures.inputs; created = inl refl })
 
 pub returns-then-not-create_files : goal.returns-then-not-create_files
 returns-then-not-create_files g c =
     let f = c.create_files.ensures in
     inl (record {
-      is_refused = refl;
+      says_refused = refl;
       contents = f.contents;
       failures = f.failed;
       unread = c.in-Ok.ensures.inputs;
@@ -23,7 +23,7 @@ pub returns-in-Err-name_files : goal.returns-in-Err-name_files
 returns-in-Err-name_files g c =
     let f = c.create_files.ensures in
     inl (record {
-      is_refused = c.out_of_memory.ensures;
+      says_refused = c.out_of_memory.ensures;
       contents = f.contents;
       failures = f.failed;
       unread = c.in-Ok.ensures.inputs;
@@ -35,7 +35,7 @@ returns-in-Err-run g c =
     let f = c.create_files.ensures in
     let same = c.in-Err-run.ensures.untouched in
     inl (record {
-      is_refused = c.out_of_memory-in-Err-run.ensures;
+      says_refused = c.out_of_memory-in-Err-run.ensures;
       contents = λ k. ap (λ s. g.O.Outputs.contents s k) same.1 ∙ f.contents k;
       failures = λ k. ap (λ s. g.O.Outputs.failures s k) same.1 ∙ f.failed k;
       unread = rw same.0 c.in-Ok.ensures.inputs;

@@ -36,7 +36,7 @@ spine-requires c =
       ready = works.ready;
       enough = omega (arith, works.less, c.is_expression.ensures.sizes p.root (omega (arith, p.is_prepared.last)), p.is_prepared.last, c.requires.room, c.push_reserved.ensures.capacity, keeps.tasks, c.pop.ensures.capacity);
       desk = keeps.desk;
-      has_blank = works.decided;
+      keeps_blank = works.decided;
     }
 
 pub all-smaller-in-Forget : goal.all-smaller-in-Forget

@@ -26,7 +26,7 @@ nodes-init c =
       keeps = record { desk = record { region = c.begin.ensures.kept; one_end = desk.one_end; forward_one = desk.forward_one }; shape = tables_same c.args.tables.now; space = space_same c.begin.new.self };
       goes = (all_of c.args.here.node (sym c.begin.ensures.root), sym c.begin.ensures.end);
       room = omega arith;
-      works = works_none c.args.subject (Apart c.args.here ∷ reverse c.args.room.now.tasks.items) c.args.decided.now c.args.steps.now c.requires.has_blank c.requires.ready;
+      works = works_none c.args.subject (Apart c.args.here ∷ reverse c.args.room.now.tasks.items) c.args.decided.now c.args.steps.now c.requires.keeps_blank c.requires.ready;
     }
 
 pub turn-then-requires : goal.turn-then-requires

@@ -1,6 +1,6 @@
 use Rattle.std.proofs.Common.{refl, sym, ap, ◌∙◌, rules}
 use Rattle.std.proofs.KnownBytes.{Keeps-refl}
-use Rattle.sedacts.specs.Meters.{Frame}
+use Rattle.sedacts.specs.Meters.{SinksFrame}
 use Rattle.sedacts.specs.Run.{RunState}
 use Rattle.sedengine.proofs.Metering.{cycles_metered, sinks_at_end, meter_fits, never_some, not_none, same_metered, sink_counts, sound_more}
 use Rattle.sedengine.proofs.engine.Engine.cycle.Goals as goal
@@ -9,7 +9,7 @@ pub returns-clause-cycles : goal.returns-clause-cycles
 returns-clause-cycles g c = λ fresh sound ls known files shown.
     let w = c.cycle-progress.ensures in
     cycles_metered g.O.Outputs.contents c.self.inside.machine c.cycle-progress.new.self c.self.inside.meter c.cycle-progress.new.outputs.meter.now c.self.inside.ended c.end-self-inside.result c.args.self.now c.args.outputs.now c.cycle-progress.new.outputs.outputs.now _ _ _ _ _ files ls _ _
-    c.self.view_is c.self.invariant.0 (search rules) (ap (λ (f : Frame). f.most) w.leaves.output.same_frame) refl c.is_within_limit.ensures _ _ w.leaves.output.full
+    c.self.view_is c.self.invariant.0 (search rules) (ap (λ (f : SinksFrame). f.most) w.leaves.output.same_frame) refl c.is_within_limit.ensures _ _ w.leaves.output.full
     (w.runs sound ls known files shown)
 
 pub returns-clause-output : goal.returns-clause-output
@@ -17,7 +17,7 @@ returns-clause-output g c = λ fresh.
     let out = c.cycle-progress.ensures.leaves.output in
     let limit = ap (λ (e : RunState). e.limits.output) c.self.view_is in
     sinks_at_end _ _ _ _ g.O.Outputs.failures c.args.outputs.now c.cycle-progress.new.outputs.outputs.now _ _ _ _ (search rules) out out.failed refl
-    (ap (λ (f : Frame). f.most) out.same_frame ∙ c.self.invariant.0 ∙ limit)
+    (ap (λ (f : SinksFrame). f.most) out.same_frame ∙ c.self.invariant.0 ∙ limit)
 
 pub returns-clause-ended : goal.returns-clause-ended
 returns-clause-ended g c = c.end-self-inside.ensures
@@ -27,7 +27,7 @@ cycle-progress-requires-clause-sinks g c = sink_counts c.self.inside.machine c.a
 
 pub invariant_of-self : goal.invariant_of-self
 invariant_of-self g c = let w = c.cycle-progress.ensures.leaves in
-    meter_fits c.self.inside.machine c.cycle-progress.new.self c.self.inside.meter c.cycle-progress.new.outputs.meter.now w.same (ap (λ (f : Frame). f.most) w.output.same_frame) (ap (λ (f : Frame). f.counts) w.output.same_frame) c.self.invariant
+    meter_fits c.self.inside.machine c.cycle-progress.new.self c.self.inside.meter c.cycle-progress.new.outputs.meter.now w.same (ap (λ (f : SinksFrame). f.most) w.output.same_frame) (ap (λ (f : SinksFrame). f.counts) w.output.same_frame) c.self.invariant
 
 pub returns-clause-same_run : goal.returns-clause-same_run
 returns-clause-same_run g c = same_metered c.self.inside.machine c.cycle-progress.new.self c.args.self.now _ _ _ _ c.self.view_is c.cycle-progress.ensures.leaves.same
@@ -57,7 +57,7 @@ returns-in-Some g c =
       sound = λ more sound. sound;
       ended = at;
       again = rw at (refl, refl, refl, refl, refl);
-      same_run = record { script = refl; limits = refl };
+      same_run = record { script = refl; same_limits = refl };
       same_devices = ((c.is_within_look.ensures, refl, refl), (refl, refl));
       same_texts = λ k. Keeps-refl _;
     }

@@ -3,17 +3,17 @@ use Rattle.std.proofs.lemmas.Grind.{common_steps}
 use Rattle.std.proofs.lemmas.List.{length-map}
 use Rattle.std.specs.Prelude.{replicate}
 use Rattle.sedscript.specs.Program.{Program}
-use Rattle.sedacts.specs.State.{Limits}
+use Rattle.sedacts.specs.State.{LimitsView}
 use Rattle.sedacts.specs.Meters.{Meter}
 use Rattle.sedacts.specs.Move.{start}
 use Rattle.sedacts.specs.Run.{RunState}
 use Rattle.sedengine.proofs.engine.Engine.open.Goals as goal
 
 -- the machine that was opened
-abbrev fresh : Program → Limits → RunState
+abbrev fresh : Program → LimitsView → RunState
 fresh p l = record { script = p; limits = l; state = start p.commands []; sent = []; ended = None }
 
-module _ (e : RunState) (m : Meter) (p : Program) (l : Limits) (most : Option ℕ) (n : ℕ) (is : e ≡ fresh p l) (counts : m ≡ record { most = most; sent = replicate (n + 1) 0 }) (many : n ≡ length p.wfiles) where
+module _ (e : RunState) (m : Meter) (p : Program) (l : LimitsView) (most : Option ℕ) (n : ℕ) (is : e ≡ fresh p l) (counts : m ≡ record { most = most; sent = replicate (n + 1) 0 }) (many : n ≡ length p.wfiles) where
   metered : record e { sent = m.sent; ended = None } ≡ record (fresh p l) { sent = replicate (length p.wfiles + 1) 0 }
   metered = rw (is, counts, many) refl
 

@@ -1,6 +1,6 @@
 use Rattle.std.proofs.Common.{Some, refl, sym, ap, ◌∙◌, rules}
 use Rattle.std.proofs.KnownBytes.{Keeps-refl}
-use Rattle.sedacts.specs.Meters.{Frame}
+use Rattle.sedacts.specs.Meters.{SinksFrame}
 use Rattle.sedacts.specs.Run.{RunState}
 use Rattle.sedengine.proofs.Metering.{ending_metered, sinks_at_end, meter_fits, never_some, not_none, same_metered, sink_counts}
 use Rattle.sedengine.proofs.engine.Engine.run.Goals as goal
@@ -9,7 +9,7 @@ pub returns-clause-ends : goal.returns-clause-ends
 returns-clause-ends g c = λ fresh sound ls known files shown.
     let w = c.run-end.ensures in
     ending_metered g.O.Outputs.contents c.self.inside.machine c.run-end.new.self c.self.inside.meter c.run-end.new.outputs.meter.now c.self.inside.ended (Some c.run-end.result) c.args.self.now c.args.outputs.now c.run-end.new.outputs.outputs.now _ _ _ _ _ files ls _ _
-    c.self.view_is c.self.invariant.0 (search rules) (ap (λ (f : Frame). f.most) w.leaves.output.same_frame) refl c.is_within_limit.ensures _ w.leaves.output.full
+    c.self.view_is c.self.invariant.0 (search rules) (ap (λ (f : SinksFrame). f.most) w.leaves.output.same_frame) refl c.is_within_limit.ensures _ w.leaves.output.full
     (w.runs sound ls known files shown)
 
 pub returns-clause-input : goal.returns-clause-input
@@ -20,7 +20,7 @@ returns-clause-output g c = λ fresh.
     let out = c.run-end.ensures.leaves.output in
     let limit = ap (λ (e : RunState). e.limits.output) c.self.view_is in
     sinks_at_end _ _ _ _ g.O.Outputs.failures c.args.outputs.now c.run-end.new.outputs.outputs.now _ _ _ _ (search rules) out out.failed refl
-    (ap (λ (f : Frame). f.most) out.same_frame ∙ c.self.invariant.0 ∙ limit)
+    (ap (λ (f : SinksFrame). f.most) out.same_frame ∙ c.self.invariant.0 ∙ limit)
 
 pub returns-clause-ended : goal.returns-clause-ended
 returns-clause-ended g c = refl
@@ -30,7 +30,7 @@ run-end-requires-clause-sinks g c = sink_counts c.self.inside.machine c.args.sel
 
 pub invariant_of-self : goal.invariant_of-self
 invariant_of-self g c = let w = c.run-end.ensures.leaves in
-    meter_fits c.self.inside.machine c.run-end.new.self c.self.inside.meter c.run-end.new.outputs.meter.now w.same (ap (λ (f : Frame). f.most) w.output.same_frame) (ap (λ (f : Frame). f.counts) w.output.same_frame) c.self.invariant
+    meter_fits c.self.inside.machine c.run-end.new.self c.self.inside.meter c.run-end.new.outputs.meter.now w.same (ap (λ (f : SinksFrame). f.most) w.output.same_frame) (ap (λ (f : SinksFrame). f.counts) w.output.same_frame) c.self.invariant
 
 pub returns-clause-same_run : goal.returns-clause-same_run
 returns-clause-same_run g c = same_metered c.self.inside.machine c.run-end.new.self c.args.self.now _ _ _ _ c.self.view_is c.run-end.ensures.leaves.same
@@ -53,7 +53,7 @@ returns-in-Some g c =
       output = λ fresh. absurd (not_none _ at fresh);
       ended = at;
       again = rw at (refl, refl, refl, refl, refl);
-      same_run = record { script = refl; limits = refl };
+      same_run = record { script = refl; same_limits = refl };
       same_devices = ((c.is_within_look.ensures, refl, refl), (refl, refl));
       same_texts = λ k. Keeps-refl _;
     }

@@ -1,13 +1,13 @@
 use Rattle.std.proofs.Common.{rules, Bool, Option, ap, ◌∙◌}
 use Rattle.sedscript.specs.declared.types.Action.{Action}
 use Rattle.sedscript.specs.declared.types.Action.TheVariants.{Plain}
-use Rattle.sedacts.specs.State.{Move, Setting, State}
+use Rattle.sedacts.specs.State.{Move, Setting, MachineState}
 use Rattle.sedacts.specs.Ends.{is_next_line}
 use Rattle.sedacts.specs.Move.{acts}
 use Rattle.sedengine.proofs.Acts.{acts_here, lines_by, some_sink}
 use Rattle.sedengine.proofs.machine.Machine.act.Goals as goal
 
-abbrev made : Bool → Action → Setting → State → Option Move
+abbrev made : Bool → Action → Setting → MachineState → Option Move
 made writes_text action g s = acts g s writes_text action
 
 pub returns-in_default : goal.returns-in_default

@@ -6,7 +6,7 @@ use Rattle.sedscript.specs.declared.types.FileUse.TheVariants.{Read}
 use Rattle.sedscript.specs.declared.types.TextUse.TheVariants.{Append}
 use Rattle.std.specs.Prelude.{[], slice_get}
 use Rattle.std.specs.Option.{unwrap_or}
-use Rattle.sedacts.specs.State.{do_at, State, Move, Setting}
+use Rattle.sedacts.specs.State.{do_at, MachineState, Move, Setting}
 use Rattle.sedacts.specs.Keeping.{entry_for, queues}
 use Rattle.sedengine.specs.declared.next_step.NextStep.TheVariants as p
 use Rattle.sedacts.specs.Move.{acts, line_to, quietly, then_do}
@@ -20,7 +20,7 @@ use Rattle.sedengine.proofs.Ending.{writes_seen}
 use Rattle.sedengine.proofs.Leaving.{falls_more}
 use Rattle.sedengine.proofs.machine.Machine.act_here.Goals as goal
 
-abbrev here : Bool → Action → Setting → State → Option Move
+abbrev here : Bool → Action → Setting → MachineState → Option Move
 here writes_text action g s = acts g s writes_text action
 
 pub returns-in-Plain : goal.returns-in-Plain

@@ -76,5 +76,5 @@ returns-in_err-is_last g c =
           rw (q.1, q.2) (next_broken g.R.ByteSource.remaining c.args.lines.now c.is_last.new.lines ls (run_setting e files) (next_line (at_lines e ls)) e (g.O.MeteredSinks.tally c.args.outputs.now) c.in_err-is_last.field-0.0 (w.reads.left ls known) (w.last sound ls known));
       falls = falls_none;
       leaves = let w = ReadsAlone-ended c.in_err-is_last.field-0.0 c.in_err-is_last.ensures.reads.alone in
-          rw (q.1, q.2) (leaves_texts w.input (Delivers-quiet _ _ _ _ w.output) (record { script = refl; limits = refl }));
+          rw (q.1, q.2) (leaves_texts w.input (Delivers-quiet _ _ _ _ w.output) (record { script = refl; same_limits = refl }));
     }

@@ -4,7 +4,7 @@ use Rattle.sedscript.specs.declared.types.Simple.{Simple}
 use Rattle.std.specs.Prelude.{[], decimal}
 use Rattle.std.specs.List.{before_first}
 use Rattle.sedspace.specs.Lines.{is_newline}
-use Rattle.sedacts.specs.State.{flush, print_pattern, State, Move, Setting}
+use Rattle.sedacts.specs.State.{flush, print_pattern, MachineState, Move, Setting}
 use Rattle.sedacts.specs.Listing.{listed}
 use Rattle.sedacts.specs.Keeping.{keeps_in_hold}
 use Rattle.sedacts.specs.Move.{acts, line_to, newline, to_sink}
@@ -14,7 +14,7 @@ use Rattle.sedengine.proofs.Acts.{fills}
 use Rattle.sedengine.proofs.Ending.{writes_seen}
 use Rattle.sedengine.proofs.machine.Machine.act_plain.Goals as goal
 
-abbrev plain : Bool → Simple → Setting → State → Option Move
+abbrev plain : Bool → Simple → Setting → MachineState → Option Move
 plain writes_text simple g s = acts g s writes_text (Plain simple)
 
 pub returns-in-CopyHold : goal.returns-in-CopyHold

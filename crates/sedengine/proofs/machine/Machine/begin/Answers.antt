@@ -29,7 +29,7 @@ returns-in-Ok-false g c = record {
   reads = let w = c.in-Ok-false.ensures in
       reads_shown _ _ c.in-Ok-false.field-0 _ names_spent w.reads w.taken w.fault w.failed;
   falls = tt;
-  same = record { script = refl; limits = refl };
+  same = record { script = refl; same_limits = refl };
 }
 
 pub returns-in-Err : goal.returns-in-Err
@@ -41,7 +41,7 @@ returns-in-Err g c = record {
   reads = let w = c.in-Err.ensures in
       reads_broken Bool _ c.in-Err.field-0 (kept_long Bool w.too_long) w.reads w.taken w.failed (λ is. w.broken (ap Err is));
   falls = tt;
-  same = record { script = refl; limits = refl };
+  same = record { script = refl; same_limits = refl };
 }
 
 pub returns-in-Ok-Line : goal.returns-in-Ok-Line

@@ -1,5 +1,5 @@
 use Rattle.std.proofs.Common.{◌∙◌, Err, sym, ap, arith}
-use Rattle.sedacts.specs.State.{State}
+use Rattle.sedacts.specs.State.{MachineState}
 use Rattle.sedacts.specs.Run.{at_lines, run_setting, starts_cycle}
 use Rattle.sedengine.proofs.Leaving.{leaves_none, leaves_then}
 use Rattle.sedacts.proofs.Streams.{ReadsLines-then}
@@ -61,5 +61,5 @@ moves-preserved g c =
           let next : Reached g.R.ByteSource.remaining c.args.lines.now c.step.new.lines _ (run_setting c.args.self.now files) (at_lines c.args.self.now ls) c.step.new.self _ _ =
           step_on g.R.ByteSource.remaining c.args.lines.now c.moves.lines c.step.new.lines files c.args.self.now _ c.moves.self _ _ _ h.leaves.same r c.step.new.self ran in
           let one = one_on g.R.ByteSource.remaining c.args.lines.now c.moves.lines c.step.new.lines files c.args.self.now _ c.moves.self _ _ _ h.leaves.same r c.step.new.self ran reached.1 in
-          (next, InOneCycle-more _ _ next.t one (ap (λ (s : State). starts_cycle s.tasks) next.is ∙ sym c.at_start.ensures ∙ c.if-at_start.false));
+          (next, InOneCycle-more _ _ next.t one (ap (λ (s : MachineState). starts_cycle s.tasks) next.is ∙ sym c.at_start.ensures ∙ c.if-at_start.false));
     }

@@ -20,7 +20,7 @@ returns g c =
     let L : RunState → Type 0 = λ e. e.state.turns ≤ e'.state.turns in
     record {
       moves = λ files shown ls. placed_ended a e e' next_step files ls (flush ∷ tasks_of next_step) _ _ c.flush.result c.self.view_is at (w.moves files shown ls (tasks_of next_step));
-      falls = weight_ended e e' next_step (run.limits ∙ ap (λ (e : RunState). e.limits) c.self.view_is) (subst L c.self.view_is w.later) at;
+      falls = weight_ended e e' next_step (run.same_limits ∙ ap (λ (e : RunState). e.limits) c.self.view_is) (subst L c.self.view_is w.later) at;
       leaves = leaves_seen a e e1 c.self.view_is refl refl (record { devices = w.devices; same = run; kept = w.kept });
     }
 

@@ -13,7 +13,7 @@ returns-in_default g c = record {
   input = ReadsLines-none _ _ _ _;
   output = Delivers-none _ _ _;
   falls = rw c.in_default.ensures.same le_same;
-  same = rw c.in_default.ensures.same (record { script = refl; limits = refl });
+  same = rw c.in_default.ensures.same (record { script = refl; same_limits = refl });
 }
 
 pub returns-in-Ok : goal.returns-in-Ok

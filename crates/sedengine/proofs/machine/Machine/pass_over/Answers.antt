@@ -15,7 +15,7 @@ returns g c = record {
   input = ReadsLines-none _ _ _ _;
   output = Delivers-none _ _ _;
   falls = rw c.may_pass.ensures.same le_same;
-  same = rw c.may_pass.ensures.same (record { script = refl; limits = refl });
+  same = rw c.may_pass.ensures.same (record { script = refl; same_limits = refl });
 }
 
 pub pass_ahead-requires : goal.pass_ahead-requires

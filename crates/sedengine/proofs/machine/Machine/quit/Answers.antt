@@ -21,7 +21,7 @@ returns g c =
     let L : RunState → Type 0 = λ e. e.state.turns ≤ e'.state.turns in
     record {
       moves = λ files shown ls. quits e e _ ls _ _ _ r c.requires.at (placed_ended a e e' p.Ended files ls (print_pattern ∷ flush ∷ []) _ _ r c.self.view_is at (w.moves files shown ls []));
-      falls = falls_ended e e' r c.requires.at (run.limits ∙ ap (λ (e : RunState). e.limits) c.self.view_is) (subst L c.self.view_is w.later) at;
+      falls = falls_ended e e' r c.requires.at (run.same_limits ∙ ap (λ (e : RunState). e.limits) c.self.view_is) (subst L c.self.view_is w.later) at;
       leaves = leaves_seen a e e1 c.self.view_is refl refl (record { devices = w.devices; same = run; kept = w.kept });
     }
 

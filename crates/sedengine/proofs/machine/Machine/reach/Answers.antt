@@ -41,7 +41,7 @@ returns-in_err-choice g c =
       leaves = rw (p.1, p.2) (record {
         input = ReadsLines-ended _ _ _ _ _ _ c.in_err-choice.ensures.reads.alone.input;
         output = Delivers-unwritten _ _ _ c.in_err-choice.field-0.0 c.in_err-choice.ensures.reads.alone.output;
-        same = rw c.in_err-choice.ensures.reaches (record { script = refl; limits = refl });
+        same = rw c.in_err-choice.ensures.reaches (record { script = refl; same_limits = refl });
         kept = λ j. Keeps-refl _;
       });
     }

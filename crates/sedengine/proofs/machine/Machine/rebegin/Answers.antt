@@ -13,7 +13,7 @@ returns-then-self-turns c = record {
       rebegin_spent c.self.inside c.args.self.now _ ls sinks c.self.view_is c.self.invariant c.requires (c.if-self-turns.true ∙ c.turns.ensures);
   devices = names_spent;
   falls = tt;
-  same = record { script = refl; limits = refl };
+  same = record { script = refl; same_limits = refl };
 }
 
 pub returns : goal.returns

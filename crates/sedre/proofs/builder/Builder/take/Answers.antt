@@ -1,6 +1,6 @@
 use Rattle.std.proofs.Common.{arith, refl, subst, sym}
 use Rattle.sedre.specs.declared.syntax.Token.{Token}
-use Rattle.sedre.specs.Tree.{set, begin, end}
+use Rattle.sedre.specs.Tree.{byte_of, text_begin, text_end}
 use Rattle.sedre.specs.Stacks.{CanTake, Represents, step}
 use Rattle.sedre.proofs.Stacked.{on_ok_map}
 use Rattle.sedre.proofs.Represented.{represents_pieces, represents_alternatives, represents_below, represents_some}
@@ -29,12 +29,12 @@ repeat-requires-clause-order c = (subst (λ (i : Token). CanTake i c.requires.so
 
 pub returns-in-Byte-clause-state : goal.returns-in-Byte-clause-state
 returns-in-Byte-clause-state c = on_ok_map c.leaf.result _ _ (λ f limit s r can. subst (λ (i : Token). Represents limit c.leaf.new.self (step i s)) (sym c.in-Byte.is)
-    (f limit s (set c.in-Byte.set) (λ base. refl, refl, refl, refl, λ k. tt) r)) c.leaf.ensures.state
+    (f limit s (byte_of c.in-Byte.set) (λ base. refl, refl, refl, refl, λ k. tt) r)) c.leaf.ensures.state
 
 pub returns-in-AtBegin-clause-state : goal.returns-in-AtBegin-clause-state
 returns-in-AtBegin-clause-state c = on_ok_map c.leaf-in-AtBegin.result _ _ (λ f limit s r can. subst (λ (i : Token). Represents limit c.leaf-in-AtBegin.new.self (step i s)) (sym c.in-AtBegin.is)
-    (f limit s begin (λ base. refl, refl, refl, refl, λ k. tt) r)) c.leaf-in-AtBegin.ensures.state
+    (f limit s text_begin (λ base. refl, refl, refl, refl, λ k. tt) r)) c.leaf-in-AtBegin.ensures.state
 
 pub returns-in-AtEnd-clause-state : goal.returns-in-AtEnd-clause-state
 returns-in-AtEnd-clause-state c = on_ok_map c.leaf-in-AtEnd.result _ _ (λ f limit s r can. subst (λ (i : Token). Represents limit c.leaf-in-AtEnd.new.self (step i s)) (sym c.in-AtEnd.is)
-    (f limit s end (λ base. refl, refl, refl, refl, λ k. tt) r)) c.leaf-in-AtEnd.ensures.state
+    (f limit s text_end (λ base. refl, refl, refl, refl, λ k. tt) r)) c.leaf-in-AtEnd.ensures.state

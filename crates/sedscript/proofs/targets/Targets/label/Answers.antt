@@ -5,8 +5,8 @@ use Rattle.sedscript.proofs.targets.Targets.label.Goals as goal
 
 pub returns-in-None : goal.returns-in-None
 returns-in-None c = λ text items t.
-    sym (ap (option_map (λ (l : FirstLabel). l.number)) c.in-None.is) ∙ label_found text c.args.name.now items c.args.self.now.labels c.first_label.result t.labels_are c.first_label.ensures
+    sym (ap (option_map (λ (l : FirstLabel). l.number)) c.in-None.is) ∙ label_found text c.args.name.now items c.args.self.now.labels c.first_label.result t.labelled_so c.first_label.ensures
 
 pub returns-in-Some : goal.returns-in-Some
 returns-in-Some c = λ text items t.
-    sym (ap (option_map (λ (l : FirstLabel). l.number)) c.in-Some.is) ∙ label_found text c.args.name.now items c.args.self.now.labels c.first_label.result t.labels_are c.first_label.ensures
+    sym (ap (option_map (λ (l : FirstLabel). l.number)) c.in-Some.is) ∙ label_found text c.args.name.now items c.args.self.now.labels c.first_label.result t.labelled_so c.first_label.ensures
