@@ -54,13 +54,13 @@ shown_past e w from start s t u answered some is looks counts shows over cost =
       cost = ((let a = looks.0 in let b = cost.0 in omega (arith, a, b)), (let a = looks.1 in let b = cost.1 in omega (arith, a, b, few)));
     }
 
--- an anchored match is sought at the start alone
-pub anchored_shown : (e : Tree) (w : List ℕ) (from : ℕ) (r : Option ℕ) (answered : Bool) → from ≡ 0 → AllBegin e AtStart → IsLongestFrom e w 0 r → answered ≡ is_some r → IsTrue answered ↔ SomeFound e w from
-anchored_shown e w from None answered zero begins longest is = (
+-- where all matches begin where the text does, the longest from a place shows whether one begins from there on
+pub anchored_shown : (e : Tree) (w : List ℕ) (from : ℕ) (r : Option ℕ) (answered : Bool) → from ≤ length w → AllBegin e AtStart → IsLongestFrom e w from r → answered ≡ is_some r → IsTrue answered ↔ SomeFound e w from
+anchored_shown e w from None answered within begins longest is = (
   (λ h. absurd (true≢false (sym h ∙ is))),
-  (λ f. absurd (longest f.1 (subst (λ i. Matches e w i f.1) (begins w f.0 f.1 f.4) f.4))),
+  (λ f. let zero = begins w f.0 f.1 f.4 in let low = f.2 in let at : f.0 ≡ from = omega arith in absurd (longest f.1 (subst (λ i. Matches e w i f.1) at f.4))),
 )
-anchored_shown e w from (Some j) answered zero begins longest is = ((λ h. (0, j, omega (arith, zero), omega arith, longest.0)), (λ f. is))
+anchored_shown e w from (Some j) answered within begins longest is = ((λ h. (from, j, omega arith, within, longest.0)), (λ f. is))
 
 -- one entry alone takes no step
 one_alone : (s n : ℕ) → n ≡ 1 → TakesAtLeast s s (n - 1)

@@ -6,7 +6,7 @@
 //! matches of a text together cost no more than one pass over it.
 #![tactic(auto, unfolding(sedre::specs::Steps::TakesAtLeast, sedre::specs::Steps::TakesExactly))]
 
-ghost use Rattle.std.specs.Prelude.{◌≡◌, ℕ, ◌+◌, ◌-◌, ◌*◌, ◌≤◌, length, IfOk, IfSome};
+ghost use Rattle.std.specs.Prelude.{◌+◌, ◌-◌, ◌*◌, ◌≤◌, length, IfOk, IfSome};
 ghost use Rattle.sedre.specs.Arena.{IsExpr};
 ghost use Rattle.sedre.specs.Tree.{WrittenExpression, expression_tree};
 ghost use Rattle.sedre.specs.Steps.{Takes, TakesAtLeast};
@@ -14,7 +14,7 @@ ghost use Rattle.sedtext.specs.Answer.{SpanAnswer};
 ghost use Rattle.sedtext.specs.Costs.{CostsWithin};
 ghost use Rattle.sedtext.specs.Following.{CanEndEarly};
 ghost use Rattle.sedmatch.specs.Candidates.{NoMatchBefore};
-ghost use Rattle.sedmatch.specs.Direct.{AllLiteral, FirstSpan, IsDirect, SpannedAs, bytes_looked_at};
+ghost use Rattle.sedmatch.specs.Direct.{AllLiteral, FirstSpan, IsDirect, bytes_looked_at};
 ghost use Rattle.sedmatch.specs.Passes.{AnswersMatch};
 ghost use Rattle.sedmatch.specs.Stretches.{end_or};
 ghost use Rattle.sedmatch.specs.declared.direct.DirectForm.TheVariants.{FixedRun, Literal as LiteralForm};
@@ -69,12 +69,19 @@ pub(crate) fn is_expression(expr: &Expr)
     let (_groups, _nodes) = (expr.groups(), expr.nodes());
 }
 
-/// The form of the matches of the expression, if a look at the text finds them.
-fn form_of(alloc: Global, expr: &Expr, steps: &mut Steps) -> Result<Option<DirectForm>, AllocError>
-    ensures form { IfOk result (λ r. IfSome r (SpannedAs (expression_tree expr.now))) }
+/// The direct form of the expression, if it has one. It fails only where a request for memory was refused.
+pub fn direct_form_of(
+    alloc: Global,
+    expr: &Expr,
+    steps: &mut Steps,
+) -> Result<Option<DirectForm>, AllocError>
+    ensures form { IfOk result (λ r. IfSome r (IsDirect expr.now)) }
     ensures cost { Takes steps.old steps.new 262172 }
 {
     is_expression(expr);
+    if expr.groups() > 0 {
+        return Ok(None);
+    }
     if let Some(form) = stretch_of(expr, steps) {
         return Ok(Some(form));
     }
@@ -85,21 +92,6 @@ fn form_of(alloc: Global, expr: &Expr, steps: &mut Steps) -> Result<Option<Direc
         Some((set, count)) => Ok(Some(DirectForm::FixedRun(set, count))),
         None => Ok(None),
     }
-}
-
-/// The direct form of the expression, if it has one. It fails only where a request for memory was refused.
-pub fn direct_form_of(
-    alloc: Global,
-    expr: &Expr,
-    steps: &mut Steps,
-) -> Result<Option<DirectForm>, AllocError>
-    ensures form { IfOk result (λ r. IfSome r (IsDirect expr.now)) }
-    ensures cost { Takes steps.old steps.new 262172 }
-{
-    if expr.groups() > 0 {
-        return Ok(None);
-    }
-    form_of(alloc, expr, steps)
 }
 
 /// The first bytes of the set from `from` on, as many as the number says.

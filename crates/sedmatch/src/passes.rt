@@ -16,14 +16,13 @@ ghost use Rattle.sedmatch.specs.Passes.{AreOwn, ArePasses, IsDesk, KeepsDesk, Ke
 use crate::Span;
 use crate::scratch::Desk;
 use crate::table_room::TableRoom;
-use sedpass::find::is_match;
 use sedpass::groups::{GroupRoom, GroupSpans, GroupTables, all_groups, decide};
 use sedpass::kept::{Kept, Subject};
 use sedpass::nodes::Prepared;
 use sedpass::rows::{Way, Work};
 use sedpass::table::Table;
 use sedre::{Expr, Steps};
-use sedtext::beginnings::{Begins, how_begins};
+use sedtext::beginnings::{Begins, how_begins, next_start};
 use sedtext::counted::Text;
 use sedtext::counted::lookups::{find_literal, sift};
 use sedtext::required::{RequiredLiteral, find_required, skip_to_literal};
@@ -176,16 +175,18 @@ fn matches_with(
     ensures cost { Takes steps.old steps.new (43 * length sought.now.prepared.arena.expr.nodes * (length text.now + 1)) }
 {
     let prepared = &sought.prepared;
-    let subject = Subject { prepared, text };
+    let Some(start) = next_start(&sought.begins, text, from, steps) else {
+        return false;
+    };
     match &sought.begins {
-        Begins::AtStart => {
-            from == 0
-                && forward_one
-                    .run(prepared, text, 0, work, steps)
-                    .end
-                    .is_some()
-        }
-        _ => is_match(subject, &sought.begins, forward_any, from, work, steps),
+        Begins::AtStart => forward_one
+            .run(prepared, text, start, work, steps)
+            .end
+            .is_some(),
+        _ => forward_any
+            .run(prepared, text, start, work, steps)
+            .end
+            .is_some(),
     }
 }
 

@@ -4,13 +4,12 @@
 //! One act goes from the row of a place and the next byte to that of the next place ([`rows`]), forwards or from the text's end.
 //! A table remembers what acts found out ([`table`], [`cells`]); a pass forwards for the whole expression is in [`forwards`]. Of a pass
 //! backwards over a region the states of all places are kept ([`kept`]); by looks into it the groups of a match are decided from its
-//! end ([`groups`]). Searches use these: [`search`], [`occurrences`] and [`find`].
+//! end ([`groups`]). Searches use these: [`search`] and [`occurrences`].
 #![tactic(auto)]
 
 pub mod arena;
 pub mod cells;
 pub mod classes;
-pub mod find;
 pub mod forwards;
 pub mod group_set;
 pub mod groups;
