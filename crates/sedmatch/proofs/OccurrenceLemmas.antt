@@ -14,7 +14,7 @@ use Rattle.sedtext.specs.Following.{LiesOn, OccursAfter, bytes_passed, next_span
 use Rattle.sedtext.specs.Matching.{leftmost_longest}
 use Rattle.sedtext.specs.Words.{row_of}
 use Rattle.sedpass.specs.Kept.{KeptRoom, SameSpace}
-use Rattle.sedpass.specs.Search.{Searched, SearchServes, owed_after_search, search_cost, SearchTakes, owed_behind}
+use Rattle.sedpass.specs.Search.{Searched, SearchServes, owed_after_search, search_cost, owed_behind}
 use Rattle.sedpass.specs.Table.{IsRoomy, IsTable, SameRoom, SameShape}
 use Rattle.sedpass.specs.declared.search.Seeking.{Seeking}
 use Rattle.sedpass.specs.declared.kept.Kept.{Kept}
@@ -26,7 +26,7 @@ use Rattle.sedpass.proofs.TableLemmas.{roomy_fewer, roomy_still}
 use Rattle.sedmatch.proofs.PassLemmas.{blocks_enough, few_looks, kept_room}
 use Rattle.sedmatch.specs.declared.occurrences.Occurrences.{Occurrences}
 use Rattle.sedmatch.specs.Passes.{IsRoomyWay, reverse_any_way}
-use Rattle.sedmatch.specs.Occurrences.{HasTable, HaveOwn, IsReverseAny, IsReady, RoomAt, RoomFor, ServesFrom, ServesIn, ServesOn, AnswersNext, owed, owed_after, owed_search}
+use Rattle.sedmatch.specs.Occurrences.{HasTable, HaveOwn, IsReverseAny, IsReady, RoomAt, RoomFor, ServesFrom, SearchTakes, ServesIn, ServesOn, AnswersNext, owed, owed_after, owed_search}
 use Rattle.sedtext.proofs.CountLemmas.{least_less, least_since}
 
 -- Lists.

@@ -99,6 +99,12 @@ abbrev pub owed_after : ℕ → ℕ → Option (ℕ × ℕ) → Occurrences → 
 owed_after m n None o = 0
 owed_after m n (Some f) o = owed m n (Some f.1) o
 
+-- the steps in which an occurrence is sought from a place on: in the square of the text's length at most, and one at least for each
+-- byte from that place on up to its end
+pub record SearchTakes (m n from before after : ℕ) (r : Option (ℕ × ℕ)) : Type 0 where
+  pub once : Takes before after (64 * m * m * (n + 1) * (n + 1))
+  pub counts : IfSome r (λ f. TakesAtLeast before after (f.1 - from))
+
 -- what one call answers: the next occurrence after the last one; what is kept serves on, and pays for the steps
 pub record AnswersNext (e : WrittenExpression) (w : List ℕ) (last : Option ℕ) (old new : Occurrences) (before after : ℕ) (r : Option (ℕ × ℕ)) : Type 0 where
   pub next : r ≡ next_span (leftmost_longest (expression_tree e) w) (length w) last

@@ -1,14 +1,14 @@
 //! All occurrences in one text, one after another.
-ghost use Rattle.std.specs.Prelude.{◌≡◌, ℕ, List, false, ◌+◌, ◌-◌, ◌*◌, ◌/◌, ◌^◌, ◌<◌, ◌≤◌, length, IfOk, IfSome, IsTrue, slice_get, Some};
+ghost use Rattle.std.specs.Prelude.{◌≡◌, ℕ, List, Option, false, if◌then◌else◌, ◌+◌, ◌-◌, ◌*◌, ◌/◌, ◌^◌, ◌<◌, ◌≤◌, length, IfOk, IfSome, IsTrue, slice_get, Some};
 ghost use Rattle.std.specs.Option.{unwrap_or};
 ghost use Rattle.sedre.specs.Tree.{WrittenExpression, expression_tree};
 ghost use Rattle.sedtext.specs.Costs.{CostsWithin};
 ghost use Rattle.sedtext.specs.Following.{EndsWithin, OccursAfter, next_span};
-ghost use Rattle.sedtext.specs.Matching.{leftmost_longest};
-ghost use Rattle.sedpass.specs.Search.{MaySearch, Searched, owed_after_search, SearchTakes, owed_behind};
+ghost use Rattle.sedtext.specs.Matching.{leftmost_longest, unless_null_at};
+ghost use Rattle.sedpass.specs.Search.{MaySearch, Searched, owed_after_search, owed_behind};
 ghost use Rattle.sedpass.specs.Table.{IsForwardOne, SameShape};
 ghost use Rattle.sedpass.specs.declared.table.Table.{Table};
-ghost use Rattle.sedmatch.specs.Occurrences.{HasTable, HaveOwn, IsReverseAny, IsReady, RoomAt, RoomFor, ServesFrom, AnswersNext, owed_search};
+ghost use Rattle.sedmatch.specs.Occurrences.{HasTable, HaveOwn, IsReverseAny, IsReady, RoomAt, RoomFor, SearchTakes, ServesFrom, AnswersNext, owed_search};
 ghost use Rattle.sedmatch.specs.Passes.{IsSought};
 
 use crate::Span;
@@ -16,8 +16,7 @@ use crate::passes::{REVERSE_ANY, Sought, has_blocks};
 use crate::table_matcher::TableMatcher;
 use sedpass::kept::{Kept, Subject};
 use sedpass::nodes::Prepared;
-use sedpass::occurrences::{begin_text, next_after};
-use sedpass::search::{Seeking, next_match};
+use sedpass::search::{Seeking, begin_text, next_match};
 use sedpass::table::Table;
 use sedpass::width::width_for;
 use sedre::Steps;
@@ -185,7 +184,20 @@ impl Occurrences {
     }
 }
 
-/// The next occurrence after the one that ended at `last`, or the first one, by these tables.
+/// Whether a match is that of the null string at a place.
+pub fn is_null_at(span: Option<Span>, at: usize) -> bool
+    ensures passed { (other : Option (ℕ × ℕ)) → unless_null_at (λ (f : ℕ × ℕ). f) at span other ≡ if result then other else span }
+    ensures null { IsTrue result → span ≡ Some (at, at) }
+    ensures after { result ≡ false → IfSome span (λ f. at ≤ f.0 → f.0 ≤ f.1 → at < f.1) }
+{
+    match span {
+        None => false,
+        Some((start, end)) => start == at && end == at,
+    }
+}
+
+/// The next occurrence after the one that ended at `last`, or the first one, by these tables: a byte further where the next match is
+/// that of the null string there.
 fn next_with(
     sought: &Sought,
     text: &Text,
@@ -207,29 +219,42 @@ fn next_with(
 {
     let (prepared, begins) = (&sought.prepared, &sought.begins);
     let subject = Subject { prepared, text };
-    match last {
-        None => match skip_to_literal(&sought.required, text, 0, steps) {
-            None => None,
-            Some(start) => next_match(
-                subject,
-                begins,
-                forward_one,
-                reverse_any,
-                seeking,
-                start,
-                steps,
-            ),
-        },
-        Some(at) => next_after(
+    let Some(at) = last else {
+        let start = skip_to_literal(&sought.required, text, 0, steps)?;
+        return next_match(
             subject,
             begins,
             forward_one,
             reverse_any,
             seeking,
-            at,
+            start,
             steps,
-        ),
+        );
+    };
+    let first = next_match(
+        subject,
+        begins,
+        forward_one,
+        reverse_any,
+        seeking,
+        at,
+        steps,
+    );
+    if !is_null_at(first, at) {
+        return first;
     }
+    if at >= text.len() {
+        return None;
+    }
+    next_match(
+        subject,
+        begins,
+        forward_one,
+        reverse_any,
+        seeking,
+        at + 1,
+        steps,
+    )
 }
 
 /// The next occurrence after the one that ended at `last`, or the first one.

@@ -21,12 +21,11 @@ use crate::Span;
 use crate::direct::{
     DirectForm, direct_candidate, direct_form_of, direct_matches, direct_span, is_expression,
 };
-use crate::occurrences::{Occurrences, next_by};
+use crate::occurrences::{Occurrences, is_null_at, next_by};
 use crate::passes::{Passes, candidate_by, groups_by, matches_by, new_passes, whole_alone};
 use crate::scratch::{Desk, Scratch};
 use crate::table_room::TableRoom;
 use sedpass::nodes::Prepared;
-use sedpass::occurrences::is_null_at;
 use sedre::{Expr, Steps};
 use sedtext::counted::Text;
 use std::alloc::{AllocError, Global};

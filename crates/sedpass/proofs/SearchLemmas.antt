@@ -367,10 +367,7 @@ searched_by p w first a a' b s work tried ready forward_one shape =
       };
     }
 
--- another one may follow
-pub may_search : (p : Prepared) (w : List ℕ) (first : Begins) (a a' b b' : Table) (s s' : Seeking) → MaySearch p w first a b s → Searched p w a a' b b' s s' → MaySearch p w first a' b' s'
-may_search p w first a a' b b' s s' ready searched = record { begins = ready.begins; forward_one = searched.tables.forward_one; serves = searched.serves }
-
+-- and another one after it
 pub searched_then : (p : Prepared) (w : List ℕ) (a1 a2 a3 b1 b2 b3 : Table) (s1 s2 s3 : Seeking) → Searched p w a1 a2 b1 b2 s1 s2 → Searched p w a2 a3 b2 b3 s2 s3 → Searched p w a1 a3 b1 b3 s1 s3
 searched_then p w a1 a2 a3 b1 b2 b3 s1 s2 s3 one two = record {
   tables = record {

@@ -2,7 +2,7 @@
 -- Searches in one text, from places that don't fall: what they find, and what they may cost.
 use Rattle.std.specs.Prelude.{ℕ, max, ◌+◌, ◌-◌, ◌*◌, ◌/◌, ◌<◌, ◌≤◌, if◌then◌else◌, List, length, Option, Some, None, IfSome, IsTrue}
 use Rattle.sedre.specs.Tree.{expression_tree, Tree}
-use Rattle.sedre.specs.Steps.{Takes, TakesAtLeast}
+use Rattle.sedre.specs.Steps.{TakesAtLeast}
 use Rattle.sedtext.specs.Answer.{SpanAnswer}
 use Rattle.sedtext.specs.Costs.{CostsWithin}
 use Rattle.sedtext.specs.Beginnings.{AllBegin, NoneIn}
@@ -111,9 +111,3 @@ owed_after_search due (Some f) = due f.1
 -- and two more
 abbrev pub owed_behind : ℕ → ℕ → Seeking → ℕ → ℕ
 owed_behind m n s place = owed_seeking m n s place + 86 * m * (n + 1 - place)
-
--- the steps in which an occurrence is sought from a place on: in the square of the text's length at most, and one at least for each
--- byte from that place on up to its end
-pub record SearchTakes (m n from before after : ℕ) (r : Option (ℕ × ℕ)) : Type 0 where
-  pub once : Takes before after (64 * m * m * (n + 1) * (n + 1))
-  pub counts : IfSome r (λ f. TakesAtLeast before after (f.1 - from))

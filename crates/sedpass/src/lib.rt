@@ -4,7 +4,7 @@
 //! One act goes from the row of a place and the next byte to that of the next place ([`rows`]), forwards or from the text's end.
 //! A table remembers what acts found out ([`table`], [`cells`]); a pass forwards for the whole expression is in [`forwards`]. Of a pass
 //! backwards over a region the states of all places are kept ([`kept`]); by looks into it the groups of a match are decided from its
-//! end ([`groups`]). Searches use these: [`search`] and [`occurrences`].
+//! end ([`groups`]). Searches use these ([`search`]).
 #![tactic(auto)]
 
 pub mod arena;
@@ -15,7 +15,6 @@ pub mod group_set;
 pub mod groups;
 pub mod kept;
 pub mod nodes;
-pub mod occurrences;
 pub mod rows;
 pub mod search;
 pub mod table;

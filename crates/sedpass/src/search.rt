@@ -2,16 +2,16 @@
 //!
 //! A trial is a pass from one place at which a match can begin. Where trials went over many places that are in no match, a pass
 //! from the text's end is kept for the rest of the text: it shows where matches begin, and how far one leads.
-ghost use Rattle.std.specs.Prelude.{◌≡◌, ℕ, ◌+◌, ◌-◌, ◌*◌, ◌/◌, ◌<◌, ◌≤◌, ◌↔◌, length, IsTrue};
+ghost use Rattle.std.specs.Prelude.{◌≡◌, ℕ, false, ◌+◌, ◌-◌, ◌*◌, ◌/◌, ◌<◌, ◌≤◌, ◌↔◌, length, if◌then◌else◌, IsTrue};
 ghost use Rattle.sedtext.specs.Answer.{SpanAnswer};
 ghost use Rattle.sedtext.specs.Beginnings.{AllBegin};
 ghost use Rattle.sedtext.specs.Costs.{CostsWithin};
 ghost use Rattle.sedtext.specs.Reach.{HasSpan};
 ghost use Rattle.sedre.specs.Tree.{expression_tree};
 ghost use Rattle.sedre.specs.Steps.{Takes};
-ghost use Rattle.sedpass.specs.Table.{IsForwardOne, SameShape};
-ghost use Rattle.sedpass.specs.Kept.{IsKept, SameSpace};
-ghost use Rattle.sedpass.specs.Search.{IsNextMatch, LooksFrom, MaySearch, Searched, SearchServes, TablesStay, TrialsMade, owed_kept, owed_seeking, owed_after_search, search_cost};
+ghost use Rattle.sedpass.specs.Table.{IsForwardOne, IsTable, SameShape};
+ghost use Rattle.sedpass.specs.Kept.{IsKept, KeptRoom, SameSpace};
+ghost use Rattle.sedpass.specs.Search.{IsNextMatch, LooksFrom, MaySearch, Searched, SearchServes, TablesStay, TrialsMade, owed_behind, owed_kept, owed_seeking, owed_after_search, search_cost};
 
 use crate::kept::{Kept, Subject};
 use crate::rows::Work;
@@ -28,6 +28,23 @@ pub struct Seeking {
     pub begun: bool,
     /// How many places the trials in this text went over that are in no match.
     pub tried: usize,
+}
+
+/// Begins anew for a text: nothing was searched in it yet.
+pub fn begin_text(subject: Subject, reverse_any: &Table, seeking: &mut Seeking)
+    requires table { IsTable subject.prepared.now reverse_any.now }
+    requires room { KeptRoom (length subject.prepared.now.arena.expr.nodes) (length subject.text.now) reverse_any.now seeking.old.kept }
+    requires all_starts { IsTrue reverse_any.now.way.all_starts }
+    ensures kept { seeking.new.kept ≡ seeking.old.kept }
+    ensures begun { seeking.new.begun ≡ false }
+    ensures tried { seeking.new.tried ≡ if seeking.old.begun then length subject.entry.text.now else 0 }
+    ensures serves { SearchServes subject.entry.prepared.now subject.entry.text.now reverse_any.now seeking.new }
+    ensures owed { let m = length subject.entry.prepared.now.arena.expr.nodes in let n = length subject.entry.text.now in
+        owed_behind m n seeking.new 0 + 43 * m ≤ 308 * m * (n + 1) }
+{
+    // what was left to a pass in the text before is left to it here after one trial
+    seeking.tried = if seeking.begun { subject.text.len() } else { 0 };
+    seeking.begun = false;
 }
 
 /// What trials found.

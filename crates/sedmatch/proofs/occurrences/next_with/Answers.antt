@@ -1,114 +1,127 @@
-use Rattle.std.proofs.Common.{Some, None, length, refl, arith}
+use Rattle.std.proofs.Common.{ℕ, ◌+◌, ◌<◌, ◌≤◌, ◌∙◌, true, false, Option, Some, None, length, refl, arith, nat_lt, if◌then◌else◌}
 use Rattle.sedre.specs.Tree.{expression_tree}
 use Rattle.sedtext.specs.Answer.{SpanAnswer}
+use Rattle.sedtext.specs.Matching.{leftmost_longest}
 use Rattle.sedtext.proofs.FollowingLemmas.{if_occurs}
 use Rattle.sedpass.specs.Search.{owed_seeking}
-use Rattle.sedpass.proofs.OccurrenceLemmas.{answer_found, answer_lies, search_falls}
-use Rattle.sedpass.proofs.SearchLemmas.{later_answer, looks_later, looks_to_end}
+use Rattle.sedpass.proofs.OccurrenceLemmas.{answer_found, answer_lies, behind_paid, both_paid, both_square, further_found, further_none, lies_behind, lies_further, one_square, passed_by, search_falls}
+use Rattle.sedpass.proofs.SearchLemmas.{later_answer, looks_later, looks_past, looks_to_end, searched_then}
 use Rattle.sedmatch.proofs.OccurrenceLemmas.{first_paid, first_square, lies_first}
 use Rattle.sedmatch.proofs.occurrences.next_with.Goals as goal
 
-pub next_match-requires-clause-from : goal.next_match-requires-clause-from
-next_match-requires-clause-from c = (c.in-Some-skip_to_literal.ensures.narrowed (expression_tree c.args.sought.now.prepared.arena.expr) c.requires.sought.required).1
-
-pub returns-in-None-skip_to_literal-clause-next : goal.returns-in-None-skip_to_literal-clause-next
-returns-in-None-skip_to_literal-clause-next c =
+pub returns-in_err-start-clause-next : goal.returns-in_err-start-clause-next
+returns-in_err-start-clause-next c =
     let e = expression_tree c.args.sought.now.prepared.arena.expr in
-    rw c.in-None.is (answer_found e c.args.text.now 0 None (omega arith) (tt, c.in-None-skip_to_literal.ensures.narrowed e c.requires.sought.required, tt))
-
-pub returns-in-None-skip_to_literal-clause-cost : goal.returns-in-None-skip_to_literal-clause-cost
-returns-in-None-skip_to_literal-clause-cost c = let looks = c.skip_to_literal.ensures.cost in rw c.in-None.is (looks.0, omega (arith, looks.1))
-
-pub returns-in-None-skip_to_literal-clause-looks : goal.returns-in-None-skip_to_literal-clause-looks
-returns-in-None-skip_to_literal-clause-looks c =
-    let a = c.skip_to_literal.new.steps in
-    let looks = c.skip_to_literal.ensures.cost in
-    let last = c.args.sought.now.prepared.is_prepared.last in
-    let square = first_square (length c.args.sought.now.prepared.arena.expr.nodes) (length c.args.text.now) 0 c.args.steps.now a a (omega (arith, last)) (omega (arith, looks.1)) (omega arith) in
-    rw c.in-None.is record { once = (looks.0, square); counts = tt }
+    rw (c.in_default.is, c.from_residual.ensures) (answer_found e c.args.text.now 0 None (omega arith) (tt, c.in_err-start.ensures.narrowed e c.requires.sought.required, tt))
 
 first : (c : goal.After-next_match) → SpanAnswer (expression_tree c.args.sought.now.prepared.arena.expr) c.args.text.now 0 c.next_match.result
 first c =
     let e = expression_tree c.args.sought.now.prepared.arena.expr in
-    let place = c.in-Some-skip_to_literal.ensures.narrowed e c.requires.sought.required in
-    later_answer e c.args.text.now 0 c.in-Some-skip_to_literal.start c.next_match.result place.0 place.2 c.next_match.ensures.answer
+    let place = c.in_ok-start.ensures.narrowed e c.requires.sought.required in
+    later_answer e c.args.text.now 0 c.in_ok-start.start c.next_match.result place.0 place.2 c.next_match.ensures.answer
 
-pub returns-in-Some-skip_to_literal-clause-next : goal.returns-in-Some-skip_to_literal-clause-next
-returns-in-Some-skip_to_literal-clause-next c =
-    rw c.in-None.is (answer_found (expression_tree c.args.sought.now.prepared.arena.expr) c.args.text.now 0 c.next_match.result (omega arith) (first c))
-
-pub returns-in-Some-skip_to_literal-clause-occurs : goal.returns-in-Some-skip_to_literal-clause-occurs
-returns-in-Some-skip_to_literal-clause-occurs c =
+pub returns-in_default : goal.returns-in_default
+returns-in_default c =
     let e = expression_tree c.args.sought.now.prepared.arena.expr in
-    let w = c.args.text.now in
-    let r = c.next_match.result in
-    rw c.in-None.is (if_occurs e w None r tt (answer_found e w 0 r (omega arith) (first c)) (lies_first (length w) r (answer_lies e w 0 r (first c))))
-
-pub returns-in-Some-clause-occurs : goal.returns-in-Some-clause-occurs
-returns-in-Some-clause-occurs c =
-    let e = expression_tree c.args.sought.now.prepared.arena.expr in
-    let within = rw c.in-Some.is at c.requires.last in
-    rw c.in-Some.is (if_occurs e c.args.text.now (Some c.in-Some.at) c.next_after.result within c.next_after.ensures.next c.next_after.ensures.lies)
-
-pub returns-in-Some-skip_to_literal-clause-cost : goal.returns-in-Some-skip_to_literal-clause-cost
-returns-in-Some-skip_to_literal-clause-cost c =
     let m = length c.args.sought.now.prepared.arena.expr.nodes in
-    let n = length c.args.text.now in
-    let start = c.in-Some-skip_to_literal.start in
-    let looks = c.skip_to_literal.ensures.cost in
-    let pays = c.next_match.ensures.cost in
-    let less = search_falls m n c.args.seeking.now 0 start (omega arith) in
-    rw c.in-None.is (
-      omega (arith, looks.0, pays.0),
-      first_paid m n start (owed_seeking m n c.args.seeking.now start) (owed_seeking m n c.args.seeking.now 0) c.args.steps.now c.skip_to_literal.new.steps c.next_match.new.steps (owed_seeking m n c.next_match.new.seeking)
-          c.next_match.result less (omega (arith, looks.1)) pays.1,
-    )
-
-pub returns-in-Some-skip_to_literal-clause-looks : goal.returns-in-Some-skip_to_literal-clause-looks
-returns-in-Some-skip_to_literal-clause-looks c =
+    let w = c.args.text.now in
+    let n = length w in
+    let old = c.args.seeking.now in
     let s = c.args.steps.now in
     let a = c.skip_to_literal.new.steps in
     let t = c.next_match.new.steps in
-    let start = c.in-Some-skip_to_literal.start in
-    let last = c.args.sought.now.prepared.is_prepared.last in
-    let looks = c.skip_to_literal.ensures.cost in
-    let each = c.next_match.ensures.each in
-    rw c.in-None.is record {
-      once = (omega (arith, looks.0, each.0), first_square (length c.args.sought.now.prepared.arena.expr.nodes) (length c.args.text.now) start s a t (omega (arith, last)) (omega (arith, looks.1)) each.1);
-      counts = looks_to_end 0 s t c.next_match.result (looks_later 0 start s a t c.next_match.result c.in-Some-skip_to_literal.ensures.counts c.next_match.ensures.counts);
+    let start = c.in_ok-start.start in
+    let r = c.next_match.result in
+    let skipped = c.in_ok-start.ensures in
+    let done = c.next_match.ensures in
+    let next = answer_found e w 0 r (omega arith) (first c) in
+    rw c.in_default.is record {
+      searched = done.searched;
+      next = next;
+      occurs = if_occurs e w None r tt next (lies_first n r (answer_lies e w 0 r (first c)));
+      cost = (
+        omega (arith, skipped.cost.0, done.cost.0),
+        first_paid m n start (owed_seeking m n old start) (owed_seeking m n old 0) s a t (owed_seeking m n c.next_match.new.seeking) r (search_falls m n old 0 start (omega arith)) (omega (arith, skipped.cost.1)) done.cost.1,
+      );
+      looks = record {
+        once = (omega (arith, skipped.cost.0, done.each.0), first_square m n start s a t (omega (arith, c.args.sought.now.prepared.is_prepared.last)) (omega (arith, skipped.cost.1)) done.each.1);
+        counts = looks_to_end 0 s t r (looks_later 0 start s a t r skipped.counts done.counts);
+      };
     }
 
-pub returns-in-Some-clause-looks : goal.returns-in-Some-clause-looks
-returns-in-Some-clause-looks c = rw c.in-Some.is c.next_after.ensures.looks
+pub returns-then-not-is_null_at : goal.returns-then-not-is_null_at
+returns-then-not-is_null_at c =
+    let e = expression_tree c.args.sought.now.prepared.arena.expr in
+    let m = length c.args.sought.now.prepared.arena.expr.nodes in
+    let w = c.args.text.now in
+    let n = length w in
+    let at = c.in-Some.at in
+    let within : at ≤ n = rw c.in-Some.is at c.requires.last in
+    let r = c.next_match-first.result in
+    let one = c.next_match-first.ensures in
+    let other : Option (ℕ × ℕ) = if nat_lt at n then leftmost_longest e w (at + 1) else None in
+    let lies = lies_behind n at r (answer_lies e w at r one.answer) (c.is_null_at.ensures.after c.if-not-is_null_at.true) in
+    let most = one_square m n at (omega (arith, c.args.sought.now.prepared.is_prepared.last)) in
+    let next = passed_by at r (leftmost_longest e w at) other r c.is_null_at.result false (answer_found e w at r within one.answer) (c.is_null_at.ensures.passed other) c.if-not-is_null_at.true refl in
+    rw c.in-Some.is record {
+      searched = one.searched;
+      next = next;
+      occurs = if_occurs e w (Some at) r within next lies;
+      cost = (one.cost.0, behind_paid m n at (owed_seeking m n c.args.seeking.now at) c.args.steps.now c.next_match-first.new.steps (owed_seeking m n c.next_match-first.new.seeking) r within lies (let pays = one.cost.1 in omega (arith, pays)));
+      looks = record { once = (one.each.0, omega (arith, one.each.1, most)); counts = looks_to_end at c.args.steps.now c.next_match-first.new.steps r one.counts };
+    }
 
-pub next_match-requires-clause-ready : goal.next_match-requires-clause-ready
-next_match-requires-clause-ready c = c.requires.ready
+pub returns-then-at-len : goal.returns-then-at-len
+returns-then-at-len c =
+    let e = expression_tree c.args.sought.now.prepared.arena.expr in
+    let m = length c.args.sought.now.prepared.arena.expr.nodes in
+    let w = c.args.text.now in
+    let n = length w in
+    let at = c.in-Some.at in
+    let within : at ≤ n = rw c.in-Some.is at c.requires.last in
+    let r = c.next_match-first.result in
+    let one = c.next_match-first.ensures in
+    let other : Option (ℕ × ℕ) = if nat_lt at n then leftmost_longest e w (at + 1) else None in
+    let most = one_square m n at (omega (arith, c.args.sought.now.prepared.is_prepared.last)) in
+    rw c.in-Some.is record {
+      searched = one.searched;
+      next = passed_by at r (leftmost_longest e w at) other None c.is_null_at.result true (answer_found e w at r within one.answer) (c.is_null_at.ensures.passed other) c.if-not-is_null_at.false
+          (further_none n at (leftmost_longest e w (at + 1)) (let end = c.if-at-len.true in let is = c.len.ensures.is in omega (arith, end, is)));
+      occurs = tt;
+      cost = (one.cost.0, behind_paid m n at (owed_seeking m n c.args.seeking.now at) c.args.steps.now c.next_match-first.new.steps (owed_seeking m n c.next_match-first.new.seeking) None within tt (let pays = one.cost.1 in omega (arith, pays)));
+      looks = record { once = (one.each.0, omega (arith, one.each.1, most)); counts = tt };
+    }
 
-pub next_after-requires-clause-at : goal.next_after-requires-clause-at
-next_after-requires-clause-at c = rw c.in-Some.is at c.requires.last
-
-pub next_after-requires-clause-ready : goal.next_after-requires-clause-ready
-next_after-requires-clause-ready c = c.requires.ready
-
-pub returns-in-None-skip_to_literal-clause-searched : goal.returns-in-None-skip_to_literal-clause-searched
-returns-in-None-skip_to_literal-clause-searched c = record {
-  tables = record {
-    forward_one = c.requires.ready.forward_one;
-    forward_one_shape = (refl, refl, refl, refl, refl);
-    reverse_any_shape = (refl, refl, refl, refl, refl);
-    space = record { places = refl; edges = refl; marks = λ q. refl };
-  };
-  serves = c.requires.ready.serves;
-}
-
-pub returns-in-Some-skip_to_literal-clause-searched : goal.returns-in-Some-skip_to_literal-clause-searched
-returns-in-Some-skip_to_literal-clause-searched c = c.next_match.ensures.searched
-
-pub returns-in-Some-clause-searched : goal.returns-in-Some-clause-searched
-returns-in-Some-clause-searched c = c.next_after.ensures.searched
-
-pub returns-in-Some-clause-next : goal.returns-in-Some-clause-next
-returns-in-Some-clause-next c = rw c.in-Some.is c.next_after.ensures.next
-
-pub returns-in-Some-clause-cost : goal.returns-in-Some-clause-cost
-returns-in-Some-clause-cost c = rw c.in-Some.is c.next_after.ensures.cost
+pub returns : goal.returns
+returns c =
+    let p = c.args.sought.now.prepared in
+    let e = expression_tree p.arena.expr in
+    let m = length p.arena.expr.nodes in
+    let w = c.args.text.now in
+    let n = length w in
+    let at = c.in-Some.at in
+    let within : at ≤ n = rw c.in-Some.is at c.requires.last in
+    let r = c.next_match-2.result in
+    let one = c.next_match-first.ensures in
+    let two = c.next_match-2.ensures in
+    let old = c.args.seeking.now in
+    let mid = c.next_match-first.new.seeking in
+    let new = c.next_match-2.new.seeking in
+    let on : at < n = (let still = c.if-at-len.false in let is = c.len.ensures.is in omega (arith, still, is)) in
+    let other : Option (ℕ × ℕ) = if nat_lt at n then leftmost_longest e w (at + 1) else None in
+    let lies = lies_further e w at r two.answer in
+    let both = both_paid m at (owed_seeking m n old at) (owed_seeking m n mid (at + 1)) c.args.steps.now c.next_match-first.new.steps c.next_match-2.new.steps (owed_seeking m n mid) (owed_seeking m n new)
+    c.next_match-first.result r (c.is_null_at.ensures.null c.if-not-is_null_at.false) (search_falls m n mid at (at + 1) (omega arith)) one.cost.1 two.cost.1 in
+    let most = both_square m n at (omega (arith, p.is_prepared.last)) on in
+    let next = passed_by at c.next_match-first.result (leftmost_longest e w at) other r c.is_null_at.result true (answer_found e w at c.next_match-first.result within one.answer) (c.is_null_at.ensures.passed other) c.if-not-is_null_at.false
+    (answer_found e w (at + 1) r (omega (arith, on)) two.answer ∙ further_found n at (leftmost_longest e w (at + 1)) on) in
+    rw c.in-Some.is record {
+      searched = searched_then p w c.args.forward_one.now c.next_match-first.new.forward_one c.next_match-2.new.forward_one c.args.reverse_any.now c.next_match-first.new.reverse_any c.next_match-2.new.reverse_any old mid new one.searched two.searched;
+      next = next;
+      occurs = if_occurs e w (Some at) r within next lies;
+      cost = (omega (arith, one.cost.0, two.cost.0), behind_paid m n at (owed_seeking m n old at) c.args.steps.now c.next_match-2.new.steps (owed_seeking m n new) r within lies both);
+      looks = record {
+        once = (omega (arith, one.each.0, two.each.0), omega (arith, one.each.1, two.each.1, most));
+        counts = looks_past at c.args.steps.now c.next_match-first.new.steps c.next_match-2.new.steps r one.each.0 two.counts;
+      };
+    }

@@ -1,6 +1,6 @@
 use Rattle.std.proofs.Common.{false, length, refl}
 use Rattle.sedpass.proofs.OccurrenceLemmas.{begun_owed}
-use Rattle.sedpass.proofs.occurrences.begin_text.Goals as goal
+use Rattle.sedpass.proofs.search.begin_text.Goals as goal
 
 pub returns-clause-owed : goal.returns-clause-owed
 returns-clause-owed c =
