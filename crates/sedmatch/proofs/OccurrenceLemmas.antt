@@ -67,7 +67,6 @@ module _ {A : Type 0} where
 pub kept_still : (text nodes : ℕ) (kept kept' : Kept) (t t' : Table) → KeptRoom nodes text t kept → SameRoom t t' → SameSpace kept kept' → KeptRoom nodes text t' kept'
 kept_still text nodes kept kept' t t' has room same = record {
   mirrored = ap (λ v. v.mirrored) room.0 ∙ has.mirrored;
-  keeps = ap (λ v. v.keeps) room.0 ∙ has.keeps;
   places = (let old = has.places in let is = same.places in omega (arith, old, is));
   blocks = λ b low. let old = has.blocks b (subst (λ v. b * (v - 1) ≤ text) room.1 low) in let long = same.edges in omega (arith, old, long);
   marks = λ q low. let long = same.edges in let old = has.marks q (omega (arith, low, long)) in let is = same.marks q in omega (arith, old, is);

@@ -160,7 +160,6 @@ pub kept_room : (m n : ℕ) (t : Table) (k : Kept) → t.way ≡ reverse_any_way
     KeptRoom m n t k
 kept_room m n t k way places enough marks = record {
   mirrored = ap (λ v. v.mirrored) way;
-  keeps = ap (λ v. v.keeps) way;
   places = places;
   blocks = λ b low. blocks_fit b (t.room - 1) n (length k.edges) low enough;
   marks = marks;

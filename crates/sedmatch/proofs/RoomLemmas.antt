@@ -16,7 +16,6 @@ room_within text more es o short h = record {
           r.shared.1,
           record {
             mirrored = kept.mirrored;
-            keeps = kept.keeps;
             places = let all = kept.places in omega (arith, all, short);
             blocks = λ b low. kept.blocks b (omega (arith, low, short));
             marks = kept.marks;

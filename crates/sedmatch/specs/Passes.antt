@@ -25,11 +25,11 @@ use Rattle.sedmatch.specs.declared.table_matcher.SearchMethod.TheVariants.{Direc
 
 -- the way of passes forwards in which every place is a start
 abbrev pub forward_any_way : Way
-forward_any_way = record { mirrored = false; all_starts = true; keeps = false }
+forward_any_way = record { mirrored = false; all_starts = true }
 
 -- the way of passes from the text's end, of which each place's state is kept
 abbrev pub reverse_any_way : Way
-reverse_any_way = record { mirrored = true; all_starts = true; keeps = true }
+reverse_any_way = record { mirrored = true; all_starts = true }
 
 -- what was found out is right for the expression
 pub record IsSought (e : WrittenExpression) (s : Sought) : Type 0 where

@@ -61,14 +61,12 @@ pub struct Passes {
 pub const FORWARD_ANY: Way = Way {
     mirrored: false,
     all_starts: true,
-    keeps: false,
 };
 
 /// The way of passes from the text's end, of which each place's state is kept.
 pub const REVERSE_ANY: Way = Way {
     mirrored: true,
     all_starts: true,
-    keeps: true,
 };
 
 /// How many tables an expression has: three here, and `reverse_any` for all occurrences in a text.

@@ -319,7 +319,6 @@ has_desk s t r text blocks nodes tables space short cut few = record {
   reverse_one = tables.reverse_one;
   places = record {
     mirrored = ap (λ v. v.mirrored) tables.ways.reverse_one;
-    keeps = ap (λ v. v.keeps) tables.ways.reverse_one;
     places = (let h = space.places in omega (arith, h, short));
     blocks = λ b low.
         ⊎_elim
@@ -333,7 +332,6 @@ has_desk s t r text blocks nodes tables space short cut few = record {
     table = tables.forward_one;
     forwards = ap (λ v. v.mirrored) tables.ways.forward_one;
     single = ap (λ v. v.all_starts) tables.ways.forward_one;
-    brief = ap (λ v. v.keeps) tables.ways.forward_one;
   };
 }
 

@@ -75,7 +75,7 @@ swept_end false true false false e s is = absurd (true≢false (sym is))
 
 -- At a place: a code of its state.
 
-module _ (p : Prepared) (t : Table) (w : List ℕ) (start place code o : ℕ) (end : Option ℕ) (table : IsTable p t) (keeps : t.way.keeps ≡ false) (after : start ≤ place) (within : place ≤ length w)
+module _ (p : Prepared) (t : Table) (w : List ℕ) (start place code o : ℕ) (end : Option ℕ) (table : IsTable p t) (keeps : t.way.mirrored ≡ false) (after : start ≤ place) (within : place ≤ length w)
     (shows : (b : Bool) (u : ℕ) → u < 2147483647 → code ≡ code_of b u → o ≡ u) (n : NamesState (length p.arena.expr.nodes) t (Arrives p t.way w start place) code) (last : EndsBelow p t.way w start place end) where
   abbrev N : List Node
   N = nodes_of t.way p.arena.expr
@@ -100,7 +100,7 @@ module _ (p : Prepared) (t : Table) (w : List ℕ) (start place code o : ℕ) (e
 
   ends_here : IsTrue here.flags.ends ↔ SomeSpan N w p.root S place
   ends_here =
-      let law = row_root N w here.root place S t.way.keeps here.entered here.ended arena arrived.1 in (
+      let law = row_root N w here.root place S t.way.mirrored here.entered here.ended arena arrived.1 in (
         λ h. subst (λ r. SomeSpan N w r S place) arrived.0 (law.0 (sym is_shown.0 ∙ h)),
         λ h. is_shown.0 ∙ law.1 (subst (λ r. SomeSpan N w r S place) (sym arrived.0) h),
       )
@@ -112,7 +112,7 @@ module _ (p : Prepared) (t : Table) (w : List ℕ) (start place code o : ℕ) (e
   -- where no leaf is entered no match goes on
   dead_end : (noted : Option ℕ) → t.way.all_starts ≡ false → IsTrue here.flags.dead → EndsBelow p t.way w start (place + 1) noted → IsPassEnd t.way.all_starts N w p.root S noted
   dead_end noted single is below =
-      let none = row_empty N w here.root place S t.way.keeps here.entered here.ended arrived.1 (is_shown.1.0 is) in
+      let none = row_empty N w here.root place S t.way.mirrored here.entered here.ended arrived.1 (is_shown.1.0 is) in
       let inside : p.root < length N = omega (arith, p.is_prepared.last, seen-length t.way.mirrored p.arena.expr) in
       all_below N w p.root S t.way.all_starts (place + 1) noted
       (λ k late some.
@@ -126,7 +126,7 @@ module _ (p : Prepared) (t : Table) (w : List ℕ) (start place code o : ℕ) (e
     after = after;
     within = within;
     arrived = arrived;
-    last = no_end_here (no_end t.way.keeps t.way.all_starts here.flags.ends here.flags.dead keeps (plain_code (stops t.way here.flags) o code code_is (names_small p t table (Arrives p t.way w start place) code o n shows) high));
+    last = no_end_here (no_end t.way.mirrored t.way.all_starts here.flags.ends here.flags.dead keeps (plain_code (stops t.way here.flags) o code code_is (names_small p t table (Arrives p t.way w start place) code o n shows) high));
     over = λ h. absurd (true≢false (sym h));
   }
 
@@ -148,7 +148,7 @@ module _ (p : Prepared) (t : Table) (w : List ℕ) (start place code o : ℕ) (e
         last = all;
         over = λ h. ⊎_elim
             (λ (all_starts : IsTrue t.way.all_starts).
-            let ended = swept_end t.way.keeps t.way.all_starts here.flags.ends here.flags.dead keeps all_starts stop in
+            let ended = swept_end t.way.mirrored t.way.all_starts here.flags.ends here.flags.dead keeps all_starts stop in
             subst (IsPassEnd t.way.all_starts N w p.root S) (ends (same_ends ∙ ended)) (ends_here.0 ended, λ single. absurd (both_ways t.way.all_starts single all_starts)))
             (λ (d : (t.way.all_starts ≡ false) × IsTrue flags.dead). dead_end noted d.0 (sym (ap (λ (f : StateFlags). f.dead) same) ∙ d.1) all)
             (why h);
@@ -160,7 +160,7 @@ pub arrives_next : (p : Prepared) (way : Way) (w : List ℕ) (start place byte :
     Arrives p way w start place a → LeadsOn (nodes_of way p.arena.expr) way a byte edge b → Arrives p way w start (place + 1) b
 arrives_next p way w start place byte edge a b after is inside edges here leads = (
   leads.0 ∙ here.0,
-  subst (λ r. StateAt (nodes_of way p.arena.expr) w (starts_of way.all_starts start w) way.keeps (place + 1) (record { root = r; entered = b.entered; ended = b.ended; flags = b.flags })) (sym leads.0)
+  subst (λ r. StateAt (nodes_of way p.arena.expr) w (starts_of way.all_starts start w) way.mirrored (place + 1) (record { root = r; entered = b.entered; ended = b.ended; flags = b.flags })) (sym leads.0)
       (leads.1 w (starts_of way.all_starts start w) place (λ x m set. ap (λ o. byte_is_in o m) is) edges (next_start way.all_starts start w place after inside) here.1),
 )
 
@@ -199,7 +199,7 @@ arrives_first p way w from kind a mirrored low begin end begins =
     let s = starts_of way.all_starts from w in
     let place : IsPlace w from (at_begin way.mirrored kind) (at_edge way.mirrored kind) = subst (λ b. IsPlace w from (at_begin b kind) (at_edge b kind)) (sym mirrored) (begin, end) in (
       begins.0,
-      subst (λ r. RowOfPlace (nodes_of way p.arena.expr) w r s way.keeps from a.entered a.ended) (sym begins.0) (begins.1 w s place (starts_order way.all_starts from w low)),
+      subst (λ r. RowOfPlace (nodes_of way p.arena.expr) w r s way.mirrored from a.entered a.ended) (sym begins.0) (begins.1 w s place (starts_order way.all_starts from w low)),
     )
 
 -- The end of a pass.
@@ -278,7 +278,6 @@ forward_one_still p a b is table shape = record {
   table = table;
   forwards = ap (λ v. v.mirrored) shape.0 ∙ is.forwards;
   single = ap (λ v. v.all_starts) shape.0 ∙ is.single;
-  brief = ap (λ v. v.keeps) shape.0 ∙ is.brief;
 }
 
 -- and so is one in which every place is a start
@@ -287,7 +286,6 @@ forward_any_still p a b is table shape = record {
   table = table;
   forwards = ap (λ v. v.mirrored) shape.0 ∙ is.forwards;
   all_starts = ap (λ v. v.all_starts) shape.0 ∙ is.all_starts;
-  brief = ap (λ v. v.keeps) shape.0 ∙ is.brief;
 }
 
 -- What is passed over.

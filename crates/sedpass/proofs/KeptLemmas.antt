@@ -112,9 +112,9 @@ live_other p w t root end states place s q after live =
 pub kept_down : (p : Prepared) (w : List ℕ) (way : Way) (root end q byte : ℕ) (edge : Bool) (a b : PassState) → q < end → end ≤ length w → slice_get w q ≡ Some byte → (IsTrue edge ↔ (q ≡ 0)) →
     LeadsOn (seen way.mirrored p.arena.expr).nodes way a byte edge b → KeptAt p w way root end (q + 1) a → KeptAt p w way root end q b
 kept_down p w way root end q byte edge a b before within got last leads at =
-    let leads-root : RowLeadsTo (seen way.mirrored p.arena.expr).nodes root way.keeps a.entered a.ended (Some byte) edge way.all_starts b.entered b.ended =
-    subst (λ r. RowLeadsTo (seen way.mirrored p.arena.expr).nodes r way.keeps a.entered a.ended (Some byte) edge way.all_starts b.entered b.ended) at.0 leads.1 in
-    (leads.0 ∙ at.0, kept_step p.arena.expr w way.mirrored way.all_starts way.keeps edge root end q byte a.entered a.ended b.entered b.ended before within got last leads-root at.1)
+    let leads-root : RowLeadsTo (seen way.mirrored p.arena.expr).nodes root way.mirrored a.entered a.ended (Some byte) edge way.all_starts b.entered b.ended =
+    subst (λ r. RowLeadsTo (seen way.mirrored p.arena.expr).nodes r way.mirrored a.entered a.ended (Some byte) edge way.all_starts b.entered b.ended) at.0 leads.1 in
+    (leads.0 ∙ at.0, kept_step p.arena.expr w way.mirrored way.all_starts way.mirrored edge root end q byte a.entered a.ended b.entered b.ended before within got last leads-root at.1)
 
 -- Going back by one byte.
 
@@ -126,7 +126,6 @@ region_kept p w t after k other shape table places long edges root end within re
   table = table;
   room = record {
     mirrored = subst (λ (v : Way). IsTrue v.mirrored) (sym shape.0) region.room.mirrored;
-    keeps = subst (λ (v : Way). IsTrue v.keeps) (sym shape.0) region.room.keeps;
     places = rw places region.room.places;
     blocks = λ b low. rw edges (region.room.blocks b (subst (λ r. b * (r - 1) ≤ length w) shape.1 low));
     marks = λ q low. subst (λ (rows : List (List Bool)). length p.arena.expr.nodes ≤ length (row_of rows q)) (sym edges) (region.room.marks q (subst (λ (rows : List (List Bool)). q < length rows) edges low));
@@ -148,7 +147,6 @@ passes_with p w t k edges work place offset long rows passes =
         table = region.table;
         room = record {
           mirrored = region.room.mirrored;
-          keeps = region.room.keeps;
           places = region.room.places;
           blocks = λ b low. rw long (region.room.blocks b low);
           marks = λ q low. rw (rows q) (region.room.marks q (omega (arith, low, long)));
@@ -371,7 +369,7 @@ pub first_at : (p : Prepared) (w : List ℕ) (t : Table) (k : Kept) (way : Way) 
 first_at p w t k way place kind a region same at begins ends first =
     rw (same, at) (
       first.0,
-      kept_first p.arena.expr w t.way.mirrored t.way.all_starts t.way.keeps k.region.root k.region.end kind a.entered a.ended region.room.mirrored region.inside region.whole
+      kept_first p.arena.expr w t.way.mirrored t.way.all_starts t.way.mirrored k.region.root k.region.end kind a.entered a.ended region.room.mirrored region.inside region.whole
           (subst (λ e. IsTrue kind.begin ↔ (e ≡ 0)) at begins) (subst (λ e. IsTrue kind.end ↔ (e ≡ length w)) at ends) first.1,
     )
 
@@ -405,7 +403,7 @@ kept_mark p w t k x q s mark kept inside above before read is =
     let bit : bits m (row_of t.ends s) x ≡ mark = bits_here m (row_of t.ends s) x inside ∙ sym is in
     let there : q ≤ length w = (let h = region.within in let g = region.inside in omega (arith, h, g, before)) in
     subst (λ b. IsTrue b ↔ ReachesEnd p.arena.expr.nodes w k.region.root (ends_shown t.way.all_starts (length w) k.region.end) x q) bit
-    (kept_reaches p.arena.expr w t.way.mirrored t.way.all_starts t.way.keeps k.region.root k.region.end q x (bits m (row_of t.leaves s)) (bits m (row_of t.ends s)) region.table.expr.arena region.room.mirrored region.room.keeps there region.inside at.1)
+    (kept_reaches p.arena.expr w t.way.mirrored t.way.all_starts t.way.mirrored k.region.root k.region.end q x (bits m (row_of t.leaves s)) (bits m (row_of t.ends s)) region.table.expr.arena region.room.mirrored region.room.mirrored there region.inside at.1)
 
 -- and its row there
 pub kept_row : (p : Prepared) (w : List ℕ) (t : Table) (k : Kept) (q s : ℕ) → IsKept p w t k → k.region.from ≤ q → q < k.region.to → s ≡ slice_index_or k.states.items q s →
@@ -507,9 +505,9 @@ meet_read p w t forward_one k a i place offset n front_state s met kept above be
     let one : IsTrue met ↔ ((c : ℕ) × IsTrue (front.entered c) × IsTrue (behind.ended c)) = bits_meet m (row_of forward_one.leaves (offset / 2 ^ forward_one.layout.shift)) (row_of t.ends s) met
     (subst (λ v. IsTrue met ↔ ((c : ℕ) × (c < m) × IsTrue (slice_index_or (row_of forward_one.leaves v) c false) × IsTrue (slice_index_or (row_of t.ends s) c false))) front_is
     (subst (λ v. IsTrue met ↔ ((c : ℕ) × (c < v) × IsTrue (slice_index_or (row_of forward_one.leaves front_state) c false) × IsTrue (slice_index_or (row_of t.ends s) c false))) count shows)) in
-    let row : RowOfPlace p.arena.expr.nodes w a (one_start i) forward_one.way.keeps place front.entered front.ended = subst (λ r. RowOfPlace p.arena.expr.nodes w r (one_start i) forward_one.way.keeps place front.entered front.ended) follows.0 follows.1 in
-    let two = kept_meets p.arena.expr w t.way.mirrored t.way.all_starts t.way.keeps forward_one.way.keeps k.region.root a i k.region.end place front.entered front.ended behind.entered behind.ended
-    region.table.expr.arena region.room.mirrored region.room.keeps there region.inside row at.1 in
+    let row : RowOfPlace p.arena.expr.nodes w a (one_start i) forward_one.way.mirrored place front.entered front.ended = subst (λ r. RowOfPlace p.arena.expr.nodes w r (one_start i) forward_one.way.mirrored place front.entered front.ended) follows.0 follows.1 in
+    let two = kept_meets p.arena.expr w t.way.mirrored t.way.all_starts t.way.mirrored forward_one.way.mirrored k.region.root a i k.region.end place front.entered front.ended behind.entered behind.ended
+    region.table.expr.arena region.room.mirrored region.room.mirrored there region.inside row at.1 in
     (λ h. two.0 (one.0 h), λ h. one.1 (two.1 h))
 
 -- a place more
@@ -550,10 +548,10 @@ follows_next p w t after a i place byte offset next edge front one shape from go
     let old = state_of m t (offset / 2 ^ t.layout.shift) in
     let new = state_of m after (next / 2 ^ after.layout.shift) in
     let root : new.root ≡ old.root = leads.0 in
-    let row : RowOfPlace p.arena.expr.nodes w old.root (one_start i) t.way.keeps (place + 1) new.entered new.ended =
-    next_row p.arena.expr w t.way.mirrored t.way.all_starts t.way.keeps edge old.root i place byte old.entered old.ended new.entered new.ended front one from got last leads.1 follows.1 in (
+    let row : RowOfPlace p.arena.expr.nodes w old.root (one_start i) t.way.mirrored (place + 1) new.entered new.ended =
+    next_row p.arena.expr w t.way.mirrored t.way.all_starts t.way.mirrored edge old.root i place byte old.entered old.ended new.entered new.ended front one from got last leads.1 follows.1 in (
       root ∙ follows.0,
-      rw (root, (ap (λ v. v.keeps) shape.0)) row,
+      rw (root, (ap (λ v. v.mirrored) shape.0)) row,
     )
 
 first_row : (e : WrittenExpression) (w : List ℕ) (mirrored keeps : Bool) (a i : ℕ) (kind : PlaceKind) (entered ended : ℕ → Bool) → mirrored ≡ false → (IsTrue kind.begin ↔ (i ≡ 0)) → (IsTrue kind.end ↔ (i ≡ length w)) →
@@ -565,9 +563,9 @@ pub follows_first : (p : Prepared) (w : List ℕ) (t after : Table) (a i offset 
     BeginsIn (nodes_of t.way p.arena.expr) t.way a kind (state_of (length p.arena.expr.nodes) after (offset / 2 ^ after.layout.shift)) → Follows p w after a i i offset
 follows_first p w t after a i offset kind front way begins ends first =
     let s = state_of (length p.arena.expr.nodes) after (offset / 2 ^ after.layout.shift) in
-    let row : RowOfPlace p.arena.expr.nodes w a (one_start i) t.way.keeps i s.entered s.ended = first_row p.arena.expr w t.way.mirrored t.way.keeps a i kind s.entered s.ended front begins ends first.1 in (
+    let row : RowOfPlace p.arena.expr.nodes w a (one_start i) t.way.mirrored i s.entered s.ended = first_row p.arena.expr w t.way.mirrored t.way.mirrored a i kind s.entered s.ended front begins ends first.1 in (
       first.0,
-      rw (first.0, (ap (λ v. v.keeps) way)) row,
+      rw (first.0, (ap (λ v. v.mirrored) way)) row,
     )
 
 -- What it costs.

@@ -361,7 +361,7 @@ searched_by p w first a a' b s work tried ready forward_one shape =
       tables = record { forward_one = forward_one; forward_one_shape = shape; reverse_any_shape = (refl, refl, refl, refl, refl); space = record { places = refl; edges = refl; marks = λ q. refl } };
       serves = record {
         table = ready.serves.table;
-        room = (let room = ready.serves.room in record { mirrored = room.mirrored; keeps = room.keeps; places = room.places; blocks = room.blocks; marks = room.marks });
+        room = (let room = ready.serves.room in record { mirrored = room.mirrored; places = room.places; blocks = room.blocks; marks = room.marks });
         all_starts = ready.serves.all_starts;
         kept = λ begun. (keeps_same p w b s.kept (record s.kept { work = work }) refl refl refl (ready.serves.kept begun)).kept;
       };

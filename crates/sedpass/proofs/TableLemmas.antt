@@ -79,7 +79,7 @@ seen_bytes true e a b same = λ x members is.
 -- a state leads on by bytes of one class
 pub leads_same : (e : WrittenExpression) (way : Way) (a b : PassState) (byte other : ℕ) (edge : Bool) → SameBytes e.nodes (Some other) (Some byte) → LeadsOn (nodes_of way e) way a byte edge b → LeadsOn (nodes_of way e) way a other edge b
 leads_same e way a b byte other edge same leads =
-    (leads.0, class_row (nodes_of way e) a.root way.keeps edge way.all_starts a.entered a.ended b.entered b.ended (Some byte) (Some other) (seen_bytes way.mirrored e (Some other) (Some byte) same) leads.1)
+    (leads.0, class_row (nodes_of way e) a.root way.mirrored edge way.all_starts a.entered a.ended b.entered b.ended (Some byte) (Some other) (seen_bytes way.mirrored e (Some other) (Some byte) same) leads.1)
 
 -- Beginnings.
 
@@ -397,13 +397,13 @@ module _ (p : Prepared) (t u : Table) (table : IsTable p t) (offset : ℕ) (ther
       (subst (λ x. AgreeBelow (length p.arena.expr.nodes) loaded (row_of t.leaves x)) at (subst (λ x. AgreeBelow x loaded (row_of t.leaves state)) nodes row))
 
   abbrev Leads : Bool → Type 0
-  Leads edge = (before : ℕ → Bool) → RowLeadsTo (nodes_of t.way p.arena.expr) root t.way.keeps (bits (length p.arena.expr.nodes) loaded) before (Some byte) edge t.way.all_starts (bits (length p.arena.expr.nodes) work.leaves) (bits (length p.arena.expr.nodes) work.ends)
+  Leads edge = (before : ℕ → Bool) → RowLeadsTo (nodes_of t.way p.arena.expr) root t.way.mirrored (bits (length p.arena.expr.nodes) loaded) before (Some byte) edge t.way.all_starts (bits (length p.arena.expr.nodes) work.leaves) (bits (length p.arena.expr.nodes) work.ends)
 
   leads_state : (edge : Bool) → Leads edge → (b : PassState) → HasMarks p root work b → LeadsOn (nodes_of t.way p.arena.expr) t.way here byte edge b
   leads_state edge leads b has = (
     has.0 ∙ same_root,
-    rw (has.2, has.1) (subst (λ x. RowLeadsTo (nodes_of t.way p.arena.expr) x t.way.keeps here.entered here.ended (Some byte) edge t.way.all_starts (bits (length p.arena.expr.nodes) work.leaves) (bits (length p.arena.expr.nodes) work.ends)) same_root
-        (subst (λ x. RowLeadsTo (nodes_of t.way p.arena.expr) root t.way.keeps x here.ended (Some byte) edge t.way.all_starts (bits (length p.arena.expr.nodes) work.leaves) (bits (length p.arena.expr.nodes) work.ends)) same_row (leads here.ended))),
+    rw (has.2, has.1) (subst (λ x. RowLeadsTo (nodes_of t.way p.arena.expr) x t.way.mirrored here.entered here.ended (Some byte) edge t.way.all_starts (bits (length p.arena.expr.nodes) work.leaves) (bits (length p.arena.expr.nodes) work.ends)) same_root
+        (subst (λ x. RowLeadsTo (nodes_of t.way p.arena.expr) root t.way.mirrored x here.ended (Some byte) edge t.way.all_starts (bits (length p.arena.expr.nodes) work.leaves) (bits (length p.arena.expr.nodes) work.ends)) same_row (leads here.ended))),
   )
 
   pub names_leads : (edge : Bool) → Leads edge → NamesState (length p.arena.expr.nodes) u (LeadsOn (nodes_of t.way p.arena.expr) t.way here byte edge) v
@@ -414,7 +414,7 @@ module _ (p : Prepared) (t u : Table) (table : IsTable p t) (offset : ℕ) (ther
 
 -- a first state
 pub names_first : (p : Prepared) (u : Table) (way : Way) (root v : ℕ) (kind : PlaceKind) (leaves ends : List Bool) → NamesState (length p.arena.expr.nodes) u (HasRow root (bits (length p.arena.expr.nodes) leaves) (bits (length p.arena.expr.nodes) ends)) v →
-    IsFirstRow (nodes_of way p.arena.expr) root way.keeps (at_begin way.mirrored kind) (at_edge way.mirrored kind) (bits (length p.arena.expr.nodes) leaves) (bits (length p.arena.expr.nodes) ends) → NamesState (length p.arena.expr.nodes) u (BeginsIn (nodes_of way p.arena.expr) way root kind) v
+    IsFirstRow (nodes_of way p.arena.expr) root way.mirrored (at_begin way.mirrored kind) (at_edge way.mirrored kind) (bits (length p.arena.expr.nodes) leaves) (bits (length p.arena.expr.nodes) ends) → NamesState (length p.arena.expr.nodes) u (BeginsIn (nodes_of way p.arena.expr) way root kind) v
 names_first p u way root v kind leaves ends n first =
     names_map (length p.arena.expr.nodes) u (HasRow root (bits (length p.arena.expr.nodes) leaves) (bits (length p.arena.expr.nodes) ends)) (BeginsIn (nodes_of way p.arena.expr) way root kind) v
     (λ b has. (

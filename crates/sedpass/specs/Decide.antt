@@ -176,8 +176,8 @@ pub record IsAtEnd (s : Subject) (tables : GroupTables) (kept : Kept) (here : Ma
 
 -- the way of each of the tables
 pub record HaveWays (t : GroupTables) : Type 0 where
-  pub reverse_one : t.reverse_one.way ≡ record { mirrored = true; all_starts = false; keeps = true }
-  pub forward_one : t.forward_one.way ≡ record { mirrored = false; all_starts = false; keeps = false }
+  pub reverse_one : t.reverse_one.way ≡ record { mirrored = true; all_starts = false }
+  pub forward_one : t.forward_one.way ≡ record { mirrored = false; all_starts = false }
 
 -- the tables serve the expression
 pub record AreGroupTables (p : Prepared) (t : GroupTables) : Type 0 where

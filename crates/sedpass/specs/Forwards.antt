@@ -27,7 +27,7 @@ IsPassEnd all_starts nodes w r s (Some j) = SomeSpan nodes w r s j × (all_start
 
 -- the state is that of the place, in a pass from `start` for the whole expression
 abbrev pub Arrives : Prepared → Way → List ℕ → ℕ → ℕ → PassState → Type 0
-Arrives p way w start place a = (a.root ≡ p.root) × StateAt (nodes_of way p.arena.expr) w (starts_of way.all_starts start w) way.keeps place a
+Arrives p way w start place a = (a.root ≡ p.root) × StateAt (nodes_of way p.arena.expr) w (starts_of way.all_starts start w) way.mirrored place a
 
 -- the end is the last below the place, in such a pass
 abbrev pub EndsBelow : Prepared → Way → List ℕ → ℕ → ℕ → Option ℕ → Type 0

@@ -29,7 +29,7 @@ starts_shown false n end = one_start (n - end)
 -- the row is that of the place in the pass, seen from the text's end
 abbrev pub RowKept : Prepared → List ℕ → Way → (root end place : ℕ) → (ℕ → Bool) → (ℕ → Bool) → Type 0
 RowKept p w way root end place entered ended =
-    RowOfPlace (nodes_of way p.arena.expr) (reverse w) root (starts_shown way.all_starts (length w) end) way.keeps (length w - place) entered ended
+    RowOfPlace (nodes_of way p.arena.expr) (reverse w) root (starts_shown way.all_starts (length w) end) way.mirrored (length w - place) entered ended
 
 -- the state is that of the place in the pass
 abbrev pub KeptAt : Prepared → List ℕ → Way → (root end place : ℕ) → PassState → Type 0
@@ -54,7 +54,6 @@ IsEdge p w way root end edges width b =
 -- there is room for a text of n bytes, cut into blocks of one place less than the table has room for states
 pub record KeptRoom (m n : ℕ) (t : Table) (k : Kept) : Type 0 where
   pub mirrored : IsTrue t.way.mirrored
-  pub keeps : IsTrue t.way.keeps
   pub places : n < vec_capacity k.states
   pub blocks : (b : ℕ) → b * (t.room - 1) ≤ n → 2 * b + 1 < length k.edges
   pub marks : (q : ℕ) → q < length k.edges → m ≤ length (row_of k.edges q)
@@ -127,7 +126,7 @@ pub record KeepsRegion (p : Prepared) (w : List ℕ) (t t' : Table) (k k' : Kept
 abbrev pub Follows : Prepared → List ℕ → Table → ℕ → ℕ → ℕ → ℕ → Type 0
 Follows p w t a i place offset =
     let q = state_of (length p.arena.expr.nodes) t (offset / 2 ^ t.layout.shift) in
-    (q.root ≡ a) × StateAt p.arena.expr.nodes w (one_start i) t.way.keeps place q
+    (q.root ≡ a) × StateAt p.arena.expr.nodes w (one_start i) t.way.mirrored place q
 
 -- the two meet at each place from one up to another
 abbrev pub Meet : Prepared → List ℕ → Table → Kept → ℕ → ℕ → ℕ → ℕ → Type 0

@@ -22,7 +22,7 @@ use Rattle.sedpass.specs.Prepared.{SameNulls}
 
 -- whether a pass stops at a state: its root ends, or no match that began goes on (where the ends are kept, only this)
 abbrev pub stops : Way → StateFlags → Bool
-stops way flags = (not way.keeps && (flags.ends || (flags.dead && not way.all_starts))) || (way.keeps && flags.dead)
+stops way flags = (not way.mirrored && (flags.ends || (flags.dead && not way.all_starts))) || (way.mirrored && flags.dead)
 
 -- the number that names the state whose cells begin there: so those at which a pass stops are the low ones
 abbrev pub code_of : Bool → ℕ → ℕ
@@ -92,11 +92,11 @@ StateAt nodes w s keeps p a = RowOfPlace nodes w a.root s keeps p a.entered a.en
 
 -- this byte leads from the one state to the other, where the text's edge comes after it, or doesn't
 abbrev pub LeadsOn : List Node → Way → PassState → ℕ → Bool → PassState → Type 0
-LeadsOn nodes way a byte edge b = (b.root ≡ a.root) × RowLeadsTo nodes a.root way.keeps a.entered a.ended (Some byte) edge way.all_starts b.entered b.ended
+LeadsOn nodes way a byte edge b = (b.root ≡ a.root) × RowLeadsTo nodes a.root way.mirrored a.entered a.ended (Some byte) edge way.all_starts b.entered b.ended
 
 -- a pass for the root begins in the state, at places of the kind
 abbrev pub BeginsIn : List Node → Way → ℕ → PlaceKind → PassState → Type 0
-BeginsIn nodes way root kind a = (a.root ≡ root) × IsFirstRow nodes root way.keeps (at_begin way.mirrored kind) (at_edge way.mirrored kind) a.entered a.ended
+BeginsIn nodes way root kind a = (a.root ≡ root) × IsFirstRow nodes root way.mirrored (at_begin way.mirrored kind) (at_edge way.mirrored kind) a.entered a.ended
 
 -- Codes.
 
@@ -209,14 +209,12 @@ pub record IsForwardOne (p : Prepared) (t : Table) : Type 0 where
   pub table : IsTable p t
   pub forwards : t.way.mirrored ≡ false
   pub single : t.way.all_starts ≡ false
-  pub brief : t.way.keeps ≡ false
 
 -- one in which every place is a start
 pub record IsForwardAny (p : Prepared) (t : Table) : Type 0 where
   pub table : IsTable p t
   pub forwards : t.way.mirrored ≡ false
   pub all_starts : IsTrue t.way.all_starts
-  pub brief : t.way.keeps ≡ false
 
 -- a state was added at most, and those before stay as they were; or, in another epoch, all were forgotten before, as the table was full
 pub record AddsStates (m : ℕ) (old new : Table) : Type 0 where

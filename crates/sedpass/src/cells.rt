@@ -45,7 +45,7 @@ pub struct Layout {
 pub fn stops(way: Way, flags: StateFlags) -> bool
     ensures { result ≡ stops way flags }
 {
-    if way.keeps {
+    if way.mirrored {
         flags.dead
     } else {
         flags.ends || (flags.dead && !way.all_starts)

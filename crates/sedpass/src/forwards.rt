@@ -44,7 +44,7 @@ impl Table {
         requires code { NamesState (length prepared.now.arena.expr.nodes) self.now (λ a. Unit {0}) code }
         ensures place { result.place ≡ place }
         ensures offset { IsOffset self.now result.offset }
-        ensures passes { self.now.way.keeps ≡ false → (start : ℕ) → start ≤ place → place ≤ length text.now →
+        ensures passes { self.now.way.mirrored ≡ false → (start : ℕ) → start ≤ place → place ≤ length text.now →
             NamesState (length prepared.now.arena.expr.nodes) self.now (Arrives prepared.now self.now.way text.now start place) code →
             EndsBelow prepared.now self.now.way text.now start place end →
             PassIs prepared.now self.now text.now start result }
@@ -85,7 +85,7 @@ impl Table {
         ensures after { from.place ≤ result.place }
         ensures within { result.place ≤ to }
         ensures moved { IsTrue result.over → from.place < result.place }
-        ensures passes { self.now.way.keeps ≡ false → (start : ℕ) → PassIs prepared.now self.now text.now start from → PassIs prepared.now self.now text.now start result }
+        ensures passes { self.now.way.mirrored ≡ false → (start : ℕ) → PassIs prepared.now self.now text.now start from → PassIs prepared.now self.now text.now start result }
         ensures cost { CostsWithin steps.old steps.new (2 * min (result.place + 1) to) (2 * from.place) }
         ensures counts { TakesAtLeast steps.old steps.new (2 * (result.place - from.place)) }
     {
@@ -125,7 +125,7 @@ impl Table {
         ensures offset { IsOffset self.new result.offset }
         ensures after { from.place < result.place }
         ensures within { result.place ≤ length text.now }
-        ensures passes { self.old.way.keeps ≡ false → (start : ℕ) → PassIs prepared.now self.old text.now start from → PassIs prepared.now self.new text.now start result }
+        ensures passes { self.old.way.mirrored ≡ false → (start : ℕ) → PassIs prepared.now self.old text.now start from → PassIs prepared.now self.new text.now start result }
         ensures cost { CostsWithin steps.old steps.new (40 * length prepared.now.arena.expr.nodes * result.place) (40 * length prepared.now.arena.expr.nodes * from.place) }
         ensures counts { TakesAtLeast steps.old steps.new (2 * (result.place - from.place)) }
     {
@@ -151,7 +151,6 @@ impl Table {
     ) -> Passed
         requires table { IsTable prepared.now self.old }
         requires forwards { self.old.way.mirrored ≡ false }
-        requires keeps { self.old.way.keeps ≡ false }
         requires from { from ≤ length text.now }
         ensures table { IsTable prepared.now self.new }
         ensures shape { SameShape self.old self.new }

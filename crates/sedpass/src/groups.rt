@@ -92,14 +92,12 @@ pub struct GroupRoom {
 const FORWARD_ONE: Way = Way {
     mirrored: false,
     all_starts: false,
-    keeps: false,
 };
 
 /// The way of passes backwards from a region's end.
 const REVERSE_ONE: Way = Way {
     mirrored: true,
     all_starts: false,
-    keeps: true,
 };
 
 impl GroupTables {

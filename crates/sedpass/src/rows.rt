@@ -23,12 +23,10 @@ use std::alloc::{AllocError, Global};
 /// In which way a pass goes.
 #[derive(Clone, Copy)]
 pub struct Way {
-    /// From the text's end, over the mirrored expression.
+    /// From the text's end, over the mirrored expression. A row keeps the ends of all nodes then, and else those of the root alone.
     pub mirrored: bool,
     /// Every place is a start, not the first alone.
     pub all_starts: bool,
-    /// A row keeps the ends of all nodes, not those of the root alone.
-    pub keeps: bool,
 }
 
 /// The marks that acts work on.
@@ -148,9 +146,9 @@ fn leaf_bit(node: &Node, here: bool) -> bool
 /// Whether a row keeps that the node x has ended, after at least one byte or as the null string where it is entered.
 #[inline(always)]
 fn end_bit(way: Way, is_root: bool, end: bool, here: bool, null: bool) -> bool
-    ensures { result ≡ ((way.keeps || is_root) && (end || (here && null))) }
+    ensures { result ≡ ((way.mirrored || is_root) && (end || (here && null))) }
 {
-    (way.keeps || is_root) && (end || (here && null))
+    (way.mirrored || is_root) && (end || (here && null))
 }
 
 /// From the lowest node up: which nodes end here after at least one byte. `byte` is the one that came, if one did; the row
@@ -193,7 +191,7 @@ fn descend(
     ensures row { (w : List ℕ) (s : Starts) (place : ℕ) → AreNull (nodes_of way prepared.now.arena.expr) w place (null_in prepared.now.arena.expr.nodes kind) →
         Marked work.old.ended (InTree (nodes_of way prepared.now.arena.expr) root) (λ c. CanEnd (nodes_of way prepared.now.arena.expr) w root s c place) →
         (IsTrue first ↔ IsStart s place) →
-        RowOfPlace (nodes_of way prepared.now.arena.expr) w root s way.keeps place
+        RowOfPlace (nodes_of way prepared.now.arena.expr) w root s way.mirrored place
         (bits (length prepared.now.arena.expr.nodes) work.new.leaves) (bits (length prepared.now.arena.expr.nodes) work.new.ends) }
     ensures cost { Takes steps.old steps.new (12 * length prepared.now.arena.expr.nodes - 3) }
     ensures counts { TakesAtLeast steps.old steps.new (2 * length prepared.now.arena.expr.nodes + 6 * size (tree_at prepared.now.arena.expr.nodes root)) }
@@ -239,11 +237,11 @@ pub fn step(
     steps: &mut Steps,
 )
     requires root { root < length prepared.now.arena.expr.nodes }
-    ensures leads { (before : ℕ → Bool) → RowLeadsTo (nodes_of way prepared.now.arena.expr) root way.keeps
+    ensures leads { (before : ℕ → Bool) → RowLeadsTo (nodes_of way prepared.now.arena.expr) root way.mirrored
         (bits (length prepared.now.arena.expr.nodes) work.old.leaves) before (Some byte) edge way.all_starts
         (bits (length prepared.now.arena.expr.nodes) work.new.leaves) (bits (length prepared.now.arena.expr.nodes) work.new.ends) }
     // Where no node is null at places of one kind alone, it is the row at the text's edge and before it.
-    ensures anywhere { SameNulls prepared.now.arena.expr.nodes → (end : Bool) (before : ℕ → Bool) → RowLeadsTo (nodes_of way prepared.now.arena.expr) root way.keeps
+    ensures anywhere { SameNulls prepared.now.arena.expr.nodes → (end : Bool) (before : ℕ → Bool) → RowLeadsTo (nodes_of way prepared.now.arena.expr) root way.mirrored
         (bits (length prepared.now.arena.expr.nodes) work.old.leaves) before (Some byte) end way.all_starts
         (bits (length prepared.now.arena.expr.nodes) work.new.leaves) (bits (length prepared.now.arena.expr.nodes) work.new.ends) }
     ensures cost { Takes steps.old steps.new (17 * length prepared.now.arena.expr.nodes - 3) }
@@ -265,7 +263,7 @@ pub fn first(
     steps: &mut Steps,
 )
     requires root { root < length prepared.now.arena.expr.nodes }
-    ensures first { IsFirstRow (nodes_of way prepared.now.arena.expr) root way.keeps (at_begin way.mirrored kind) (at_edge way.mirrored kind)
+    ensures first { IsFirstRow (nodes_of way prepared.now.arena.expr) root way.mirrored (at_begin way.mirrored kind) (at_edge way.mirrored kind)
         (bits (length prepared.now.arena.expr.nodes) work.new.leaves) (bits (length prepared.now.arena.expr.nodes) work.new.ends) }
     ensures cost { Takes steps.old steps.new (17 * length prepared.now.arena.expr.nodes - 3) }
     ensures counts { TakesAtLeast steps.old steps.new

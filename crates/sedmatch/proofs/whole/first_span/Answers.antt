@@ -24,7 +24,7 @@ begin-requires-clause-whole c = λ _. c.len.ensures.is
 pub next_kept-requires-clause-forward_one : goal.next_kept-requires-clause-forward_one
 next_kept-requires-clause-forward_one c =
     let way = c.fit.ensures.room.0 ∙ c.requires.desk.shared.ways.forward_one in
-    record { table = c.fit.ensures.table; forwards = ap (λ v. v.mirrored) way; single = ap (λ v. v.all_starts) way; brief = ap (λ v. v.keeps) way }
+    record { table = c.fit.ensures.table; forwards = ap (λ v. v.mirrored) way; single = ap (λ v. v.all_starts) way }
 
 pub next_kept-requires-clause-kept : goal.next_kept-requires-clause-kept
 next_kept-requires-clause-kept c = c.begin.ensures.kept

@@ -21,7 +21,7 @@ loop-x-init c =
       kept = refl;
       shown = λ w s place nulls ended begins. (
         down_root nodes w c.args.root place (c.args.root + 1) s c.args.first c.args.work.now.entered c.set.new.self arena (omega arith) (omega arith) c.set.ensures.marks begins,
-        row_none nodes w c.args.root place s c.args.way.keeps (c.args.root + 1) (bits m c.clear.new.self) (bits m c.clear-2.new.self) arena (omega arith)
+        row_none nodes w c.args.root place s c.args.way.mirrored (c.args.root + 1) (bits m c.clear.new.self) (bits m c.clear-2.new.self) arena (omega arith)
             (bits_clear m c.clear.new.self (λ n less. c.clear.ensures.clear n (omega arith))) (bits_clear m c.clear-2.new.self (λ n less. c.clear-2.ensures.clear n (omega arith))),
       );
     }
@@ -53,12 +53,12 @@ loop-x-preserved c =
       counts = omega arith;
       kept = c.enter.ensures.others.0 ∙ c.loop-x.invariant.kept;
       shown = λ w s place nulls ends begins.
-          let old : Marked c.loop-x.work.entered (TreeFrom nodes r (x + 1)) (λ n. Enters nodes w r s n place) × RowFrom nodes w r s c.args.way.keeps place (x + 1) (bits m c.loop-x.work.leaves) (bits m c.loop-x.work.ends) =
+          let old : Marked c.loop-x.work.entered (TreeFrom nodes r (x + 1)) (λ n. Enters nodes w r s n place) × RowFrom nodes w r s c.args.way.mirrored place (x + 1) (bits m c.loop-x.work.leaves) (bits m c.loop-x.work.ends) =
           rw (← above) (c.loop-x.invariant.shown w s place nulls ends begins) in
           let shown : Marked c.loop-x.work.ended (InTree nodes r) (λ n. CanEnd nodes w r s n place) = rw c.loop-x.invariant.kept ends in
           let none = nulls x (inside_seen c.args.way.mirrored e x (omega arith)) in (
             down nodes w r x place s arena (inside_seen c.args.way.mirrored e r c.requires.root) there null ended nulls shown c.loop-x.work.entered (omega (arith, seen-length c.args.way.mirrored e)) old.0 node c.enter.new.work.entered is value,
-            row_step nodes w r place s c.args.way.keeps x node c.get-here.result c.get-end.result c.null_at-null.result
+            row_step nodes w r place s c.args.way.mirrored x node c.get-here.result c.get-end.result c.null_at-null.result
                 (bits m c.loop-x.work.leaves) (bits m c.loop-x.work.ends) (bits m c.set-in-loop-x.new.self) (bits m c.set-in-loop-x-2.new.self) is
                 (rw here (old.0 x (tree_shown nodes arena r x there))) (rw c.get-end.ensures.mark (shown x there)) (rw c.null_at-null.ensures.null none)
                 (bits_set m c.enter.new.work.leaves c.set-in-loop-x.new.self x c.leaf_bit-leaf.result (omega arith) (omega arith) c.set-in-loop-x.ensures.marks ∙ c.leaf_bit-leaf.ensures)
@@ -74,7 +74,7 @@ pub returns-clause-row : goal.returns-clause-row
 returns-clause-row c w s place nulls ended begins =
     let e = c.args.prepared.now.arena.expr in
     let m = length e.nodes in
-    row_done (nodes_of c.args.way e) w c.args.root place s c.args.way.keeps c.loop-x.x (bits m c.loop-x.work.leaves) (bits m c.loop-x.work.ends)
+    row_done (nodes_of c.args.way e) w c.args.root place s c.args.way.mirrored c.loop-x.x (bits m c.loop-x.work.leaves) (bits m c.loop-x.work.ends)
     (λ n there. let from = ((c.low-low.ensures.range c.args.way.mirrored n).1 there).0 in omega arith)
     (c.loop-x.invariant.shown w s place nulls ended begins).1
 

@@ -14,5 +14,5 @@ invariant-loop-x l = record {
   shown : (w : List ℕ) (s : Starts) (place : ℕ) → AreNull (nodes_of l.way l.prepared.arena.expr) w place (null_in l.prepared.arena.expr.nodes l.kind) →
       Marked l.initial.work.ended (InTree (nodes_of l.way l.prepared.arena.expr) l.root) (λ c. CanEnd (nodes_of l.way l.prepared.arena.expr) w l.root s c place) → (IsTrue l.first ↔ IsStart s place) →
       Marked l.work.entered (TreeFrom (nodes_of l.way l.prepared.arena.expr) l.root l.x) (λ c. Enters (nodes_of l.way l.prepared.arena.expr) w l.root s c place)
-      × RowFrom (nodes_of l.way l.prepared.arena.expr) w l.root s l.way.keeps place l.x (bits (length l.prepared.arena.expr.nodes) l.work.leaves) (bits (length l.prepared.arena.expr.nodes) l.work.ends);
+      × RowFrom (nodes_of l.way l.prepared.arena.expr) w l.root s l.way.mirrored place l.x (bits (length l.prepared.arena.expr.nodes) l.work.leaves) (bits (length l.prepared.arena.expr.nodes) l.work.ends);
 }

@@ -15,7 +15,7 @@ returns-clause-leads c before w s p bytes is_end is_start row =
     ((λ h. absurd (true≢false (sym h ∙ c.edge_kind-kind.ensures.begin)), λ none. absurd (omega arith)), (λ h. is_end.0 (sym end ∙ h), λ at. end ∙ is_end.1 at)) in
     let nulls = null_shows way.mirrored e kind w (p + 1) there in
     let shown : ShowTook (nodes_of way e) w c.args.root s (p + 1) (Some c.args.byte) c.args.work.now.leaves =
-    took_bits (nodes_of way e) w c.args.root p s way.keeps (length e.nodes) c.args.work.now.leaves before (Some c.args.byte) (seen-length way.mirrored e) bytes row in
+    took_bits (nodes_of way e) w c.args.root p s way.mirrored (length e.nodes) c.args.work.now.leaves before (Some c.args.byte) (seen-length way.mirrored e) bytes row in
     c.descend.ensures.row w s (p + 1) nulls (c.ascend.ensures.ended w s (p + 1) nulls shown) is_start
 
 pub returns-clause-anywhere : goal.returns-clause-anywhere
@@ -25,7 +25,7 @@ returns-clause-anywhere c same end before w s p bytes is_end is_start row =
     let there : IsPlace w (p + 1) false end = ((λ h. absurd (true≢false (sym h)), λ at. absurd (omega arith)), is_end) in
     let nulls = null_anywhere way.mirrored e c.edge_kind-kind.result same w (p + 1) false end there in
     let shown : ShowTook (nodes_of way e) w c.args.root s (p + 1) (Some c.args.byte) c.args.work.now.leaves =
-    took_bits (nodes_of way e) w c.args.root p s way.keeps (length e.nodes) c.args.work.now.leaves before (Some c.args.byte) (seen-length way.mirrored e) bytes row in
+    took_bits (nodes_of way e) w c.args.root p s way.mirrored (length e.nodes) c.args.work.now.leaves before (Some c.args.byte) (seen-length way.mirrored e) bytes row in
     c.descend.ensures.row w s (p + 1) nulls (c.ascend.ensures.ended w s (p + 1) nulls shown) is_start
 
 pub returns-clause-counts : goal.returns-clause-counts

@@ -10,7 +10,7 @@ pub next_start-requires : goal.next_start-requires
 next_start-requires c = record { from = omega (arith, c.loop-start-test.true, c.len-length.ensures.is) }
 
 pub run-passed-requires : goal.run-passed-requires
-run-passed-requires c = let forward_one = c.loop-start.invariant.forward_one in record { table = forward_one.table; forwards = forward_one.forwards; keeps = forward_one.brief; from = c.in-Some.ensures.next.1 }
+run-passed-requires c = let forward_one = c.loop-start.invariant.forward_one in record { table = forward_one.table; forwards = forward_one.forwards; from = c.in-Some.ensures.next.1 }
 
 pub overflow_add-tried : goal.overflow_add-tried
 overflow_add-tried c = omega (arith, c.loop-start.invariant.room, c.saturating_sub.ensures, c.run-passed.ensures.within, c.requires.tried, c.len-length.ensures.short, c.len-length.ensures.is)

@@ -11,7 +11,7 @@ returns c =
       kept = record {
         region = record {
           table = c.requires.table;
-          room = record { mirrored = room.mirrored; keeps = room.keeps; places = rw made.capacity room.places; blocks = room.blocks; marks = room.marks };
+          room = record { mirrored = room.mirrored; places = rw made.capacity room.places; blocks = room.blocks; marks = room.marks };
           root = c.requires.root;
           whole = c.requires.whole;
           inside = c.requires.end;

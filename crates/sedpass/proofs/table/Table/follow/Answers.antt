@@ -30,7 +30,7 @@ known-cell-requires c = record { table = c.requires.table; offset = c.loop-place
 -- where it stopped, and how many bytes were looked at
 stopped : (c : After-add-2) → let at = c.loop-place-test.at in let looked = c.loop-place-test.bytes + c.args.from.place in
     IsOffset c.args.self.now at.offset × (c.args.from.place ≤ at.place) × (at.place ≤ c.args.to) × (IsTrue at.over → c.args.from.place < at.place)
-    × (c.args.self.now.way.keeps ≡ false → (start : ℕ) → PassIs c.args.prepared.now c.args.self.now c.args.text.now start c.args.from → PassIs c.args.prepared.now c.args.self.now c.args.text.now start at)
+    × (c.args.self.now.way.mirrored ≡ false → (start : ℕ) → PassIs c.args.prepared.now c.args.self.now c.args.text.now start c.args.from → PassIs c.args.prepared.now c.args.self.now c.args.text.now start at)
     × (at.place ≤ looked) × (looked ≤ min (at.place + 1) c.args.to)
 stopped c =
     let i = c.loop-place.invariant in
