@@ -1,10 +1,10 @@
 -- What is found out of each node once, and what it means for passes.
 use Rattle.std.proofs.Common.{◌≡◌, ℕ, zero, suc, ◌+◌, ◌*◌, ◌<◌, ◌≤◌, ◌⊎◌, ◌↔◌, Bool, true, false, ◌&&◌, List, [], ◌∷◌, ◌++◌, length, Option, Some, None, IsTrue, refl, sym, ap, ◌∙◌, subst, inl, inr, ⊎_elim, true≢false, arith, min, max, bit_and, bit_or, ◌||◌, slice_get, eqb}
-use Rattle.sedpass.proofs.Words.{bit_at, from_bool, option_eq, bit_at_and, bit_at_or, bit_at-lt, cases_lt, same_Some, slice_get_cases, none-some, size, IsArena, IsExpr, IsPart, FollowsParts, HasTwoParts, GroupsWithin, mirror, seen, Node, NodeId, Seq, Alt, Group, Star, Opt, Empty, Set, tree_at-node, tree_at-mirror, seen-length, Matches, no_copy, IsPlace, Matches-forward, node_at, Facts, PlaceKind, either-iff, both-iff}
+use Rattle.sedpass.proofs.Words.{bit_at, from_bool, option_eq, bit_at_and, bit_at_or, bit_at-lt, cases_lt, same_Some, none-some, size, IsArena, IsExpr, IsPart, FollowsParts, HasTwoParts, GroupsWithin, mirror, seen, Node, NodeId, Seq, Alt, Group, Star, Opt, Empty, Set, tree_at-node, tree_at-mirror, seen-length, Matches, no_copy, IsPlace, Matches-forward, node_at, Facts, PlaceKind, either-iff, both-iff}
 use Rattle.sedre.specs.Tree.{Tree, null_string, byte_of, text_begin, text_end, sequence, either_of, grouped, any_copies, one_or_none, WrittenExpression, tree_of, tree_at, tree_within}
 use Rattle.sedre.proofs.Written.{size_positive}
 use Rattle.sedpass.specs.Classes.{AreClasses, HaveSets}
-use Rattle.sedpass.specs.Prepared.{nullable, null_in, null_at, is_one_set, IsFacts, AreFacts, IsOfEachKind, IsShort, SameNulls, length_of, IsPrepared}
+use Rattle.sedpass.specs.Prepared.{nullable, null_in, null_at, is_one_set, IsFacts, AreFacts, IsShort, length_of, IsPrepared}
 use Rattle.sedpass.specs.Rows.{at_begin, at_edge, InTree, IsNodeRange, AreNull}
 use Rattle.sedpass.proofs.LengthLemmas.{sum_parts, same_parts}
 use Rattle.sedpass.proofs.RowLemmas.{not_true, range_of, mirror_range}
@@ -64,15 +64,6 @@ null_shows true e kind w p there c low =
     let same : nullable kind.end kind.begin (tree_at (seen true e).nodes c) ≡ null_in e.nodes kind c =
     ap (nullable kind.end kind.begin) (tree_at-mirror e.nodes c) ∙ nullable_mirror kind.end kind.begin (tree_at e.nodes c) in
     rw (← same) (nullable_is w p kind.end kind.begin there (tree_at (seen true e).nodes c))
-
--- where no node distinguishes one kind from another, each place will do
-pub null_anywhere : (mirrored : Bool) (e : WrittenExpression) (kind : PlaceKind) → SameNulls e.nodes →
-    (w : List ℕ) (p : ℕ) (first last : Bool) → IsPlace w p first last → AreNull (seen mirrored e).nodes w p (null_in e.nodes kind)
-null_anywhere false e kind same w p first last there c low =
-    rw (same c kind.begin kind.end low ∙ sym (same c first last low)) (null_shows false e (record { begin = first; end = last }) w p there c low)
-null_anywhere true e kind same w p first last there c low =
-    let inside : c < length e.nodes = subst (λ n. c < n) (seen-length true e) low in
-    rw (same c kind.begin kind.end inside ∙ sym (same c last first inside)) (null_shows true e (record { begin = last; end = first }) w p there c low)
 
 -- trees are ranges
 
@@ -180,15 +171,6 @@ pub facts_more : (nodes : List Node) (arena : IsArena nodes) (shown : List Facts
 facts_more nodes arena shown node next facts there here x fact is =
     elim (last_shown shown next fact x is) [ inl old ↦ facts x fact old | inr new ↦ rw (new.0, new.1, tree_at-node nodes (length shown) node arena there) here ]
 
--- where no node is null at places of some kinds alone
-pub shown_anywhere : (nodes : List Node) (shown : List Facts) → length shown ≡ length nodes → AreFacts nodes shown → ((x : ℕ) (here : Facts) → slice_get shown x ≡ Some here → IsOfEachKind here.null) →
-    SameNulls nodes
-shown_anywhere nodes shown all facts each x first last inside =
-    elim (slice_get_cases shown x).1 [
-      | inl some ↦ let fact = facts x some.0 some.2 in sym (fact.null first last) ∙ each x some.0 some.2 first last ∙ fact.null false false
-      | inr past ↦ let low = past.0 in absurd (omega arith)
-    ]
-
 -- The expression of one node that matches the null string.
 
 -- its nodes
@@ -239,19 +221,14 @@ facts_only : (shown : Facts) → IsFacts null_string 0 shown → AreFacts empty_
 facts_only shown facts zero here is = rw (← same_Some shown here is, one_tree) facts
 facts_only shown facts (suc x) here is = absurd (none-some here is)
 
-nulls_only : SameNulls empty_nodes
-nulls_only zero first last inside = ap (nullable first last) one_tree ∙ sym (ap (nullable false false) one_tree)
-nulls_only (suc x) first last inside = absurd (omega (arith, inside))
-
 no_sets : HaveSets empty_nodes []
 no_sets x members is = let same = (only x (Set members) is).1 in absurd cc
 
 pub empty_prepared : (shown : Facts) (of : List ℕ) (count : ℕ) → IsFacts null_string 0 shown → ((nodes : List Node) → HaveSets nodes [] → AreClasses nodes of count) →
-    IsPrepared (record { nodes = empty_nodes; groups = 0 }) 0 (shown ∷ []) of count false
+    IsPrepared (record { nodes = empty_nodes; groups = 0 }) 0 (shown ∷ []) of count
 empty_prepared shown of count facts classes = record {
   last = refl;
   all = refl;
   facts = facts_only shown facts;
   classes = classes empty_nodes no_sets;
-  anywhere = λ none. nulls_only;
 }

@@ -1,12 +1,12 @@
 -- Passes for the whole expression.
-use Rattle.std.proofs.Common.{inl, inr, ◌≡◌, ℕ, ◌+◌, ◌-◌, ◌*◌, ◌/◌, ◌^◌, ◌<◌, ◌≤◌, ◌⊎◌, ◌↔◌, Bool, true, false, not, ◌&&◌, ◌||◌, List, length, Option, Some, None, IsTrue, refl, sym, ap, ◌∙◌, subst, ⊎_elim, true≢false, arith, mul-le-mul_left, min, slice_get, is_some, IfSome}
+use Rattle.std.proofs.Common.{inl, inr, ◌≡◌, ℕ, ◌+◌, ◌-◌, ◌*◌, ◌/◌, ◌^◌, ◌<◌, ◌≤◌, ◌⊎◌, ◌↔◌, Bool, true, false, cond, List, length, Option, Some, None, IsTrue, refl, sym, ap, ◌∙◌, subst, ⊎_elim, true≢false, arith, mul-le-mul_left, min, slice_get, is_some, IfSome}
 use Rattle.std.specs.Bool.{then_some}
 use Rattle.sedpass.proofs.Words.{option_or, cases_lt, cases_Bool, both_ways, slice_get_within, IsArena, expression_tree, tree_at, Tree, seen, Node, Starts, TakesAtLeast, LooksPast, byte_is_in, HasSpan, IsStart, SomeSpan, IsLongestFrom, Matches, SomeFound, Matches-forward, Matches-within, IsPlace, StateFlags, PlaceKind, Prepared, Way, Table, Passed, seen-arena, seen-length, least_less, least_since, least_both}
 use Rattle.sedpass.specs.Rows.{nodes_of, at_begin, at_edge, RowOfPlace}
-use Rattle.sedpass.specs.Table.{PassState, state_of, FlagsShow, StateAt, LeadsOn, BeginsIn, NamesState, IsTable, IsForwardOne, IsForwardAny, SameShape, stops, code_of}
-use Rattle.sedpass.specs.Forwards.{starts_of, LastBelow, IsPassEnd, Arrives, EndsBelow, PassIs}
+use Rattle.sedpass.specs.Table.{PassState, state_of, FlagsShow, StateAt, LeadsOn, BeginsIn, NamesState, IsTable, IsForwardOne, IsForwardAny, SameShape, code_of}
+use Rattle.sedpass.specs.Forwards.{starts_of, LastBelow, IsPassEnd, Arrives, EndsBelow, PassIs, is_over}
 use Rattle.sedpass.proofs.RowLemmas.{dead, row_root, row_empty}
-use Rattle.sedpass.proofs.TableLemmas.{names_state, names_offset, names_code, names_small, names_map}
+use Rattle.sedpass.proofs.TableLemmas.{names_state, names_flags, names_map}
 
 -- The starts of a pass.
 
@@ -51,32 +51,15 @@ none_before p way w from k low some =
     let on = Matches-forward (tree_at (nodes_of way p.arena.expr) p.root) w some.0 k some.2 in
     omega arith
 
--- Codes.
-
-pub plain_code : (b : Bool) (o v : ℕ) → v ≡ code_of b o → o < 2147483647 → 2147483648 ≤ v → b ≡ false
-plain_code true o v is small high = absurd (omega arith)
-plain_code false o v is small high = refl
-
-pub low_code : (b : Bool) (o v : ℕ) → v ≡ code_of b o → v < 2147483648 → b ≡ true
-low_code true o v is low = refl
-low_code false o v is low = absurd (omega arith)
-
-no_end : (keeps all_starts ends dead : Bool) → keeps ≡ false → ((not keeps && (ends || (dead && not all_starts))) || (keeps && dead)) ≡ false → ends ≡ false
-no_end true all_starts ends dead e is = absurd (true≢false e)
-no_end false all_starts false dead e is = refl
-no_end false all_starts true dead e is = absurd (true≢false is)
-
-swept_end : (keeps all_starts ends dead : Bool) → keeps ≡ false → IsTrue all_starts → ((not keeps && (ends || (dead && not all_starts))) || (keeps && dead)) ≡ true → IsTrue ends
-swept_end true all_starts ends dead e s is = absurd (true≢false e)
-swept_end false false ends dead e s is = absurd (true≢false (sym s))
-swept_end false true true dead e s is = refl
-swept_end false true false true e s is = absurd (true≢false (sym is))
-swept_end false true false false e s is = absurd (true≢false (sym is))
-
 -- At a place: a code of its state.
 
-module _ (p : Prepared) (t : Table) (w : List ℕ) (start place code o : ℕ) (end : Option ℕ) (table : IsTable p t) (keeps : t.way.mirrored ≡ false) (after : start ≤ place) (within : place ≤ length w)
-    (shows : (b : Bool) (u : ℕ) → u < 2147483647 → code ≡ code_of b u → o ≡ u) (n : NamesState (length p.arena.expr.nodes) t (Arrives p t.way w start place) code) (last : EndsBelow p t.way w start place end) where
+over_why : (all_starts ends dead : Bool) → IsTrue (cond all_starts ends dead) → (IsTrue all_starts × IsTrue ends) ⊎ ((all_starts ≡ false) × IsTrue dead)
+over_why true ends dead h = inl (refl, h)
+over_why false ends dead h = inr (refl, h)
+
+module _ (p : Prepared) (t : Table) (w : List ℕ) (start place code o : ℕ) (end : Option ℕ) (flags : StateFlags) (table : IsTable p t) (after : start ≤ place) (within : place ≤ length w)
+    (shows : (f : StateFlags) (u : ℕ) → u < 536870912 → code ≡ code_of f u → o ≡ u) (shown : (f : StateFlags) (u : ℕ) → u < 536870912 → code ≡ code_of f u → flags ≡ f)
+    (n : NamesState (length p.arena.expr.nodes) t (Arrives p t.way w start place) code) (last : EndsBelow p t.way w start place end) where
   abbrev N : List Node
   N = nodes_of t.way p.arena.expr
 
@@ -92,25 +75,18 @@ module _ (p : Prepared) (t : Table) (w : List ℕ) (start place code o : ℕ) (e
   arrived : Arrives p t.way w start place here
   arrived = names_state p t table (Arrives p t.way w start place) code o n shows
 
-  is_shown : FlagsShow here
-  is_shown = table.shown (o / 2 ^ t.layout.shift) (names_offset p t table (Arrives p t.way w start place) code o n shows).0
+  is_shown : FlagsShow here flags
+  is_shown = names_flags p t table (Arrives p t.way w start place) code o n shows flags shown
 
-  code_is : code ≡ code_of (stops t.way here.flags) o
-  code_is = names_code p t table (Arrives p t.way w start place) code o n shows
-
-  ends_here : IsTrue here.flags.ends ↔ SomeSpan N w p.root S place
+  ends_here : IsTrue flags.ends ↔ SomeSpan N w p.root S place
   ends_here =
       let law = row_root N w here.root place S t.way.mirrored here.entered here.ended arena arrived.1 in (
         λ h. subst (λ r. SomeSpan N w r S place) arrived.0 (law.0 (sym is_shown.0 ∙ h)),
         λ h. is_shown.0 ∙ law.1 (subst (λ r. SomeSpan N w r S place) (sym arrived.0) h),
       )
 
-  -- where the root doesn't end the last end is the one before
-  no_end_here : here.flags.ends ≡ false → EndsBelow p t.way w start (place + 1) end
-  no_end_here is = last_step N w p.root S place end (λ some. both_ways here.flags.ends is (ends_here.1 some)) last
-
   -- where no leaf is entered no match goes on
-  dead_end : (noted : Option ℕ) → t.way.all_starts ≡ false → IsTrue here.flags.dead → EndsBelow p t.way w start (place + 1) noted → IsPassEnd t.way.all_starts N w p.root S noted
+  dead_end : (noted : Option ℕ) → t.way.all_starts ≡ false → IsTrue flags.dead → EndsBelow p t.way w start (place + 1) noted → IsPassEnd t.way.all_starts N w p.root S noted
   dead_end noted single is below =
       let none = row_empty N w here.root place S t.way.mirrored here.entered here.ended arrived.1 (is_shown.1.0 is) in
       let inside : p.root < length N = omega (arith, p.is_prepared.last, seen-length t.way.mirrored p.arena.expr) in
@@ -121,25 +97,14 @@ module _ (p : Prepared) (t : Table) (w : List ℕ) (start place code o : ℕ) (e
       dead N w here.root place some.0 k S arena (subst (λ r. r < length N) (sym arrived.0) inside) none some.1 (omega arith) (omega arith) (subst (λ r. HasSpan N w r some.0 k) (sym arrived.0) some.2))
       below
 
-  pub arrive_plain : 2147483648 ≤ code → PassIs p t w start (record { offset = o; place = place; end = end; over = false })
-  arrive_plain high = record {
-    after = after;
-    within = within;
-    arrived = arrived;
-    last = no_end_here (no_end t.way.mirrored t.way.all_starts here.flags.ends here.flags.dead keeps (plain_code (stops t.way here.flags) o code code_is (names_small p t table (Arrives p t.way w start place) code o n shows) high));
-    over = λ h. absurd (true≢false (sym h));
-  }
-
-  pub arrive_low : (flags : StateFlags) (noted : Option ℕ) (over : Bool) → code < 2147483648 → flags ≡ here.flags → noted ≡ option_or (then_some flags.ends place) end →
-      (IsTrue over → IsTrue t.way.all_starts ⊎ ((t.way.all_starts ≡ false) × IsTrue flags.dead)) → PassIs p t w start (record { offset = o; place = place; end = noted; over = over })
-  arrive_low flags noted over low same is_noted why =
-      let same_ends = ap (λ (f : StateFlags). f.ends) same in
+  pub arrive_at : (noted : Option ℕ) → noted ≡ option_or (then_some flags.ends place) end → PassIs p t w start (record { offset = o; place = place; end = noted; over = is_over t.way.all_starts flags })
+  arrive_at noted is_noted =
       let ends : IsTrue flags.ends → Some place ≡ noted = λ is. sym (is_noted ∙ ap (λ b. option_or (then_some b place) end) is) in
-      let stop : stops t.way here.flags ≡ true = low_code (stops t.way here.flags) o code code_is low in
       let all : EndsBelow p t.way w start (place + 1) noted =
       ⊎_elim
-      (λ (is : flags.ends ≡ true). subst (EndsBelow p t.way w start (place + 1)) (ends is) (last_here N w p.root S place (ends_here.0 (sym same_ends ∙ is))))
-      (λ (is : flags.ends ≡ false). subst (EndsBelow p t.way w start (place + 1)) (sym (is_noted ∙ ap (λ b. option_or (then_some b place) end) is)) (no_end_here (sym same_ends ∙ is)))
+      (λ (is : flags.ends ≡ true). subst (EndsBelow p t.way w start (place + 1)) (ends is) (last_here N w p.root S place (ends_here.0 is)))
+      (λ (is : flags.ends ≡ false). subst (EndsBelow p t.way w start (place + 1)) (sym (is_noted ∙ ap (λ b. option_or (then_some b place) end) is))
+      (last_step N w p.root S place end (λ some. both_ways flags.ends is (ends_here.1 some)) last))
       (cases_Bool flags.ends) in
       record {
         after = after;
@@ -147,11 +112,9 @@ module _ (p : Prepared) (t : Table) (w : List ℕ) (start place code o : ℕ) (e
         arrived = arrived;
         last = all;
         over = λ h. ⊎_elim
-            (λ (all_starts : IsTrue t.way.all_starts).
-            let ended = swept_end t.way.mirrored t.way.all_starts here.flags.ends here.flags.dead keeps all_starts stop in
-            subst (IsPassEnd t.way.all_starts N w p.root S) (ends (same_ends ∙ ended)) (ends_here.0 ended, λ single. absurd (both_ways t.way.all_starts single all_starts)))
-            (λ (d : (t.way.all_starts ≡ false) × IsTrue flags.dead). dead_end noted d.0 (sym (ap (λ (f : StateFlags). f.dead) same) ∙ d.1) all)
-            (why h);
+            (λ (swept : IsTrue t.way.all_starts × IsTrue flags.ends). subst (IsPassEnd t.way.all_starts N w p.root S) (ends swept.1) (ends_here.0 swept.1, λ single. absurd (both_ways t.way.all_starts single swept.0)))
+            (λ (d : (t.way.all_starts ≡ false) × IsTrue flags.dead). dead_end noted d.0 d.1 all)
+            (over_why t.way.all_starts flags.ends flags.dead h);
       }
 
 -- Further on.
@@ -160,7 +123,7 @@ pub arrives_next : (p : Prepared) (way : Way) (w : List ℕ) (start place byte :
     Arrives p way w start place a → LeadsOn (nodes_of way p.arena.expr) way a byte edge b → Arrives p way w start (place + 1) b
 arrives_next p way w start place byte edge a b after is inside edges here leads = (
   leads.0 ∙ here.0,
-  subst (λ r. StateAt (nodes_of way p.arena.expr) w (starts_of way.all_starts start w) way.mirrored (place + 1) (record { root = r; entered = b.entered; ended = b.ended; flags = b.flags })) (sym leads.0)
+  subst (λ r. StateAt (nodes_of way p.arena.expr) w (starts_of way.all_starts start w) way.mirrored (place + 1) (record { root = r; entered = b.entered; ended = b.ended })) (sym leads.0)
       (leads.1 w (starts_of way.all_starts start w) place (λ x m set. ap (λ o. byte_is_in o m) is) edges (next_start way.all_starts start w place after inside) here.1),
 )
 

@@ -424,7 +424,6 @@ module _ (p q : Prepared) (same : p.arena.expr ≡ q.arena.expr) where
     room = rw (← same) table.room;
     layout = rw (← same) table.layout;
     roots = λ n low. rw (← same) (table.roots n low);
-    shown = λ n low. rw (← same) (table.shown n low);
     filled = λ n k low column some. subst (λ (e : WrittenExpression). NamesState (length e.nodes) t (LeadsIn e t n k) (cell_of t n k)) same (table.filled n k low column some);
     begun = λ root kind may now. rw (← same) (table.begun root kind (begins_for q p (sym same) t.way root may) now);
   }

@@ -1,9 +1,8 @@
 -- Tables of states.
-use Rattle.std.proofs.Common.{Result, Ok, Err, IfOk, ◌≡◌, ◌≢◌, ℕ, zero, suc, ◌+◌, ◌*◌, ◌/◌, ◌%◌, ◌^◌, ◌<◌, ◌≤◌, ◌↔◌, Bool, true, false, List, length, length-set, Option, Some, None, IsTrue, refl, sym, ap, ◌∙◌, subst, ⊎_elim, arith, mul-le-mul_left, slice_index_or, slice_set, replicate, vec_capacity}
+use Rattle.std.proofs.Common.{Result, Ok, Err, IfOk, ◌≡◌, ◌≢◌, ℕ, zero, suc, ◌+◌, ◌*◌, ◌/◌, ◌%◌, ◌^◌, ◌<◌, ◌≤◌, ◌↔◌, Bool, true, false, List, length, length-set, Option, Some, IsTrue, refl, sym, ap, ◌∙◌, subst, ⊎_elim, arith, mul-le-mul_left, slice_index_or, slice_set, replicate, vec_capacity}
 use Rattle.sedpass.proofs.Words.{same_from_place, shl-shr, shl_whole, shl_below, from_bool, with_item, pow-le-pow_right, cases_eq, get_or-set_same, get_or-set_other, get_or_default, IsExpr, WrittenExpression, mirror_node, seen, old_node, Node, Set, AgreeBelow, row_of, StateFlags, PlaceKind, Prepared, Way, Work, Beginning, Table}
-use Rattle.sedpass.specs.Prepared.{SameNulls}
 use Rattle.sedpass.specs.Rows.{nodes_of, at_begin, at_edge, bits, SameBytes, RowLeadsTo, IsFirstRow}
-use Rattle.sedpass.specs.Table.{PassState, state_of, FlagsShow, HasRow, HasMarks, LeadsOn, BeginsIn, NamesState, IsNext, IsOffset, cell_of, LeadsBy, kind_number, beginning_at, beginning_of, MayBegin, HasRoom, HasRows, IsRoomy, IsTable, SameRoom, SameShape, AddsStates, Codes, stops, code_of, ColumnAt, EdgeApart, EdgeFits, IsLayout, IsColumn}
+use Rattle.sedpass.specs.Table.{PassState, state_of, FlagsShow, HasRow, HasMarks, LeadsOn, BeginsIn, NamesState, IsNext, IsOffset, cell_of, LeadsBy, kind_number, beginning_at, beginning_of, MayBegin, HasRoom, HasRows, IsRoomy, IsTable, SameRoom, SameShape, AddsStates, Codes, code_of, column_at, IsLayout, IsColumn}
 use Rattle.sedpass.specs.declared.cells.Layout.{Layout}
 use Rattle.sedpass.proofs.LeaveLemmas.{twice}
 use Rattle.sedpass.proofs.RowLemmas.{bits_agree, bits_clear, bits_here, class_row}
@@ -11,14 +10,23 @@ use Rattle.sedpass.proofs.ClassLemmas.{bit_low, sides}
 
 -- Rows.
 
-pub bits_dead : (m : ℕ) (a : List Bool) → ((c : ℕ) → c < m → slice_index_or a c false ≡ false) ↔ ((c : ℕ) → bits m a c ≡ false)
+bits_dead : (m : ℕ) (a : List Bool) → ((c : ℕ) → c < m → slice_index_or a c false ≡ false) ↔ ((c : ℕ) → bits m a c ≡ false)
 bits_dead m a = (bits_clear m a, λ none c lt. sym (bits_here m a c lt) ∙ none c)
 
-abbrev pub state : ℕ → (ℕ → Bool) → (ℕ → Bool) → StateFlags → PassState
-state r e d f = record { root = r; entered = e; ended = d; flags = f }
+abbrev pub state : ℕ → (ℕ → Bool) → (ℕ → Bool) → PassState
+state r e d = record { root = r; entered = e; ended = d }
 
-pub state_same : (r r' : ℕ) (e e' d d' : ℕ → Bool) (f f' : StateFlags) → r ≡ r' → e ≡ e' → d ≡ d' → f ≡ f' → state r e d f ≡ state r' e' d' f'
-state_same r r' e e' d d' f f' a b c g = ap (λ x. state x e d f) a ∙ ap (λ x. state r' x d f) b ∙ ap (λ x. state r' e' x f) c ∙ ap (λ x. state r' e' d' x) g
+pub state_same : (r r' : ℕ) (e e' d d' : ℕ → Bool) → r ≡ r' → e ≡ e' → d ≡ d' → state r e d ≡ state r' e' d'
+state_same r r' e e' d d' a b c = ap (λ x. state x e d) a ∙ ap (λ x. state r' x d) b ∙ ap (state r' e') c
+
+-- the marks show the flags of a state that has their row
+pub marks_show : (p : Prepared) (root : ℕ) (work : Work) (a : PassState) (flags : StateFlags) → root < length p.arena.expr.nodes → flags.ends ≡ slice_index_or work.ends root false →
+    (IsTrue flags.dead ↔ ((c : ℕ) → c < length p.arena.expr.nodes → slice_index_or work.leaves c false ≡ false)) → HasMarks p root work a → FlagsShow a flags
+marks_show p root work a flags inside ends dead has =
+    let m = length p.arena.expr.nodes in
+    let law = bits_dead m work.leaves in
+    subst (λ x. FlagsShow x flags) (state_same root a.root (bits m work.leaves) a.entered (bits m work.ends) a.ended (sym has.0) (sym has.1) (sym has.2))
+    (ends ∙ sym (bits_here m work.ends root inside), (λ h. law.0 (dead.0 h), λ h. dead.1 (law.1 h)))
 
 -- Places of cells.
 
@@ -28,7 +36,7 @@ shifted q n s lt few small = shl_whole q 16 s 64 (omega arith) (omega arith)
 pub one_shifted : (s : ℕ) → s ≤ 8 → (1 * 2 ^ s) % 2 ^ 64 ≡ 2 ^ s
 one_shifted s small = omega (arith, shl_whole 1 16 s 64 (omega arith) (omega arith))
 
-pub few_offset : (q n s : ℕ) → q < n → n ≤ 65535 → s ≤ 8 → q * 2 ^ s < 2147483647
+pub few_offset : (q n s : ℕ) → q < n → n ≤ 65535 → s ≤ 8 → q * 2 ^ s < 536870912
 few_offset q n s lt few small =
     let below = shl_below q 16 s (omega arith) in
     let two : 0 < 2 = omega arith in
@@ -43,29 +51,16 @@ cell_inside size q k n w len lt small fits is =
 
 -- Columns.
 
-pub column_below : (columns width class k : ℕ) (edge : Bool) (first : Option ℕ) → columns ≤ width → EdgeFits columns width first → class < columns → ColumnAt first class edge k → k < width
-column_below columns width class k false first low fits small is = omega arith
-column_below columns width class k true None low fits small is = absurd is
-column_below columns width class k true (Some f) low fits small is = omega arith
+pub column_below : (columns class k : ℕ) (edge : Bool) → class < columns → k ≡ column_at columns class edge → k < 2 * columns
+column_below columns class k false small is = omega arith
+column_below columns class k true small is = omega arith
 
--- a column is of one class, at the edge or elsewhere, if the edge's columns are apart
-column_apart : (columns class other k : ℕ) (edge edge' : Bool) (first : Option ℕ) → EdgeApart columns first → class < columns → other < columns →
-    ColumnAt first class edge k → ColumnAt first other edge' k → (other ≡ class) × (edge' ≡ edge)
-column_apart columns class other k false false first apart small small' is is' = (omega arith, refl)
-column_apart columns class other k true true None apart small small' is is' = absurd is
-column_apart columns class other k true true (Some f) apart small small' is is' = (omega arith, refl)
-column_apart columns class other k false true None apart small small' is is' = absurd is'
-column_apart columns class other k false true (Some f) apart small small' is is' = absurd (omega arith)
-column_apart columns class other k true false None apart small small' is is' = absurd is
-column_apart columns class other k true false (Some f) apart small small' is is' = absurd (omega arith)
-
--- it is of one class, if the edge's columns are those of other places
-column_within : (class k : ℕ) (edge : Bool) (first : Option ℕ) → first ≡ Some 0 → ColumnAt first class edge k → k ≡ class
-column_within class k edge first within is = at edge (subst (λ f. ColumnAt f class edge k) within is)
-  where
-    at : (end : Bool) → ColumnAt (Some 0) class end k → k ≡ class
-    at false is = is
-    at true is = omega (arith, is)
+-- a column is of one class, at the edge or elsewhere
+column_apart : (columns class other : ℕ) (edge edge' : Bool) → class < columns → other < columns → column_at columns class edge ≡ column_at columns other edge' → (other ≡ class) × (edge' ≡ edge)
+column_apart columns class other false false small small' same = (sym same, refl)
+column_apart columns class other true true small small' same = (omega (arith, same), refl)
+column_apart columns class other false true small small' same = absurd (omega (arith, same))
+column_apart columns class other true false small small' same = absurd (omega (arith, same))
 
 -- Bytes of one class, however the expression is seen.
 
@@ -103,11 +98,8 @@ begin_apart false root x other kind kind' one two e =
 
 -- What the table names.
 
-abbrev code_by : Way → PassState → ℕ → ℕ → ℕ
-code_by way a shift q = code_of (stops way a.flags) (q * 2 ^ shift)
-
 pub names_map : (m : ℕ) (t : Table) (P Q : PassState → Type 0) (v : ℕ) → ((a : PassState) → P a → Q a) → NamesState m t P v → NamesState m t Q v
-names_map m t P Q v up n = record { to = n.to; there = n.there; code = n.code; is = up (state_of m t n.to) n.is }
+names_map m t P Q v up n = record { to = n.to; there = n.there; flags = n.flags; shown = n.shown; code = n.code; is = up (state_of m t n.to) n.is }
 
 pub codes_map : (p : Prepared) (t t' : Table) (P Q : PassState → Type 0) (v : ℕ) → ((a : PassState) → P a → Q a) → Codes p t t' P v → Codes p t t' Q v
 codes_map p t t' P Q v up c = record { table = c.table; adds = c.adds; names = names_map (length p.arena.expr.nodes) t' P Q v up c.names }
@@ -120,10 +112,9 @@ module _ (p : Prepared) (t t' : Table) (adds : AddsStates (length p.arena.expr.n
   names_more P v n = record {
     to = n.to;
     there = (let up = (adds.grows epoch).0 in let low = n.there in omega arith);
-    code = n.code
-        ∙ ap (λ w. code_by w (state_of m t n.to) t.layout.shift n.to) (sym adds.shape.0)
-        ∙ ap (λ (l : Layout). code_by t'.way (state_of m t n.to) l.shift n.to) (sym adds.shape.2)
-        ∙ ap (λ a. code_by t'.way a t'.layout.shift n.to) (sym (adds.kept epoch n.to n.there));
+    flags = n.flags;
+    shown = subst (λ a. FlagsShow a n.flags) (sym (adds.kept epoch n.to n.there)) n.shown;
+    code = n.code ∙ ap (λ (l : Layout). code_of n.flags (n.to * 2 ^ l.shift)) (sym adds.shape.2);
     is = subst P (sym (adds.kept epoch n.to n.there)) n.is;
   }
 
@@ -161,9 +152,9 @@ module _ (p : Prepared) (t t' : Table) (adds : AddsStates (length p.arena.expr.n
 
   -- one more state, from which nothing is known yet
   pub one_more : IsTable p t → HasRoom m t' → t'.count ≡ t.count + 1 → t'.beginnings ≡ t.beginnings →
-      ((q k : ℕ) → q < t.count → k < t.layout.width → cell_of t' q k ≡ cell_of t q k) → ((k : ℕ) → k < t.layout.width → cell_of t' t.count k ≡ 0) →
-      (state_of m t' t.count).root < m → FlagsShow (state_of m t' t.count) → IsTable p t'
-  one_more table room count begins before clear root shown = record {
+      ((q k : ℕ) → q < t.count → k < 2 * t.layout.columns → cell_of t' q k ≡ cell_of t q k) → ((k : ℕ) → k < 2 * t.layout.columns → cell_of t' t.count k ≡ 0) →
+      (state_of m t' t.count).root < m → IsTable p t'
+  one_more table room count begins before clear root = record {
     expr = table.expr;
     room = room;
     layout = subst (λ l. IsLayout p.arena.expr.nodes l) (sym adds.shape.2) table.layout;
@@ -171,12 +162,8 @@ module _ (p : Prepared) (t t' : Table) (adds : AddsStates (length p.arena.expr.n
         (λ (e : q ≡ t.count). subst (λ x. (state_of m t' x).root < m) (sym e) root)
         (λ (ne : q ≢ t.count). let less : q < t.count = omega (arith, ne) in subst (λ (a : PassState). a.root < m) (sym (adds.kept epoch q less)) (table.roots q less))
         (cases_eq q t.count);
-    shown = λ q there. ⊎_elim
-        (λ (e : q ≡ t.count). subst (λ x. FlagsShow (state_of m t' x)) (sym e) shown)
-        (λ (ne : q ≢ t.count). let less : q < t.count = omega (arith, ne) in subst (λ (a : PassState). FlagsShow a) (sym (adds.kept epoch q less)) (table.shown q less))
-        (cases_eq q t.count);
     filled = λ q k there column some.
-        let narrow : k < t.layout.width = subst (λ (l : Layout). k < l.width) adds.shape.2 column in
+        let narrow : k < 2 * t.layout.columns = subst (λ (l : Layout). k < 2 * l.columns) adds.shape.2 column in
         ⊎_elim
         (λ (e : q ≡ t.count). let none = subst (λ x. cell_of t' x k ≡ 0) (sym e) (clear k narrow) in absurd (omega (arith, none, some)))
         (λ (ne : q ≢ t.count).
@@ -200,8 +187,8 @@ noted_all P items at epoch code inside here all i =
 
 -- one more cell is filled
 pub note_cell : (p : Prepared) (t : Table) → IsTable p t → (offset k v byte : ℕ) (edge : Bool) → IsOffset t offset → byte < 256 → IsColumn t.layout byte edge k → NamesState (length p.arena.expr.nodes) t (IsNext p t offset byte edge) v →
-    (SameNulls p.arena.expr.nodes → NamesState (length p.arena.expr.nodes) t (λ b. (end : Bool) → IsNext p t offset byte end b) v) → IsTable p (record t { cells = with_item t.cells (offset + k) v })
-note_cell p t table offset k v byte edge there small column leads anywhere =
+    IsTable p (record t { cells = with_item t.cells (offset + k) v })
+note_cell p t table offset k v byte edge there small column leads =
     let m = length p.arena.expr.nodes in
     let N : Table = record t { cells = with_item t.cells (offset + k) v } in
     let old = table.room in
@@ -209,8 +196,8 @@ note_cell p t table offset k v byte edge there small column leads anywhere =
     let q = offset / size in
     let is = there.1 in
     let class = slice_index_or t.layout.classes byte 0 in
-    let narrow : k < t.layout.width = column_below t.layout.columns t.layout.width class k edge t.layout.edge table.layout.columns table.layout.edge column.0 column.1 in
-    let inside : offset + k < length t.cells.items = (let h = cell_inside size q k t.count t.layout.width (length t.cells.items) there.0 narrow table.layout.fits old.cells in omega (arith, h, is)) in
+    let narrow : k < 2 * t.layout.columns = column_below t.layout.columns class k edge column.0 column.1 in
+    let inside : offset + k < length t.cells.items = (let h = cell_inside size q k t.count (2 * t.layout.columns) (length t.cells.items) there.0 narrow table.layout.fits old.cells in omega (arith, h, is)) in
     let room : HasRoom m N = record {
       count = old.count;
       marks = old.marks;
@@ -223,26 +210,16 @@ note_cell p t table offset k v byte edge there small column leads anywhere =
       past = old.past;
       early = old.early;
     } in
-    let here : NamesState m t (LeadsBy p t q k) v =
-    ⊎_elim
-    (λ (within : (t.layout.edge ≡ Some 0) × SameNulls p.arena.expr.nodes).
-    names_map m t (λ b. (end : Bool) → IsNext p t offset byte end b) (LeadsBy p t q k) v
+    let here : NamesState m t (LeadsBy p t q k) v = names_map m t (IsNext p t offset byte edge) (LeadsBy p t q k) v
     (λ b on o end few at.
-    let one = sym (column_within (slice_index_or t.layout.classes o 0) k end t.layout.edge within.0 at.1) ∙ column_within class k edge t.layout.edge within.0 column.1 in
-    leads_same p.arena.expr t.way (state_of m t q) b byte o end (table.layout.classes o byte few small one) (on end)) (anywhere within.1))
-    (λ (apart : EdgeApart t.layout.columns t.layout.edge).
-    names_map m t (IsNext p t offset byte edge) (LeadsBy p t q k) v
-    (λ b on o end few at.
-    let one = column_apart t.layout.columns class (slice_index_or t.layout.classes o 0) k edge end t.layout.edge apart column.0 at.0 column.1 at.1 in
-    leads_same p.arena.expr t.way (state_of m t q) b byte o end (table.layout.classes o byte few small one.0) (subst (λ x. IsNext p t offset byte x b) (sym one.1) on)) leads)
-    table.layout.apart in
-    let same_names : (P : PassState → Type 0) (x : ℕ) → NamesState m t P x → NamesState m N P x = λ P x n. record { to = n.to; there = n.there; code = n.code; is = n.is } in
+    let one = column_apart t.layout.columns class (slice_index_or t.layout.classes o 0) edge end column.0 at.0 (sym column.1 ∙ at.1) in
+    leads_same p.arena.expr t.way (state_of m t q) b byte o end (table.layout.classes o byte few small one.0) (subst (λ x. IsNext p t offset byte x b) (sym one.1) on)) leads in
+    let same_names : (P : PassState → Type 0) (x : ℕ) → NamesState m t P x → NamesState m N P x = λ P x n. record { to = n.to; there = n.there; flags = n.flags; shown = n.shown; code = n.code; is = n.is } in
     record {
       expr = table.expr;
       room = room;
       layout = table.layout;
       roots = table.roots;
-      shown = table.shown;
       filled = λ x j less near some.
           ⊎_elim
           (λ (e : x * size + j ≡ offset + k).
@@ -279,13 +256,12 @@ note_beginning p t table root code kind may epoch begins =
       past = noted_all (λ n. n ≤ t.epoch) t.beginnings.items at t.epoch code inside (omega arith) old.past;
       early = noted_all (λ n. n < 4294967294) t.beginnings.items at t.epoch code inside (omega (arith, epoch)) old.early;
     } in
-    let same_names : (P : PassState → Type 0) (x : ℕ) → NamesState m t P x → NamesState m N P x = λ P x n. record { to = n.to; there = n.there; code = n.code; is = n.is } in
+    let same_names : (P : PassState → Type 0) (x : ℕ) → NamesState m t P x → NamesState m N P x = λ P x n. record { to = n.to; there = n.there; flags = n.flags; shown = n.shown; code = n.code; is = n.is } in
     record {
       expr = table.expr;
       room = room;
       layout = table.layout;
       roots = table.roots;
-      shown = table.shown;
       filled = λ q k low near some. same_names (LeadsBy p t q k) (cell_of t q k) (table.filled q k low near some);
       begun = λ x other may' now.
           let i = beginning_at t.way.all_starts x other in
@@ -309,7 +285,6 @@ no_states p t expr room layout none past = record {
   room = room;
   layout = layout;
   roots = λ q low. absurd (omega arith);
-  shown = λ q low. absurd (omega arith);
   filled = λ q k low col some. absurd (omega arith);
   begun = λ root kind may now. let before = past (beginning_at t.way.all_starts root kind) in absurd (omega (arith, before, now));
 }
@@ -344,28 +319,23 @@ adds_same m t t' shape epoch count same = record {
 }
 
 -- a new state
-module _ (m : ℕ) (t t' : Table) (root : ℕ) (leaves ends : List Bool) (flags : StateFlags) (there : t.count < t.room) (room : HasRoom m t) (shape : SameShape t t') (epoch : t'.epoch ≡ t.epoch) (count : t'.count ≡ t.count + 1)
+module _ (m : ℕ) (t t' : Table) (root : ℕ) (leaves ends : List Bool) (there : t.count < t.room) (room : HasRoom m t) (shape : SameShape t t') (epoch : t'.epoch ≡ t.epoch) (count : t'.count ≡ t.count + 1)
     (other_leaves : (q : ℕ) → q < length t.leaves → q ≢ t.count → row_of t'.leaves q ≡ row_of t.leaves q) (new_leaves : AgreeBelow m (row_of t'.leaves t.count) leaves)
     (other_ends : (q : ℕ) → q < length t.ends → q ≢ t.count → row_of t'.ends q ≡ row_of t.ends q) (new_ends : AgreeBelow m (row_of t'.ends t.count) ends)
-    (roots : t'.roots.items ≡ slice_set t.roots.items t.count root) (all_flags : t'.flags.items ≡ slice_set t.flags.items t.count flags) where
-  abbrev none : StateFlags
-  none = record { ends = false; dead = false }
-
-  pub state_added : state_of m t' t.count ≡ state root (bits m leaves) (bits m ends) flags
-  state_added = state_same (slice_index_or t'.roots.items t.count 0) root (bits m (row_of t'.leaves t.count)) (bits m leaves) (bits m (row_of t'.ends t.count)) (bits m ends) (slice_index_or t'.flags.items t.count none) flags
+    (roots : t'.roots.items ≡ slice_set t.roots.items t.count root) where
+  pub state_added : state_of m t' t.count ≡ state root (bits m leaves) (bits m ends)
+  state_added = state_same (slice_index_or t'.roots.items t.count 0) root (bits m (row_of t'.leaves t.count)) (bits m leaves) (bits m (row_of t'.ends t.count)) (bits m ends)
       (ap (λ l. slice_index_or l t.count 0) roots ∙ get_or-set_same t.roots.items t.count root 0 (omega (arith, room.rows.roots)))
       (bits_agree m (row_of t'.leaves t.count) leaves new_leaves)
       (bits_agree m (row_of t'.ends t.count) ends new_ends)
-      (ap (λ l. slice_index_or l t.count none) all_flags ∙ get_or-set_same t.flags.items t.count flags none (omega (arith, room.rows.flags)))
 
   state_kept : (q : ℕ) → q < t.count → state_of m t' q ≡ state_of m t q
   state_kept q low =
       let ne : q ≢ t.count = λ e. omega arith in
-      state_same (slice_index_or t'.roots.items q 0) (slice_index_or t.roots.items q 0) (bits m (row_of t'.leaves q)) (bits m (row_of t.leaves q)) (bits m (row_of t'.ends q)) (bits m (row_of t.ends q)) (slice_index_or t'.flags.items q none) (slice_index_or t.flags.items q none)
+      state_same (slice_index_or t'.roots.items q 0) (slice_index_or t.roots.items q 0) (bits m (row_of t'.leaves q)) (bits m (row_of t.leaves q)) (bits m (row_of t'.ends q)) (bits m (row_of t.ends q))
       (ap (λ l. slice_index_or l q 0) roots ∙ get_or-set_other t.roots.items t.count q root 0 ne)
       (ap (bits m) (other_leaves q (omega (arith, room.rows.leaves)) ne))
       (ap (bits m) (other_ends q (omega (arith, room.rows.ends)) ne))
-      (ap (λ l. slice_index_or l q none) all_flags ∙ get_or-set_other t.flags.items t.count q flags none ne)
 
   pub state_adds : AddsStates m t t'
   state_adds = record {
@@ -409,9 +379,6 @@ module _ (p : Prepared) (t u : Table) (table : IsTable p t) (offset : ℕ) (ther
   pub names_leads : (edge : Bool) → Leads edge → NamesState (length p.arena.expr.nodes) u (LeadsOn (nodes_of t.way p.arena.expr) t.way here byte edge) v
   names_leads edge leads = names_map (length p.arena.expr.nodes) u (HasMarks p root work) (LeadsOn (nodes_of t.way p.arena.expr) t.way here byte edge) v (leads_state edge leads) names
 
-  pub names_anywhere : ((edge : Bool) → Leads edge) → NamesState (length p.arena.expr.nodes) u (λ b. (edge : Bool) → LeadsOn (nodes_of t.way p.arena.expr) t.way here byte edge b) v
-  names_anywhere leads = names_map (length p.arena.expr.nodes) u (HasMarks p root work) (λ b. (edge : Bool) → LeadsOn (nodes_of t.way p.arena.expr) t.way here byte edge b) v (λ b has edge. leads_state edge (leads edge) b has) names
-
 -- a first state
 pub names_first : (p : Prepared) (u : Table) (way : Way) (root v : ℕ) (kind : PlaceKind) (leaves ends : List Bool) → NamesState (length p.arena.expr.nodes) u (HasRow root (bits (length p.arena.expr.nodes) leaves) (bits (length p.arena.expr.nodes) ends)) v →
     IsFirstRow (nodes_of way p.arena.expr) root way.mirrored (at_begin way.mirrored kind) (at_edge way.mirrored kind) (bits (length p.arena.expr.nodes) leaves) (bits (length p.arena.expr.nodes) ends) → NamesState (length p.arena.expr.nodes) u (BeginsIn (nodes_of way p.arena.expr) way root kind) v
@@ -424,23 +391,12 @@ names_first p u way root v kind leaves ends n first =
 
 -- What a code names.
 
-pub code_some : (b : Bool) (o v : ℕ) → v ≡ code_of b o → 0 < v
-code_some true o v is = omega arith
-code_some false o v is = omega arith
-
--- the code of a state is some number
-pub names_some : (p : Prepared) (t : Table) (P : PassState → Type 0) (v : ℕ) → NamesState (length p.arena.expr.nodes) t P v → 0 < v
-names_some p t P v n = code_some (stops t.way (state_of (length p.arena.expr.nodes) t n.to).flags) (n.to * 2 ^ t.layout.shift) v n.code
-
-module _ (p : Prepared) (t : Table) (table : IsTable p t) (P : PassState → Type 0) (v o : ℕ) (n : NamesState (length p.arena.expr.nodes) t P v) (shows : (b : Bool) (u : ℕ) → u < 2147483647 → v ≡ code_of b u → o ≡ u) where
-  named : PassState
-  named = state_of (length p.arena.expr.nodes) t n.to
-
-  small_offset : n.to * 2 ^ t.layout.shift < 2147483647
+module _ (p : Prepared) (t : Table) (table : IsTable p t) (P : PassState → Type 0) (v o : ℕ) (n : NamesState (length p.arena.expr.nodes) t P v) (shows : (flags : StateFlags) (u : ℕ) → u < 536870912 → v ≡ code_of flags u → o ≡ u) where
+  small_offset : n.to * 2 ^ t.layout.shift < 536870912
   small_offset = few_offset n.to t.room t.layout.shift (let low = n.there in let most = table.room.count in omega arith) table.room.rows.few table.layout.small
 
   offset_is : o ≡ n.to * 2 ^ t.layout.shift
-  offset_is = shows (stops t.way (state_of (length p.arena.expr.nodes) t n.to).flags) (n.to * 2 ^ t.layout.shift) small_offset n.code
+  offset_is = shows n.flags (n.to * 2 ^ t.layout.shift) small_offset n.code
 
   reverse_any : o / 2 ^ t.layout.shift ≡ n.to
   reverse_any = ap (λ x. x / 2 ^ t.layout.shift) offset_is ∙ shl-shr n.to t.layout.shift
@@ -451,22 +407,19 @@ module _ (p : Prepared) (t : Table) (table : IsTable p t) (P : PassState → Typ
   pub names_state : P (state_of (length p.arena.expr.nodes) t (o / 2 ^ t.layout.shift))
   names_state = subst (λ x. P (state_of (length p.arena.expr.nodes) t x)) (sym reverse_any) n.is
 
-  pub names_code : v ≡ code_of (stops t.way (state_of (length p.arena.expr.nodes) t (o / 2 ^ t.layout.shift)).flags) o
-  names_code = n.code
-      ∙ ap (λ x. code_of (stops t.way (state_of (length p.arena.expr.nodes) t x).flags) (n.to * 2 ^ t.layout.shift)) (sym reverse_any)
-      ∙ ap (λ x. code_of (stops t.way (state_of (length p.arena.expr.nodes) t (o / 2 ^ t.layout.shift)).flags) x) (sym offset_is)
-
-  pub names_small : o < 2147483647
-  names_small = omega (arith, offset_is, small_offset)
+  -- what the code shows are the flags of its state
+  pub names_flags : (shown : StateFlags) → ((flags : StateFlags) (u : ℕ) → u < 536870912 → v ≡ code_of flags u → shown ≡ flags) → FlagsShow (state_of (length p.arena.expr.nodes) t (o / 2 ^ t.layout.shift)) shown
+  names_flags shown show = subst (λ x. FlagsShow (state_of (length p.arena.expr.nodes) t x) shown) (sym reverse_any)
+      (subst (FlagsShow (state_of (length p.arena.expr.nodes) t n.to)) (sym (show n.flags (n.to * 2 ^ t.layout.shift) small_offset n.code)) n.shown)
 
 -- what a cell holds
 module _ (p : Prepared) (t : Table) (table : IsTable p t) (offset byte k : ℕ) (edge : Bool) (at : IsOffset t offset) (column : IsColumn t.layout byte edge k) where
-  column_inside : k < t.layout.width
-  column_inside = column_below t.layout.columns t.layout.width (slice_index_or t.layout.classes byte 0) k edge t.layout.edge table.layout.columns table.layout.edge column.0 column.1
+  column_inside : k < 2 * t.layout.columns
+  column_inside = column_below t.layout.columns (slice_index_or t.layout.classes byte 0) k edge column.0 column.1
 
   pub cell_there : offset + k < length t.cells.items
   cell_there =
-      let inside = cell_inside (2 ^ t.layout.shift) (offset / 2 ^ t.layout.shift) k t.count t.layout.width (length t.cells.items) at.0 column_inside table.layout.fits table.room.cells in
+      let inside = cell_inside (2 ^ t.layout.shift) (offset / 2 ^ t.layout.shift) k t.count (2 * t.layout.columns) (length t.cells.items) at.0 column_inside table.layout.fits table.room.cells in
       omega (arith, inside, at.1)
 
   pub known_cell : (v : ℕ) → byte < 256 → v ≡ slice_index_or t.cells.items (offset + k) 0 → 0 < v → NamesState (length p.arena.expr.nodes) t (LeadsOn (nodes_of t.way p.arena.expr) t.way (state_of (length p.arena.expr.nodes) t (offset / 2 ^ t.layout.shift)) byte edge) v
@@ -495,7 +448,7 @@ made_so P Q (Ok t) so made = so t made
 made_so P Q (Err e) so made = tt
 
 -- an empty table that has all its parts, with so many beginnings, has all its room
-pub has_parts : (t : Table) (kinds : ℕ) → t.count ≡ 0 → HasRows t.room t.marks t.leaves t.ends t.roots.items t.flags.items → t.reserved ≡ t.room * 2 ^ t.layout.shift → t.reserved ≤ vec_capacity t.cells →
+pub has_parts : (t : Table) (kinds : ℕ) → t.count ≡ 0 → HasRows t.room t.marks t.leaves t.ends t.roots.items → t.reserved ≡ t.room * 2 ^ t.layout.shift → t.reserved ≤ vec_capacity t.cells →
     2 ≤ length t.index.items → length t.beginnings.items ≡ kinds → ((root : ℕ) (kind : PlaceKind) → root < t.marks → beginning_at t.way.all_starts root kind < kinds) → ((i : ℕ) → (beginning_of t i).epoch ≡ 0) →
     HasRoom t.marks t
 has_parts t kinds none rows reserved capacity index long begins noted = record {
@@ -541,7 +494,7 @@ pub table_roomy : (m : ℕ) (p : Prepared) (t : Table) → IsTable p t → 256 *
 table_roomy m p t table wide marks layout small = room_laid (length p.arena.expr.nodes) m t layout table.room wide marks small
 
 abbrev widest : Layout
-widest = record { classes = replicate 256 0; columns = 0; edge = None; width = 0; shift = 8 }
+widest = record { classes = replicate 256 0; columns = 0; shift = 8 }
 
 -- so it has it again, after one expression
 pub roomy_still : (m : ℕ) (p : Prepared) (t t' : Table) → IsRoomy m t → SameRoom t t' → IsTable p t' → IsRoomy m t'

@@ -6,6 +6,7 @@ use Rattle.sedtext.specs.declared.starts.Starts.{Starts}
 use Rattle.sedtext.specs.Reach.{SomeSpan}
 use Rattle.sedpass.specs.Rows.{nodes_of}
 use Rattle.sedpass.specs.Table.{PassState, state_of, StateAt}
+use Rattle.sedpass.specs.declared.cells.StateFlags.{StateFlags}
 use Rattle.sedpass.specs.declared.nodes.Prepared.{Prepared}
 use Rattle.sedpass.specs.declared.rows.Way.{Way}
 use Rattle.sedpass.specs.declared.table.Table.{Table}
@@ -24,6 +25,10 @@ LastBelow nodes w r s n (Some j) = (j < n) × SomeSpan nodes w r s j × ((k : �
 abbrev pub IsPassEnd : Bool → List Node → List ℕ → ℕ → Starts → Option ℕ → Type 0
 IsPassEnd all_starts nodes w r s None = (k : ℕ) → SomeSpan nodes w r s k → ⊥
 IsPassEnd all_starts nodes w r s (Some j) = SomeSpan nodes w r s j × (all_starts ≡ false → (k : ℕ) → SomeSpan nodes w r s k → k ≤ j)
+
+-- whether a pass needn't go on at a state that shows this: with all starts where its root ends, and else where no leaf is entered
+abbrev pub is_over : Bool → StateFlags → Bool
+is_over all_starts flags = cond all_starts flags.ends flags.dead
 
 -- the state is that of the place, in a pass from `start` for the whole expression
 abbrev pub Arrives : Prepared → Way → List ℕ → ℕ → ℕ → PassState → Type 0

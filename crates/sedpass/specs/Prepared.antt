@@ -1,6 +1,6 @@
 -- Private to the proofs: no contract that `sedmatch` makes public cites what is here.
 -- What is found out once of an expression: facts of each node, as its groups and how long its spans are.
-use Rattle.std.specs.Prelude.{◌≡◌, ℕ, ◌+◌, ◌-◌, ◌*◌, ◌≤◌, ◌<◌, Bool, true, false, ◌&&◌, ◌||◌, eqb, List, length, slice_get, cond, Option, Some, None, IfSome, nat_lt}
+use Rattle.std.specs.Prelude.{◌≡◌, ℕ, ◌+◌, ◌-◌, ◌*◌, ◌≤◌, Bool, true, false, ◌&&◌, ◌||◌, eqb, List, length, slice_get, cond, Option, Some, None, IfSome, nat_lt}
 use Rattle.std.specs.Int.{bit_at, from_bool}
 use Rattle.sedre.specs.Tree.{Tree, byte_of, text_begin, text_end, sequence, either_of, grouped, any_copies, WrittenExpression, tree_at, null_string, one_or_none, size}
 use Rattle.sedre.specs.declared.types.Node.{Node}
@@ -94,18 +94,9 @@ AreFacts nodes facts = (x : ℕ) (here : Facts) → slice_get facts x ≡ Some h
 abbrev pub IsShort : Option ℕ → Type 0
 IsShort long = IfSome long (λ n. n ≤ 65536)
 
--- null strings are matched at places of each kind, or at none
-abbrev pub IsOfEachKind : ℕ → Type 0
-IsOfEachKind null = (first last : Bool) → null_at null first last ≡ null_at null false false
-
--- each node matches the null string at places of each kind, or at none
-abbrev pub SameNulls : List Node → Type 0
-SameNulls nodes = (x : ℕ) (first last : Bool) → x < length nodes → nullable first last (tree_at nodes x) ≡ nullable false false (tree_at nodes x)
-
 -- what is known of an expression
-pub record IsPrepared (e : WrittenExpression) (root : ℕ) (shown : List Facts) (of : List ℕ) (columns : ℕ) (anchors : Bool) : Type 0 where
+pub record IsPrepared (e : WrittenExpression) (root : ℕ) (shown : List Facts) (of : List ℕ) (columns : ℕ) : Type 0 where
   pub last : root + 1 ≡ length e.nodes
   pub all : length shown ≡ length e.nodes
   pub facts : AreFacts e.nodes shown
   pub classes : AreClasses e.nodes of columns
-  pub anywhere : anchors ≡ false → SameNulls e.nodes

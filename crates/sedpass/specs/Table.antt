@@ -1,6 +1,6 @@
 -- Private to the proofs: no contract that `sedmatch` makes public cites what is here.
 -- A table of the passes of one way: its states, its cells, and the codes by which they name states.
-use Rattle.std.specs.Prelude.{◌≡◌, ℕ, ◌+◌, ◌*◌, ◌/◌, ◌^◌, ◌<◌, ◌≤◌, ◌↔◌, Bool, true, false, List, length, slice_index_or, Some, IsTrue, vec_capacity, ◌⊎◌, not, ◌&&◌, ◌||◌, Option, None}
+use Rattle.std.specs.Prelude.{◌≡◌, ℕ, ◌+◌, ◌*◌, ◌/◌, ◌^◌, ◌<◌, ◌≤◌, ◌↔◌, Bool, true, false, List, length, slice_index_or, Some, IsTrue, vec_capacity}
 use Rattle.std.specs.Int.{from_bool}
 use Rattle.sedre.specs.Arena.{IsExpr}
 use Rattle.sedre.specs.declared.types.Node.{Node}
@@ -16,71 +16,45 @@ use Rattle.sedpass.specs.declared.cells.Layout.{Layout}
 use Rattle.sedpass.specs.declared.table.Beginning.{Beginning}
 use Rattle.sedpass.specs.declared.table.Table.{Table}
 use Rattle.sedpass.specs.Classes.{AreAlike}
-use Rattle.sedpass.specs.Prepared.{SameNulls}
 
 -- Codes of states, and where the cells of a state are.
 
--- whether a pass stops at a state: its root ends, or no match that began goes on (where the ends are kept, only this)
-abbrev pub stops : Way → StateFlags → Bool
-stops way flags = (not way.mirrored && (flags.ends || (flags.dead && not way.all_starts))) || (way.mirrored && flags.dead)
+-- the number that names the state whose cells begin at the offset, and shows its flags
+abbrev pub code_of : StateFlags → ℕ → ℕ
+code_of flags offset = offset + 536870912 * (1 + 2 * from_bool flags.ends + 4 * from_bool flags.dead)
 
--- the number that names the state whose cells begin there: so those at which a pass stops are the low ones
-abbrev pub code_of : Bool → ℕ → ℕ
-code_of true offset = offset + 1
-code_of false offset = 2147483648 + offset
+-- the column of a class of bytes: those at the text's edge come behind the others
+abbrev pub column_at : ℕ → ℕ → Bool → ℕ
+column_at columns class false = class
+column_at columns class true = columns + class
 
--- the column of a class of bytes, at the text's edge or not
-abbrev pub ColumnAt : Option ℕ → ℕ → Bool → ℕ → Type 0
-ColumnAt edge class false k = k ≡ class
-ColumnAt None class true k = ⊥
-ColumnAt (Some first) class true k = k ≡ first + class
-
--- the edge's columns are apart from the others
-abbrev pub EdgeApart : ℕ → Option ℕ → Type 0
-EdgeApart columns None = Unit {0}
-EdgeApart columns (Some first) = columns ≤ first
-
--- and have room
-abbrev pub EdgeFits : ℕ → ℕ → Option ℕ → Type 0
-EdgeFits columns width None = Unit {0}
-EdgeFits columns width (Some first) = first + columns ≤ width
-
--- the cells of a state are few for the nodes, and have room; bytes of one class are in the same sets, and the edge's columns are those of other
--- places only where these are all of one kind
+-- the cells of a state are few for the nodes, and have room; bytes of one class are in the same sets
 pub record IsLayout (nodes : List Node) (layout : Layout) : Type 0 where
-  pub few : layout.width ≤ 2 * length nodes
-  pub columns : layout.columns ≤ layout.width
+  pub few : layout.columns ≤ length nodes + 1
   pub classes : AreAlike nodes layout.classes
-  pub edge : EdgeFits layout.columns layout.width layout.edge
-  pub apart : ((layout.edge ≡ Some 0) × SameNulls nodes) ⊎ EdgeApart layout.columns layout.edge
   pub small : layout.shift ≤ 8
-  pub fits : layout.width ≤ 2 ^ layout.shift
+  pub fits : 2 * layout.columns ≤ 2 ^ layout.shift
 
 -- the column is the byte's
 abbrev pub IsColumn : Layout → ℕ → Bool → ℕ → Type 0
-IsColumn layout byte edge k = (slice_index_or layout.classes byte 0 < layout.columns) × ColumnAt layout.edge (slice_index_or layout.classes byte 0) edge k
+IsColumn layout byte edge k =
+    (slice_index_or layout.classes byte 0 < layout.columns) × (k ≡ column_at layout.columns (slice_index_or layout.classes byte 0) edge)
 
 -- States.
 
--- the root of a pass, the row of a place in it, and what is known of the row
+-- the root of a pass, and the row of a place in it
 pub record PassState : Type 0 where
   pub root : ℕ
   pub entered : ℕ → Bool
   pub ended : ℕ → Bool
-  pub flags : StateFlags
 
 -- the state of a table with this number, for m nodes
 abbrev pub state_of : ℕ → Table → ℕ → PassState
-state_of m t q = record {
-  root = slice_index_or t.roots.items q 0;
-  entered = bits m (row_of t.leaves q);
-  ended = bits m (row_of t.ends q);
-  flags = slice_index_or t.flags.items q (record { ends = false; dead = false });
-}
+state_of m t q = record { root = slice_index_or t.roots.items q 0; entered = bits m (row_of t.leaves q); ended = bits m (row_of t.ends q) }
 
 -- the flags show whether the root ends, and whether no leaf is entered
-abbrev pub FlagsShow : PassState → Type 0
-FlagsShow a = (a.flags.ends ≡ a.ended a.root) × (IsTrue a.flags.dead ↔ ((c : ℕ) → a.entered c ≡ false))
+abbrev pub FlagsShow : PassState → StateFlags → Type 0
+FlagsShow a flags = (flags.ends ≡ a.ended a.root) × (IsTrue flags.dead ↔ ((c : ℕ) → a.entered c ≡ false))
 
 -- the state has this root and row
 abbrev pub HasRow : ℕ → (ℕ → Bool) → (ℕ → Bool) → PassState → Type 0
@@ -104,7 +78,9 @@ BeginsIn nodes way root kind a = (a.root ≡ root) × IsFirstRow nodes root way.
 pub record NamesState (m : ℕ) (t : Table) (P : PassState → Type 0) (v : ℕ) : Type 0 where
   pub to : ℕ
   pub there : to < t.count
-  pub code : v ≡ code_of (stops t.way (state_of m t to).flags) (to * 2 ^ t.layout.shift)
+  pub flags : StateFlags
+  pub shown : FlagsShow (state_of m t to) flags
+  pub code : v ≡ code_of flags (to * 2 ^ t.layout.shift)
   pub is : P (state_of m t to)
 
 -- the cells of a state begin at the offset
@@ -149,8 +125,8 @@ MayBegin p way root = (root < length p.arena.expr.nodes) × (IsTrue way.all_star
 
 -- Tables.
 
--- of each state that there is room for: its rows, with so many marks, its root, and what is known of it
-pub record HasRows (states marks : ℕ) (leaf_rows end_rows : List (List Bool)) (all_roots : List ℕ) (all_flags : List StateFlags) : Type 0 where
+-- of each state that there is room for: its rows, with so many marks, and its root
+pub record HasRows (states marks : ℕ) (leaf_rows end_rows : List (List Bool)) (all_roots : List ℕ) : Type 0 where
   pub some : 2 ≤ states
   pub few : states ≤ 65535
   pub leaves : length leaf_rows ≡ states
@@ -158,13 +134,12 @@ pub record HasRows (states marks : ℕ) (leaf_rows end_rows : List (List Bool)) 
   pub leaf_marks : (q : ℕ) → q < states → length (row_of leaf_rows q) ≡ marks
   pub end_marks : (q : ℕ) → q < states → length (row_of end_rows q) ≡ marks
   pub roots : length all_roots ≡ states
-  pub flags : length all_flags ≡ states
 
 -- all that a table has is there
 pub record HasRoom (m : ℕ) (t : Table) : Type 0 where
   pub count : t.count ≤ t.room
   pub marks : m ≤ t.marks
-  pub rows : HasRows t.room t.marks t.leaves t.ends t.roots.items t.flags.items
+  pub rows : HasRows t.room t.marks t.leaves t.ends t.roots.items
   pub cells : t.count * 2 ^ t.layout.shift ≤ length t.cells.items
   pub reserved : t.room * 2 ^ t.layout.shift ≤ t.reserved
   pub capacity : t.reserved ≤ vec_capacity t.cells
@@ -184,8 +159,7 @@ pub record IsTable (p : Prepared) (t : Table) : Type 0 where
   pub room : HasRoom (length p.arena.expr.nodes) t
   pub layout : IsLayout p.arena.expr.nodes t.layout
   pub roots : (q : ℕ) → q < t.count → (state_of (length p.arena.expr.nodes) t q).root < length p.arena.expr.nodes
-  pub shown : (q : ℕ) → q < t.count → FlagsShow (state_of (length p.arena.expr.nodes) t q)
-  pub filled : (q k : ℕ) → q < t.count → k < t.layout.width → 0 < cell_of t q k → NamesState (length p.arena.expr.nodes) t (LeadsBy p t q k) (cell_of t q k)
+  pub filled : (q k : ℕ) → q < t.count → k < 2 * t.layout.columns → 0 < cell_of t q k → NamesState (length p.arena.expr.nodes) t (LeadsBy p t q k) (cell_of t q k)
   pub begun : (root : ℕ) (kind : PlaceKind) → MayBegin p t.way root → (beginning_of t (beginning_at t.way.all_starts root kind)).epoch ≡ t.epoch →
       NamesState (length p.arena.expr.nodes) t (BeginsIn (nodes_of t.way p.arena.expr) t.way root kind) (beginning_of t (beginning_at t.way.all_starts root kind)).code
 

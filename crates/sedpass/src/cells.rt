@@ -1,20 +1,17 @@
 //! How a table names its states by codes, and lays out their cells.
-ghost use Rattle.std.specs.Prelude.{◌≡◌, ℕ, Bool, ◌+◌, ◌*◌, ◌^◌, ◌<◌, ◌≤◌, length, slice_index_or, IfSome, vec_capacity};
+ghost use Rattle.std.specs.Prelude.{◌≡◌, ℕ, ◌+◌, ◌*◌, ◌^◌, ◌<◌, ◌≤◌, length, slice_index_or, IfSome, vec_capacity};
 ghost use Rattle.sedre.specs.Steps.{TakesExactly, Takes};
-ghost use Rattle.sedpass.specs.Table.{stops, code_of, IsLayout, IsColumn};
+ghost use Rattle.sedpass.specs.Table.{code_of, IsLayout, IsColumn};
+ghost use Rattle.sedpass.specs.declared.cells.StateFlags.{StateFlags};
 
 use crate::nodes::Prepared;
-use crate::rows::Way;
 use sedre::Steps;
 
-/// The least code of a state at which no pass stops.
-pub const PLAIN: u32 = 2147483648;
+/// The cells of all states begin below this place.
+const PLACES: u32 = 1 << 29;
 
-/// How many cells a state has at most for each node of the expression.
-const CELLS_A_NODE: usize = 2;
-
-/// How many cells a state has at most.
-const MOST_CELLS: usize = 256;
+/// How many classes of bytes have cells at most.
+const MOST_COLUMNS: usize = 128;
 
 /// What is known of a state.
 #[derive(Clone, Copy)]
@@ -30,51 +27,38 @@ pub struct StateFlags {
 pub struct Layout {
     /// The class of each byte: bytes of one class are in the same sets.
     pub classes: [u8; 256],
-    /// How many classes of bytes have cells; what a byte of another one leads to is found out anew each time.
+    /// How many classes of bytes have cells: one each, and behind these one each for bytes after which the text's edge comes. What a
+    /// byte of another class leads to is found out anew each time.
     pub columns: usize,
-    /// Where the cells begin for a byte after which the text's edge comes; None: it is found out anew each time.
-    pub edge: Option<usize>,
-    /// How many cells a state has.
-    pub width: usize,
     /// The cells of a state begin at its number times this power of two.
     pub shift: u32,
 }
 
-/// Whether a pass stops at a state.
+/// The code of the state whose cells begin at a place: that place, and above it the flags.
 #[inline(always)]
-pub fn stops(way: Way, flags: StateFlags) -> bool
-    ensures { result ≡ stops way flags }
+pub fn code_of(flags: StateFlags, offset: usize) -> u32
+    requires { offset < 536870912 }
+    ensures { result ≡ code_of flags offset }
 {
-    if way.mirrored {
-        flags.dead
-    } else {
-        flags.ends || (flags.dead && !way.all_starts)
-    }
-}
-
-/// The code of the state whose cells begin at a place.
-#[inline(always)]
-pub fn code_of(stops: bool, offset: usize) -> u32
-    requires { offset < 2147483647 }
-    ensures { result ≡ code_of stops offset }
-{
-    if stops {
-        offset as u32 + 1
-    } else {
-        PLAIN + offset as u32
-    }
+    offset as u32 + PLACES * (1 + 2 * u32::from(flags.ends) + 4 * u32::from(flags.dead))
 }
 
 /// Where the cells of the state with this code begin.
 #[inline(always)]
 pub fn offset_of(code: u32) -> usize
-    requires { 0 < code }
-    ensures { (stops : Bool) (offset : ℕ) → offset < 2147483647 → code ≡ code_of stops offset → result ≡ offset }
+    ensures { (flags : StateFlags) (offset : ℕ) → offset < 536870912 → code ≡ code_of flags offset → result ≡ offset }
 {
-    if code >= PLAIN {
-        (code - PLAIN) as usize
-    } else {
-        (code - 1) as usize
+    (code % PLACES) as usize
+}
+
+/// The flags of the state with this code.
+#[inline(always)]
+pub fn flags_of(code: u32) -> StateFlags
+    ensures { (flags : StateFlags) (offset : ℕ) → offset < 536870912 → code ≡ code_of flags offset → result ≡ flags }
+{
+    StateFlags {
+        ends: code / (2 * PLACES) % 2 == 1,
+        dead: code / (4 * PLACES) == 1,
     }
 }
 
@@ -97,21 +81,15 @@ impl Layout {
     pub fn new(prepared: &Prepared) -> Layout
         ensures { IsLayout prepared.now.arena.expr.nodes result }
     {
-        let most = MOST_CELLS.min(CELLS_A_NODE * prepared.nodes());
-        let columns = prepared.classes.count.min(most);
-        let (edge, width) = if !prepared.anchors {
-            (Some(0), columns)
-        } else if columns <= most / 2 {
-            (Some(columns), 2 * columns)
-        } else {
-            (None, columns)
-        };
+        let columns = prepared
+            .classes
+            .count
+            .min(prepared.nodes() + 1)
+            .min(MOST_COLUMNS);
         Layout {
             classes: prepared.classes.of,
             columns,
-            edge,
-            width,
-            shift: shift_for(width),
+            shift: shift_for(2 * columns),
         }
     }
 
@@ -122,8 +100,6 @@ impl Layout {
         Layout {
             classes: [0; 256],
             columns: 0,
-            edge: None,
-            width: 0,
             shift: 8,
         }
     }
@@ -137,10 +113,11 @@ impl Layout {
         if class >= self.columns {
             return None;
         }
-        if !edge {
-            return Some(class);
+        if edge {
+            self.columns.checked_add(class)
+        } else {
+            Some(class)
         }
-        self.edge?.checked_add(class)
     }
 }
 

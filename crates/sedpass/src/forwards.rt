@@ -7,9 +7,9 @@ ghost use Rattle.sedtext.specs.Spans.{SomeFound};
 ghost use Rattle.sedre.specs.Tree.{expression_tree};
 ghost use Rattle.sedre.specs.Steps.{TakesAtLeast};
 ghost use Rattle.sedpass.specs.Table.{NamesState, IsOffset, IsTable, SameShape};
-ghost use Rattle.sedpass.specs.Forwards.{Arrives, EndsBelow, PassIs};
+ghost use Rattle.sedpass.specs.Forwards.{Arrives, EndsBelow, PassIs, is_over};
 
-use crate::cells::{PLAIN, offset_of};
+use crate::cells::{StateFlags, flags_of, offset_of};
 use crate::nodes::{Prepared, kind_of};
 use crate::rows::Work;
 use crate::table::Table;
@@ -29,6 +29,14 @@ pub struct Passed {
     pub over: bool,
 }
 
+/// Whether a pass needn't go on at a state: with all starts where its root ends, and else where no leaf is entered.
+#[inline(always)]
+fn is_over(all_starts: bool, flags: StateFlags) -> bool
+    ensures { result ≡ is_over all_starts flags }
+{
+    if all_starts { flags.ends } else { flags.dead }
+}
+
 impl Table {
     /// The pass at a place whose state has this code. `end` is the last end before it.
     #[inline(always)]
@@ -44,26 +52,17 @@ impl Table {
         requires code { NamesState (length prepared.now.arena.expr.nodes) self.now (λ a. Unit {0}) code }
         ensures place { result.place ≡ place }
         ensures offset { IsOffset self.now result.offset }
-        ensures passes { self.now.way.mirrored ≡ false → (start : ℕ) → start ≤ place → place ≤ length text.now →
+        ensures passes { (start : ℕ) → start ≤ place → place ≤ length text.now →
             NamesState (length prepared.now.arena.expr.nodes) self.now (Arrives prepared.now self.now.way text.now start place) code →
             EndsBelow prepared.now self.now.way text.now start place end →
             PassIs prepared.now self.now text.now start result }
     {
-        let offset = offset_of(code);
-        if code >= PLAIN {
-            return Passed {
-                offset,
-                place,
-                end,
-                over: false,
-            };
-        }
-        let flags = self.flags[self.state_at(offset)];
+        let flags = flags_of(code);
         Passed {
-            offset,
+            offset: offset_of(code),
             place,
             end: flags.ends.then_some(place).or(end),
-            over: self.way.all_starts || flags.dead,
+            over: is_over(self.way.all_starts, flags),
         }
     }
 
@@ -85,7 +84,7 @@ impl Table {
         ensures after { from.place ≤ result.place }
         ensures within { result.place ≤ to }
         ensures moved { IsTrue result.over → from.place < result.place }
-        ensures passes { self.now.way.mirrored ≡ false → (start : ℕ) → PassIs prepared.now self.now text.now start from → PassIs prepared.now self.now text.now start result }
+        ensures passes { (start : ℕ) → PassIs prepared.now self.now text.now start from → PassIs prepared.now self.now text.now start result }
         ensures cost { CostsWithin steps.old steps.new (2 * min (result.place + 1) to) (2 * from.place) }
         ensures counts { TakesAtLeast steps.old steps.new (2 * (result.place - from.place)) }
     {
@@ -125,7 +124,7 @@ impl Table {
         ensures offset { IsOffset self.new result.offset }
         ensures after { from.place < result.place }
         ensures within { result.place ≤ length text.now }
-        ensures passes { self.old.way.mirrored ≡ false → (start : ℕ) → PassIs prepared.now self.old text.now start from → PassIs prepared.now self.new text.now start result }
+        ensures passes { (start : ℕ) → PassIs prepared.now self.old text.now start from → PassIs prepared.now self.new text.now start result }
         ensures cost { CostsWithin steps.old steps.new (40 * length prepared.now.arena.expr.nodes * result.place) (40 * length prepared.now.arena.expr.nodes * from.place) }
         ensures counts { TakesAtLeast steps.old steps.new (2 * (result.place - from.place)) }
     {

@@ -8,7 +8,7 @@ ghost use Rattle.sedre.specs.Mirror.{seen};
 ghost use Rattle.sedre.specs.Packed.{PartsBelow};
 ghost use Rattle.sedre.specs.Steps.{Takes, TakesExactly, TakesAtLeast};
 ghost use Rattle.sedpass.specs.Walks.{has_group};
-ghost use Rattle.sedpass.specs.Prepared.{IsPrepared, IsFacts, AreFacts, IsShort, IsOfEachKind, is_one_set, repeated_set, null_at, null_in, nullable, sum_of, same_of, length_of};
+ghost use Rattle.sedpass.specs.Prepared.{IsPrepared, IsFacts, AreFacts, IsShort, is_one_set, repeated_set, null_at, null_in, nullable, sum_of, same_of, length_of};
 ghost use Rattle.sedpass.specs.Rows.{IsNodeRange};
 ghost use Rattle.sedpass.specs.declared.nodes.Facts.{Facts};
 
@@ -185,18 +185,6 @@ pub fn facts_of(node: &Node, facts: &Vec<Facts>) -> Facts
     }
 }
 
-/// Whether some node is null at places of one kind alone, as an anchor is.
-fn has_anchor(facts: &Vec<Facts>) -> bool
-    ensures { result ≡ false → (x : ℕ) (here : Facts) → slice_get facts.now.items x ≡ Some here → IsOfEachKind here.null }
-{
-    for x in 0..facts.len() {
-        if facts[x].null != EVERYWHERE && facts[x].null != 0 {
-            return true;
-        }
-    }
-    false
-}
-
 /// An expression made ready for passes.
 #[derive(Drop)]
 pub struct Prepared {
@@ -208,9 +196,7 @@ pub struct Prepared {
     pub facts: Vec<Facts>,
     /// Classes of bytes: those of one class are in the same sets.
     pub classes: Classes,
-    /// Whether some node is null at places of one kind alone, as an anchor is.
-    pub anchors: bool,
-    pub ghost is_prepared: { IsPrepared arena.expr root facts.items classes.of classes.count anchors } by { Prim.hlevel props },
+    pub ghost is_prepared: { IsPrepared arena.expr root facts.items classes.of classes.count } by { Prim.hlevel props },
 }
 
 impl Prepared {
@@ -229,7 +215,6 @@ impl Prepared {
             root: 0,
             facts,
             classes: classes_of(&[]),
-            anchors: false,
         })
     }
 
@@ -246,7 +231,6 @@ impl Prepared {
         self.arena.fill(expr, &mut self.facts, steps);
         self.root = expr.root().index();
         self.classes = classes_of(expr.sets());
-        self.anchors = has_anchor(&self.facts);
     }
 
     /// Makes an expression ready in room of its own. Fails only where a request for memory was refused.

@@ -10,9 +10,10 @@ ghost use Rattle.sedtext.specs.Matching.{byte_is_in};
 ghost use Rattle.sedtext.specs.PartMarks.{enter_parts};
 ghost use Rattle.sedtext.specs.Places.{takes_any};
 ghost use Rattle.sedtext.specs.Reach.{IsStart, CanEnd, Marked};
-ghost use Rattle.sedpass.specs.Prepared.{null_in, SameNulls};
+ghost use Rattle.sedpass.specs.Prepared.{null_in};
 ghost use Rattle.sedpass.specs.Rows.{nodes_of, at_begin, at_edge, bits, RowLeadsTo, IsFirstRow, RowOfPlace, InTree, AreNull, ShowTook, ended_by, enter_looks};
 
+use crate::cells::StateFlags;
 use crate::nodes::{PlaceKind, Prepared};
 use sedre::{Node, Steps};
 use sedtext::counted::NodeMarks;
@@ -59,6 +60,21 @@ impl Work {
             leaves,
             ends,
         })
+    }
+
+    /// What the row shows of its state: whether the root ends there, and whether no leaf is entered.
+    #[inline(always)]
+    pub fn flags(&self, root: usize, nodes: usize, steps: &mut Steps) -> StateFlags
+        requires root { root < nodes }
+        requires few { nodes ≤ 65536 }
+        ensures ends { result.ends ≡ slice_index_or self.now.ends root false }
+        ensures dead { IsTrue result.dead ↔ ((c : ℕ) → c < nodes → slice_index_or self.now.leaves c false ≡ false) }
+        ensures cost { Takes steps.old steps.new (nodes + 1) }
+    {
+        StateFlags {
+            ends: self.ends.get(root, steps),
+            dead: self.leaves.is_clear(nodes, steps),
+        }
     }
 }
 
@@ -239,10 +255,6 @@ pub fn step(
     requires root { root < length prepared.now.arena.expr.nodes }
     ensures leads { (before : ℕ → Bool) → RowLeadsTo (nodes_of way prepared.now.arena.expr) root way.mirrored
         (bits (length prepared.now.arena.expr.nodes) work.old.leaves) before (Some byte) edge way.all_starts
-        (bits (length prepared.now.arena.expr.nodes) work.new.leaves) (bits (length prepared.now.arena.expr.nodes) work.new.ends) }
-    // Where no node is null at places of one kind alone, it is the row at the text's edge and before it.
-    ensures anywhere { SameNulls prepared.now.arena.expr.nodes → (end : Bool) (before : ℕ → Bool) → RowLeadsTo (nodes_of way prepared.now.arena.expr) root way.mirrored
-        (bits (length prepared.now.arena.expr.nodes) work.old.leaves) before (Some byte) end way.all_starts
         (bits (length prepared.now.arena.expr.nodes) work.new.leaves) (bits (length prepared.now.arena.expr.nodes) work.new.ends) }
     ensures cost { Takes steps.old steps.new (17 * length prepared.now.arena.expr.nodes - 3) }
     ensures counts { TakesAtLeast steps.old steps.new

@@ -9,9 +9,9 @@ ghost use Rattle.sedre.specs.Steps.{Takes, TakesAtLeast};
 ghost use Rattle.sedpass.specs.Rows.{nodes_of, bits};
 ghost use Rattle.sedpass.specs.declared.nodes.PlaceKind.{PlaceKind};
 ghost use Rattle.sedpass.specs.declared.nodes.Prepared.{Prepared};
-ghost use Rattle.sedpass.specs.Table.{state_of, HasRow, HasMarks, BeginsIn, NamesState, IsNext, IsOffset, beginning_at, MayBegin, IsRoomy, IsTable, SameRoom, SameShape, Codes, IsMade};
+ghost use Rattle.sedpass.specs.Table.{state_of, HasRow, HasMarks, BeginsIn, NamesState, IsNext, IsOffset, beginning_at, MayBegin, IsRoomy, IsTable, SameRoom, SameShape, AddsStates, Codes, IsMade, code_of};
 
-use crate::cells::{Layout, StateFlags, code_of, empty_cells, stops};
+use crate::cells::{Layout, StateFlags, code_of, empty_cells};
 use crate::nodes::{PlaceKind, Prepared};
 use crate::rows::{Way, Work, first, step};
 use sedre::Steps;
@@ -21,12 +21,6 @@ use std::alloc::{AllocError, Global};
 /// From this epoch on no beginning is noted or trusted: a table that comes to the greatest number goes to and fro between
 /// the last two.
 const LAST_EPOCHS: u32 = u32::MAX - 1;
-
-/// The flags of a state that isn't there yet.
-const NO_FLAGS: StateFlags = StateFlags {
-    ends: false,
-    dead: false,
-};
 
 /// What is known of where a pass begins: in which epoch of the table, and the code of the state.
 #[derive(Clone, Copy)]
@@ -74,8 +68,6 @@ pub struct Table {
     pub ends: Rows,
     /// For each state the root of its pass.
     pub roots: Vec<usize>,
-    /// For each state what is known of it.
-    pub flags: Vec<StateFlags>,
     /// For each state and column the code of the state that comes next, or 0 where it isn't known yet. There is room for all
     /// states; the cells of a state are there once it was added, so that memory is touched only then.
     pub cells: Vec<u32>,
@@ -180,7 +172,6 @@ impl Table {
             leaves,
             ends,
             roots: requests.copies(0, room),
-            flags: requests.copies(NO_FLAGS, room),
             cells: requests.room(reserved),
             // An odd number and one: by a power of two only a digest's last bits would count.
             index: requests.copies(Slot { epoch: 0, state: 0 }, 2 * room + 2),
@@ -313,7 +304,7 @@ impl Table {
         None
     }
 
-    /// Adds a state with this root and row. There is room.
+    /// Adds a state with this root and row, and gives its number. There is room.
     fn add(
         &mut self,
         prepared: &Prepared,
@@ -321,34 +312,46 @@ impl Table {
         slot: usize,
         work: &Work,
         steps: &mut Steps,
-    ) -> u32
+    ) -> usize
         requires table { IsTable prepared.now self.old }
         requires room { self.old.count < self.old.room }
         requires root { root < length prepared.now.arena.expr.nodes }
         requires slot { slot < vec_len self.old.index }
-        ensures codes { Codes prepared.now self.old self.new (HasMarks prepared.now root work.now) result }
-        ensures count { self.new.count ≡ self.old.count + 1 }
-        ensures cost { Takes steps.old steps.new (5 * length prepared.now.arena.expr.nodes + 1) }
+        ensures table { IsTable prepared.now self.new }
+        ensures adds { AddsStates (length prepared.now.arena.expr.nodes) self.old self.new }
+        ensures there { result < self.new.count }
+        ensures has { HasMarks prepared.now root work.now (state_of (length prepared.now.arena.expr.nodes) self.new result) }
+        ensures cost { Takes steps.old steps.new (4 * length prepared.now.arena.expr.nodes + 2) }
     {
         let nodes = prepared.nodes();
         let state = self.count;
-        let offset = state << self.layout.shift;
         self.leaves.store(state, &work.leaves, nodes, steps);
         self.ends.store(state, &work.ends, nodes, steps);
         self.roots[state] = root;
-        let flags = StateFlags {
-            ends: work.ends.get(root, steps),
-            dead: work.leaves.is_clear(nodes, steps),
-        };
-        self.flags[state] = flags;
-        let size = 1usize << self.layout.shift;
-        empty_cells(&mut self.cells, offset, self.layout.width, size, steps);
+        let (offset, size) = (state << self.layout.shift, 1usize << self.layout.shift);
+        empty_cells(
+            &mut self.cells,
+            offset,
+            2 * self.layout.columns,
+            size,
+            steps,
+        );
         self.index[slot] = Slot {
             epoch: (self.epoch % 65536) as u16,
             state: state as u16,
         };
         self.count = state + 1;
-        code_of(stops(self.way, flags), offset)
+        state
+    }
+
+    /// The code of a state with these flags.
+    fn code(&self, flags: StateFlags, state: usize) -> u32
+        requires few { self.now.room ≤ 65535 }
+        requires small { self.now.layout.shift ≤ 8 }
+        requires there { state < self.now.room }
+        ensures { result ≡ code_of flags (state * 2 ^ self.now.layout.shift) }
+    {
+        code_of(flags, state << self.layout.shift)
     }
 
     /// The code of the state with this root and row, which is added unless it is found; a full table is emptied before.
@@ -356,21 +359,21 @@ impl Table {
         requires table { IsTable prepared.now self.old }
         requires root { root < length prepared.now.arena.expr.nodes }
         ensures codes { Codes prepared.now self.old self.new (HasMarks prepared.now root work.now) result }
-        ensures cost { Takes steps.old steps.new (11 * length prepared.now.arena.expr.nodes + 3) }
+        ensures cost { Takes steps.old steps.new (11 * length prepared.now.arena.expr.nodes + 5) }
         ensures counts { TakesAtLeast steps.old steps.new (2 * length prepared.now.arena.expr.nodes) }
     {
-        let slot = self.slot_of(prepared.nodes(), root, work, steps);
+        let nodes = prepared.nodes();
+        let slot = self.slot_of(nodes, root, work, steps);
+        let flags = work.flags(root, nodes, steps);
         if let Some(state) = self.find(prepared, root, slot, work, steps) {
-            return code_of(
-                stops(self.way, self.flags[state]),
-                state << self.layout.shift,
-            );
+            return self.code(flags, state);
         }
         if self.count == self.room {
             self.empty(prepared);
         }
         let at = slot + usize::from(self.noted(slot).is_some());
-        self.add(prepared, root, at, work, steps)
+        let state = self.add(prepared, root, at, work, steps);
+        self.code(flags, state)
     }
 
     /// Makes the state after a state and a byte, and fills its cell unless the table was emptied for it.

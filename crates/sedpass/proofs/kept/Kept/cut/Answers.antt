@@ -4,7 +4,7 @@ use Rattle.sedpass.specs.Kept.{KeepsRegion, Meet, ends_shown, owed_region}
 use Rattle.sedpass.specs.Regions.{MeetsAt}
 use Rattle.sedpass.proofs.KeptLemmas.{keeps_same, keeps_then, same_shape, shown_as, follows_first, meet_end}
 use Rattle.sedpass.proofs.OwedLemmas.{owed_falls, cut_on, cut_at}
-use Rattle.sedpass.proofs.TableLemmas.{names_some, names_offset, names_state}
+use Rattle.sedpass.proofs.TableLemmas.{names_offset, names_state}
 use Rattle.sedpass.proofs.kept.Kept.cut.Goals.{After-meet-reached}
 use Rattle.sedpass.proofs.kept.Kept.cut.Goals as goal
 
@@ -70,9 +70,6 @@ meet-reached-requires c =
       from = ready.from;
       to = (let is = ready.to.0 in let on = ready.to.1 in omega (arith, is, on));
     }
-
-pub offset_of-offset-requires : goal.offset_of-offset-requires
-offset_of-offset-requires c = names_some c.args.subject.prepared.now c.first-code.new.self _ c.first-code.result c.first-code.ensures.codes.names
 
 pub loop-place-preserved : goal.loop-place-preserved
 loop-place-preserved c =

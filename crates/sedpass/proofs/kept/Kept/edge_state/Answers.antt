@@ -1,18 +1,12 @@
 use Rattle.std.proofs.Common.{◌≡◌, ◌+◌, ◌*◌, refl, ◌/◌, ◌^◌, ◌↔◌, subst, IsTrue, arith, length}
 use Rattle.sedpass.specs.Table.{state_of}
-use Rattle.sedpass.proofs.TableLemmas.{names_some, names_offset, names_state}
+use Rattle.sedpass.proofs.TableLemmas.{names_offset, names_state}
 use Rattle.sedpass.proofs.KeptLemmas.{first_at, load_at}
 use Rattle.sedtext.proofs.CountLemmas.{least_less}
 use Rattle.sedpass.proofs.kept.Kept.edge_state.Goals as goal
 
 pub first-code-requires : goal.first-code-requires
 first-code-requires c = let region = c.requires.region in record { table = region.table; root = region.root }
-
-pub offset_of-requires : goal.offset_of-requires
-offset_of-requires c = names_some c.args.subject.prepared.now c.first-code.new.self _ c.first-code.result c.first-code.ensures.codes.names
-
-pub offset_of-requires-2 : goal.offset_of-requires-2
-offset_of-requires-2 c = names_some c.args.subject.prepared.now c.load-code.new.self _ c.load-code.result c.load-code.ensures.codes.names
 
 pub returns-then-place-self : goal.returns-then-place-self
 returns-then-place-self c =

@@ -2,7 +2,7 @@ use Rattle.std.proofs.Common.{rules, ◌≡◌, ◌+◌, ◌*◌, ◌<◌, ◌�
 use Rattle.sedpass.proofs.Words.{CostsWithin, eqb-true, eq-eqb, least_none, least_both, least_since, least_up, least_counted}
 use Rattle.sedpass.specs.Kept.{Follows, Meet}
 use Rattle.sedpass.proofs.KeptLemmas.{kept_row, same_shape, follows_next, meet_on, meet_read, place_cost, keeps_same}
-use Rattle.sedpass.proofs.TableLemmas.{names_some, names_offset, names_state}
+use Rattle.sedpass.proofs.TableLemmas.{names_offset, names_state}
 use Rattle.sedpass.proofs.kept.Kept.meet.Goals.{After-index}
 use Rattle.sedpass.proofs.kept.Kept.meet.Goals as goal
 
@@ -85,9 +85,6 @@ byte-byte-requires c =
 
 pub next-code-requires : goal.next-code-requires
 next-code-requires c = record { table = c.loop-place.invariant.forward_one; offset = c.loop-place.invariant.offset }
-
-pub offset_of-offset-requires : goal.offset_of-offset-requires
-offset_of-offset-requires c = names_some c.args.subject.prepared.now c.next-code.new.self _ c.next-code.result c.next-code.ensures.codes.names
 
 pub loop-place-preserved : goal.loop-place-preserved
 loop-place-preserved c =

@@ -2,7 +2,7 @@ use Rattle.std.proofs.Common.{◌≡◌, ◌+◌, ◌-◌, ◌*◌, inl, inr, re
 use Rattle.sedpass.proofs.Words.{eqb-true, eq-eqb, least_none, least_both, least_counted}
 use Rattle.sedpass.specs.Kept.{ComesDown}
 use Rattle.sedpass.proofs.KeptLemmas.{comes_down, down_cost}
-use Rattle.sedpass.proofs.TableLemmas.{names_some, names_offset, names_state}
+use Rattle.sedpass.proofs.TableLemmas.{names_offset, names_state}
 use Rattle.sedpass.proofs.kept.Kept.pass.Goals as goal
 
 pub loop-place-init : goal.loop-place-init
@@ -24,9 +24,6 @@ overflow_cast-state_at c =
 
 pub byte-byte-requires : goal.byte-byte-requires
 byte-byte-requires c = let passes = c.requires.passes in record { inside = omega (arith, c.loop-place.invariant.below, passes.within, passes.region.inside) }
-
-pub offset_of-offset-requires : goal.offset_of-offset-requires
-offset_of-offset-requires c = names_some c.args.subject.prepared.now c.next-code.new.self _ c.next-code.result c.next-code.ensures.codes.names
 
 pub state_at-requires : goal.state_at-requires
 state_at-requires c = c.next-code.ensures.codes.table.layout.small

@@ -1,9 +1,8 @@
-use Rattle.std.proofs.Common.{rules, ◌≡◌, ℕ, ◌+◌, ◌*◌, ◌%◌, ◌^◌, ◌<◌, ◌∙◌, ◌↔◌, length, length-set, mul-le-mul_left, ◌≤◌, IsTrue, refl, sym, ap, subst, arith, slice_index_or, false}
-use Rattle.sedpass.proofs.Words.{with_item, AgreeBelow, row_of, StateFlags, Table}
+use Rattle.std.proofs.Common.{◌≡◌, ℕ, ◌+◌, ◌*◌, ◌%◌, ◌^◌, ◌<◌, ◌∙◌, length, length-set, mul-le-mul_left, ◌≤◌, refl, sym, subst, arith, slice_index_or}
+use Rattle.sedpass.proofs.Words.{with_item, AgreeBelow, row_of, Table}
 use Rattle.sedpass.specs.Rows.{bits}
-use Rattle.sedpass.specs.Table.{PassState, FlagsShow, HasRow, AddsStates, HasRoom, cell_of, stops, code_of}
-use Rattle.sedpass.proofs.RowLemmas.{bits_here}
-use Rattle.sedpass.proofs.TableLemmas.{shifted, one_shifted, few_offset, cell_inside, bits_dead, state, state_added, state_adds, one_more}
+use Rattle.sedpass.specs.Table.{PassState, HasRow, AddsStates, HasRoom, cell_of}
+use Rattle.sedpass.proofs.TableLemmas.{shifted, one_shifted, cell_inside, state_added, state_adds, one_more}
 use Rattle.sedpass.proofs.table.Table.add.Goals as goal
 
 pub overflow_shl-offset : goal.overflow_shl-offset
@@ -27,15 +26,6 @@ store-requires-2 c =
 pub index_mut-requires : goal.index_mut-requires
 index_mut-requires c = omega (arith, c.requires.room, c.requires.table.room.rows.roots, c.args.self.now.roots.ok)
 
-pub index_mut-requires-2 : goal.index_mut-requires-2
-index_mut-requires-2 c = omega (arith, c.requires.room, c.requires.table.room.rows.flags, c.args.self.now.flags.ok)
-
-pub get-requires : goal.get-requires
-get-requires c = record { inside = omega (arith, c.requires.root, c.nodes-nodes.ensures.few) }
-
-pub is_clear-requires : goal.is_clear-requires
-is_clear-requires c = record { inside = omega (arith, c.nodes-nodes.ensures.value, c.nodes-nodes.ensures.few) }
-
 pub overflow_cast-state : goal.overflow_cast-state
 overflow_cast-state c = omega (arith, c.requires.room, c.requires.table.room.rows.few)
 
@@ -48,12 +38,6 @@ empty_cells-requires c =
     let size = one_shifted T.layout.shift t.layout.small in
     record { there = omega (arith, place, t.room.cells); room = omega (arith, place, mul-le-mul_left (2 ^ T.layout.shift) up, t.room.reserved, t.room.capacity, size); fits = omega (arith, t.layout.fits, size) }
 
-pub code_of-requires : goal.code_of-requires
-code_of-requires c =
-    let T = c.args.self.now in
-    let t = c.requires.table in
-    omega (arith, shifted T.count T.room T.layout.shift c.requires.room t.room.rows.few t.layout.small, few_offset T.count T.room T.layout.shift c.requires.room t.room.rows.few t.layout.small)
-
 pub returns : goal.returns
 returns c =
     let T = c.args.self.now in
@@ -61,7 +45,6 @@ returns c =
     let m = length c.args.prepared.now.arena.expr.nodes in
     let L = c.args.work.now.leaves in
     let E = c.args.work.now.ends in
-    let flags : StateFlags = record { ends = c.get.result; dead = c.is_clear.result } in
     let N : Table = record {
       way = T.way;
       room = T.room;
@@ -73,7 +56,6 @@ returns c =
       leaves = c.store.new.self;
       ends = c.store-2.new.self;
       roots = with_item T.roots T.count c.args.root;
-      flags = with_item T.flags T.count flags;
       cells = c.empty_cells.new.cells;
       index = with_item T.index c.args.slot (record { epoch = T.epoch % 65536; state = T.count });
       beginnings = T.beginnings;
@@ -81,8 +63,8 @@ returns c =
     let nodes = c.nodes-nodes.ensures.value in
     let leaves : AgreeBelow m (row_of c.store.new.self T.count) L = subst (λ n. AgreeBelow n (row_of c.store.new.self T.count) L) nodes c.store.ensures.same in
     let ends : AgreeBelow m (row_of c.store-2.new.self T.count) E = subst (λ n. AgreeBelow n (row_of c.store-2.new.self T.count) E) nodes c.store-2.ensures.same in
-    let adds : AddsStates m T N = state_adds m T N c.args.root L E flags c.requires.room t.room (refl, refl, refl, refl, refl) refl refl c.store.ensures.other leaves c.store-2.ensures.other ends refl refl in
-    let added = state_added m T N c.args.root L E flags c.requires.room t.room (refl, refl, refl, refl, refl) refl refl c.store.ensures.other leaves c.store-2.ensures.other ends refl refl in
+    let adds : AddsStates m T N = state_adds m T N c.args.root L E c.requires.room t.room (refl, refl, refl, refl, refl) refl refl c.store.ensures.other leaves c.store-2.ensures.other ends refl in
+    let added = state_added m T N c.args.root L E c.requires.room t.room (refl, refl, refl, refl, refl) refl refl c.store.ensures.other leaves c.store-2.ensures.other ends refl in
     let place = shifted T.count T.room T.layout.shift c.requires.room t.room.rows.few t.layout.small in
     let room : HasRoom m N = record {
       count = omega (arith, c.requires.room);
@@ -95,7 +77,6 @@ returns c =
         leaf_marks = λ q lt. c.store.ensures.lens q (omega (arith, lt, t.room.rows.leaves)) ∙ t.room.rows.leaf_marks q lt;
         end_marks = λ q lt. c.store-2.ensures.lens q (omega (arith, lt, t.room.rows.ends)) ∙ t.room.rows.end_marks q lt;
         roots = length-set T.roots.items T.count c.args.root ∙ t.room.rows.roots;
-        flags = length-set T.flags.items T.count flags ∙ t.room.rows.flags;
       };
       cells = omega (arith, place, c.empty_cells.ensures.long, one_shifted T.layout.shift t.layout.small);
       reserved = t.room.reserved;
@@ -106,28 +87,14 @@ returns c =
       early = t.room.early;
     } in
     let size = 2 ^ T.layout.shift in
-    let before : (q k : ℕ) → q < T.count → k < T.layout.width → cell_of N q k ≡ cell_of T q k =
-    (λ q k lt low. c.empty_cells.ensures.before (q * size + k) (let inside = cell_inside size q k T.count T.layout.width (T.count * size) lt low t.layout.fits (omega arith) in omega (arith, inside, place))) in
-    let clear : (k : ℕ) → k < T.layout.width → cell_of N T.count k ≡ 0 =
+    let before : (q k : ℕ) → q < T.count → k < 2 * T.layout.columns → cell_of N q k ≡ cell_of T q k =
+    (λ q k lt low. c.empty_cells.ensures.before (q * size + k) (let inside = cell_inside size q k T.count (2 * T.layout.columns) (T.count * size) lt low t.layout.fits (omega arith) in omega (arith, inside, place))) in
+    let clear : (k : ℕ) → k < 2 * T.layout.columns → cell_of N T.count k ≡ 0 =
     (λ k low. subst (λ x. slice_index_or c.empty_cells.new.cells.items (x + k) 0 ≡ 0) place (c.empty_cells.ensures.clear k low)) in
-    let dead : IsTrue c.is_clear.result ↔ ((k : ℕ) → k < m → slice_index_or L k false ≡ false) =
-    subst (λ n. IsTrue c.is_clear.result ↔ ((k : ℕ) → k < n → slice_index_or L k false ≡ false)) nodes c.is_clear.ensures.clear in
-    let law = bits_dead m L in
-    let shown : FlagsShow (state c.args.root (bits m L) (bits m E) flags) = (c.get.ensures.mark ∙ sym (bits_here m E c.args.root c.requires.root), (λ h. law.0 (dead.0 h), λ h. dead.1 (law.1 h))) in
     record {
-      codes = record {
-        table = one_more c.args.prepared.now T N adds refl t room refl refl before clear
-            (subst (λ (a : PassState). a.root < m) (sym added) c.requires.root)
-            (subst (λ (a : PassState). FlagsShow a) (sym added) shown);
-        adds = adds;
-        names = record {
-          to = T.count;
-          there = omega arith;
-          code = c.code_of.ensures ∙ ap (λ b. code_of b (T.count * 2 ^ T.layout.shift % 2 ^ 64)) c.stops.ensures ∙ ap (λ x. code_of (stops T.way flags) x) place
-              ∙ ap (λ (a : PassState). code_of (stops T.way a.flags) (T.count * 2 ^ T.layout.shift)) (sym added);
-          is = subst (λ (a : PassState). HasRow c.args.root (bits m L) (bits m E) a) (sym added) (refl, refl, refl);
-        };
-      };
-      count = refl;
-      cost = search rules;
+      table = one_more c.args.prepared.now T N adds refl t room refl refl before clear (subst (λ (a : PassState). a.root < m) (sym added) c.requires.root);
+      adds = adds;
+      there = omega arith;
+      has = subst (λ (a : PassState). HasRow c.args.root (bits m L) (bits m E) a) (sym added) (refl, refl, refl);
+      cost = (omega (arith, c.store.ensures.cost.0, c.store-2.ensures.cost.0, c.empty_cells.ensures.cost.0), omega (arith, nodes, t.layout.few, c.store.ensures.cost.1, c.store-2.ensures.cost.1, c.empty_cells.ensures.cost.1));
     }

@@ -1,8 +1,8 @@
-use Rattle.std.proofs.Common.{Bool, ◌+◌, ◌<◌, length, refl, arith, ◌*◌, ◌/◌, ◌^◌}
+use Rattle.std.proofs.Common.{◌+◌, ◌<◌, length, refl, arith, ◌*◌, ◌/◌, ◌^◌}
 use Rattle.sedpass.proofs.Words.{with_item, TakesAtLeast, Takes, Table, least_counted, least_up}
 use Rattle.sedpass.specs.Rows.{nodes_of}
 use Rattle.sedpass.specs.Table.{AddsStates, IsNext, IsOffset, LeadsOn, NamesState}
-use Rattle.sedpass.proofs.TableLemmas.{adds_same, adds_then, cell_there, names_anywhere, names_leads, names_more, names_moved, note_cell, offset_more, root_read}
+use Rattle.sedpass.proofs.TableLemmas.{adds_same, adds_then, cell_there, names_leads, names_more, names_moved, note_cell, offset_more, root_read}
 use Rattle.sedpass.proofs.table.Table.fill.Goals.{After-index-root, After-intern-next, In-Some}
 use Rattle.sedpass.proofs.table.Table.fill.Goals as goal
 
@@ -86,10 +86,7 @@ returns-in-Some c =
     record {
       codes = record {
         table = note_cell p S codes.table offset column next byte c.args.edge at (omega arith) c.in-Some.ensures
-            (names_moved p T S codes.adds epoch (λ w a b. LeadsOn (nodes_of w p.arena.expr) w a byte c.args.edge b) offset next c.requires.offset.0 here)
-            (λ none. names_moved p T S codes.adds epoch (λ w a b. (end : Bool) → LeadsOn (nodes_of w p.arena.expr) w a byte end b) offset next c.requires.offset.0
-            (names_anywhere p T S c.requires.table offset c.requires.offset c.state_at-state.result c.nodes.result c.index-root.result.now byte next c.load.new.marks c.step.new.work c.state_at-state.ensures c.nodes.ensures.value
-            c.index-root.ensures c.load.ensures.same codes.names (c.step.ensures.anywhere none)));
+            (names_moved p T S codes.adds epoch (λ w a b. LeadsOn (nodes_of w p.arena.expr) w a byte c.args.edge b) offset next c.requires.offset.0 here);
         adds = adds_then m T S N codes.adds same refl refl;
         names = names_more p S N same refl (IsNext p T offset byte c.args.edge) next here;
       };

@@ -1,4 +1,4 @@
-use Rattle.std.proofs.Common.{◌≡◌, ℕ, ◌+◌, ◌-◌, ◌*◌, ◌<◌, ◌≤◌, ◌∙◌, false, min, refl, sym, true≢false, IsTrue, arith}
+use Rattle.std.proofs.Common.{ℕ, ◌+◌, ◌-◌, ◌*◌, ◌<◌, ◌≤◌, ◌∙◌, min, refl, sym, true≢false, IsTrue, arith}
 use Rattle.sedpass.specs.Table.{IsOffset}
 use Rattle.sedpass.specs.Forwards.{PassIs}
 use Rattle.sedpass.proofs.Words.{least_counted, counted_twice}
@@ -13,13 +13,13 @@ loop-place-preserved c = record {
   over = c.if-at.false;
   steps = refl;
   bytes = omega (arith, c.loop-place.invariant.bytes, c.tallied-byte.ensures.cost);
-  passes = λ keeps start pass. follows_on c.args.prepared.now c.args.self.now c.args.text.now start c.tallied-byte.result c.known-cell.result c.loop-place.place c.loop-place.at c.arrive-at.result
-      c.loop-place.invariant.place (omega (arith, c.loop-place-test.true, c.requires.to)) (c.loop-place.invariant.passes keeps start pass) c.tallied-byte.ensures.byte
-      (c.known-cell.ensures (omega (arith, c.if-cell-eq0.false))) (c.arrive-at.ensures.passes keeps start);
+  passes = λ start pass. follows_on c.args.prepared.now c.args.self.now c.args.text.now start c.tallied-byte.result c.known-cell.result c.loop-place.place c.loop-place.at c.arrive-at.result
+      c.loop-place.invariant.place (omega (arith, c.loop-place-test.true, c.requires.to)) (c.loop-place.invariant.passes start pass) c.tallied-byte.ensures.byte
+      (c.known-cell.ensures (omega (arith, c.if-cell-eq0.false))) (c.arrive-at.ensures.passes start);
 }
 
 pub loop-place-init : goal.loop-place-init
-loop-place-init c = record { place = refl; offset = c.requires.offset; over = c.requires.over; steps = refl; bytes = omega (arith, c.new-bytes.ensures); passes = λ keeps start pass. pass }
+loop-place-init c = record { place = refl; offset = c.requires.offset; over = c.requires.over; steps = refl; bytes = omega (arith, c.new-bytes.ensures); passes = λ start pass. pass }
 
 pub tallied-byte-requires : goal.tallied-byte-requires
 tallied-byte-requires c = record { inside = omega (arith, c.loop-place-test.true, c.requires.to); fits = omega (arith, c.loop-place.invariant.bytes, c.loop-place-test.true, c.ranges.to) }
@@ -30,7 +30,7 @@ known-cell-requires c = record { table = c.requires.table; offset = c.loop-place
 -- where it stopped, and how many bytes were looked at
 stopped : (c : After-add-2) → let at = c.loop-place-test.at in let looked = c.loop-place-test.bytes + c.args.from.place in
     IsOffset c.args.self.now at.offset × (c.args.from.place ≤ at.place) × (at.place ≤ c.args.to) × (IsTrue at.over → c.args.from.place < at.place)
-    × (c.args.self.now.way.mirrored ≡ false → (start : ℕ) → PassIs c.args.prepared.now c.args.self.now c.args.text.now start c.args.from → PassIs c.args.prepared.now c.args.self.now c.args.text.now start at)
+    × ((start : ℕ) → PassIs c.args.prepared.now c.args.self.now c.args.text.now start c.args.from → PassIs c.args.prepared.now c.args.self.now c.args.text.now start at)
     × (at.place ≤ looked) × (looked ≤ min (at.place + 1) c.args.to)
 stopped c =
     let i = c.loop-place.invariant in
@@ -49,8 +49,8 @@ stopped c =
             omega (arith, up, next.place),
             omega (arith, on, next.place),
             λ over. omega (arith, up, next.place),
-            λ keeps start pass. follows_on c.args.prepared.now c.args.self.now c.args.text.now start w.tallied-byte.result w.known-cell.result c.loop-place.place c.loop-place.at w.arrive-at.result i.place (omega (arith, on, c.requires.to))
-                (i.passes keeps start pass) w.tallied-byte.ensures.byte (w.known-cell.ensures (omega (arith, w.if-cell-eq0.false))) (next.passes keeps start),
+            λ start pass. follows_on c.args.prepared.now c.args.self.now c.args.text.now start w.tallied-byte.result w.known-cell.result c.loop-place.place c.loop-place.at w.arrive-at.result i.place (omega (arith, on, c.requires.to))
+                (i.passes start pass) w.tallied-byte.ensures.byte (w.known-cell.ensures (omega (arith, w.if-cell-eq0.false))) (next.passes start),
             omega (arith, place, bytes, one, next.place),
             omega (arith, place, bytes, on, one, next.place),
           ))

@@ -10,5 +10,5 @@ invariant-loop-place l = record {
   over : l.at.over ≡ false;
   steps : l.steps ≡ l.initial.steps;
   bytes : l.bytes + l.fn.from.place ≡ l.place;
-  passes : l.self.way.mirrored ≡ false → (start : ℕ) → PassIs l.prepared l.self l.text start l.fn.from → PassIs l.prepared l.self l.text start l.at;
+  passes : (start : ℕ) → PassIs l.prepared l.self l.text start l.fn.from → PassIs l.prepared l.self l.text start l.at;
 }

@@ -1,5 +1,5 @@
-use Rattle.std.proofs.Common.{◌≡◌, ◌+◌, ◌-◌, ◌*◌, ◌/◌, ◌^◌, ◌≤◌, false, length, refl, sym, subst, arith, nat_eq}
-use Rattle.sedpass.proofs.Words.{eqb-true, eq-eqb, Way, least_counted, least_both}
+use Rattle.std.proofs.Common.{◌+◌, ◌-◌, ◌*◌, ◌/◌, ◌^◌, ◌≤◌, length, refl, arith, nat_eq}
+use Rattle.sedpass.proofs.Words.{eqb-true, eq-eqb, least_counted, least_both}
 use Rattle.sedpass.specs.Rows.{nodes_of}
 use Rattle.sedpass.specs.Table.{state_of, LeadsOn}
 use Rattle.sedpass.proofs.TableLemmas.{names_map}
@@ -61,10 +61,10 @@ returns c =
       offset = c.arrive.ensures.offset;
       after = omega (arith, place, up.after);
       within = omega (arith, place, up.within, is, c.requires.inside);
-      passes = λ keeps start pass.
-          goes_on c.args.prepared.now T U c.args.text.now start c.byte-byte.result c.next-code.result (nat_eq mid.place last) mid c.arrive.result way (up.passes keeps start pass) byte.byte
+      passes = λ start pass.
+          goes_on c.args.prepared.now T U c.args.text.now start c.byte-byte.result c.next-code.result (nat_eq mid.place last) mid c.arrive.result way (up.passes start pass) byte.byte
           ((λ h. let e = eqb-true mid.place last h in omega (arith, e, is, c.requires.inside)), (λ e. eq-eqb mid.place last (omega (arith, e, is))))
-          next.codes.names (c.arrive.ensures.passes (subst (λ (x : Way). x.mirrored ≡ false) (sym way) keeps) start);
+          next.codes.names (c.arrive.ensures.passes start);
       cost = (omega (arith, up.cost, byte.cost, next.cost), rw place (fill_cost m from mid.place last s c.follow-at.new.steps c.byte-byte.new.steps c.next-code.new.steps one up.after up.cost.1 byte.cost.1 next.cost.1));
       counts =
           let looked = least_counted c.follow-at.new.steps c.byte-byte.new.steps 1 1 byte.counts (omega arith) in

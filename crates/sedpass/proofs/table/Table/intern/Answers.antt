@@ -1,58 +1,58 @@
-use Rattle.std.proofs.Common.{◌*◌, ◌%◌, ◌^◌, ◌<◌, ◌∙◌, false, length, ap, subst, arith, slice_index_or}
+use Rattle.std.proofs.Common.{◌*◌, ◌<◌, length, ap, subst, arith, ◌↔◌, ℕ, ◌≡◌, false, IsTrue, slice_index_or}
 use Rattle.std.specs.Vec.{vec_len}
-use Rattle.sedpass.proofs.Words.{TakesAtLeast, get_or_default, least_up}
-use Rattle.sedpass.specs.Table.{stops, code_of}
-use Rattle.sedpass.proofs.TableLemmas.{HasPlace, adds_none, few_offset, once_empty, shifted, with_place}
-use Rattle.sedpass.proofs.table.Table.intern.Goals.{After-from, then-self, else-self}
+use Rattle.sedpass.proofs.Words.{TakesAtLeast, Table, least_up}
+use Rattle.sedpass.specs.Table.{state_of, FlagsShow, HasMarks}
+use Rattle.sedpass.proofs.TableLemmas.{HasPlace, adds_none, marks_show, once_empty, with_place}
+use Rattle.sedpass.proofs.table.Table.intern.Goals.{After-flags-flags, After-from, then-self, else-self}
 use Rattle.sedpass.proofs.table.Table.intern.Goals as goal
 
 pub slot_of-slot-requires : goal.slot_of-slot-requires
-slot_of-slot-requires c = record { nodes = omega (arith, c.nodes.ensures.value, c.nodes.ensures.few); slots = omega (arith, c.requires.table.room.index, c.args.self.now.index.ok) }
+slot_of-slot-requires c = record { nodes = omega (arith, c.nodes-nodes.ensures.value, c.nodes-nodes.ensures.few); slots = omega (arith, c.requires.table.room.index, c.args.self.now.index.ok) }
+
+pub flags-flags-requires : goal.flags-flags-requires
+flags-flags-requires c = record { root = omega (arith, c.requires.root, c.nodes-nodes.ensures.value); few = omega (arith, c.nodes-nodes.ensures.value, c.nodes-nodes.ensures.few) }
 
 pub find-requires : goal.find-requires
 find-requires c = record { table = c.requires.table; slot = c.slot_of-slot.ensures.slot }
 
-pub index-requires : goal.index-requires
-index-requires c = let room = c.requires.table.room in omega (arith, c.in-Some.ensures.there, room.count, room.rows.flags)
+pub code-requires : goal.code-requires
+code-requires c =
+    let room = c.requires.table.room in
+    record { few = room.rows.few; small = c.requires.table.layout.small; there = omega (arith, room.count, c.in-Some.ensures.there) }
 
 pub empty-requires : goal.empty-requires
 empty-requires c = record { table = c.requires.table }
 
-pub code_of-requires : goal.code_of-requires
-code_of-requires c =
-    let T = c.args.self.now in
-    let q = c.in-Some.state in
-    let room = c.requires.table.room in
-    let there : q < T.room = omega (arith, room.count, c.in-Some.ensures.there) in
-    let small = c.requires.table.layout.small in
-    omega (arith, shifted q T.room T.layout.shift there room.rows.few small, few_offset q T.room T.layout.shift there room.rows.few small)
+-- the flags are those of a state with this row
+shown : (c : After-flags-flags) → (t : Table) (q : ℕ) → HasMarks c.args.prepared.now c.args.root c.args.work.now (state_of (length c.args.prepared.now.arena.expr.nodes) t q) →
+    FlagsShow (state_of (length c.args.prepared.now.arena.expr.nodes) t q) c.flags-flags.result
+shown c t q has =
+    let is = c.flags-flags.ensures in
+    marks_show c.args.prepared.now c.args.root c.args.work.now (state_of (length c.args.prepared.now.arena.expr.nodes) t q) c.flags-flags.result c.requires.root is.ends
+    (subst (λ n. IsTrue c.flags-flags.result.dead ↔ ((k : ℕ) → k < n → slice_index_or c.args.work.now.leaves k false ≡ false)) c.nodes-nodes.ensures.value is.dead) has
 
 pub returns-in-Some : goal.returns-in-Some
 returns-in-Some c =
-    let T = c.args.self.now in
     let q = c.in-Some.state in
-    let room = c.requires.table.room in
-    let there : q < T.room = omega (arith, room.count, c.in-Some.ensures.there) in
-    let inside : q < length T.flags.items = omega (arith, room.rows.flags) in
-    let flags = c.index.ensures ∙ get_or_default T.flags.items q c.index.result.now (record { ends = false; dead = false }) inside in
     let slot = c.slot_of-slot.ensures in
+    let flags = c.flags-flags.ensures.cost in
     let find = c.find.ensures.cost in
-    let nodes = c.nodes.ensures.value in
+    let nodes = c.nodes-nodes.ensures.value in
     record {
       codes = record {
         table = c.requires.table;
-        adds = adds_none (length c.args.prepared.now.arena.expr.nodes) T;
+        adds = adds_none (length c.args.prepared.now.arena.expr.nodes) c.args.self.now;
         names = record {
           to = q;
           there = c.in-Some.ensures.there;
-          code = c.code_of.ensures
-              ∙ ap (λ b. code_of b (q * 2 ^ T.layout.shift % 2 ^ 64)) (c.stops.ensures ∙ ap (stops T.way) flags)
-              ∙ ap (λ o. code_of (stops T.way (slice_index_or T.flags.items q (record { ends = false; dead = false }))) o) (shifted q T.room T.layout.shift there room.rows.few c.requires.table.layout.small);
+          flags = c.flags-flags.result;
+          shown = shown (goal.at.returns-in-Some c).After-flags-flags c.args.self.now q c.in-Some.ensures.has;
+          code = c.code.ensures;
           is = c.in-Some.ensures.has;
         };
       };
-      cost = (omega (arith, slot.cost.0, find.0), omega (arith, nodes, slot.cost.1, find.1));
-      counts = least_up _ c.slot_of-slot.new.steps _ _ (subst (λ n. TakesAtLeast c.args.steps.now c.slot_of-slot.new.steps (2 * n)) nodes slot.counts) find.0;
+      cost = (omega (arith, slot.cost.0, flags.0, find.0), omega (arith, nodes, slot.cost.1, flags.1, find.1));
+      counts = least_up _ c.slot_of-slot.new.steps _ _ (subst (λ n. TakesAtLeast c.args.steps.now c.slot_of-slot.new.steps (2 * n)) nodes slot.counts) (omega (arith, flags.0, find.0));
     }
 
 -- the table is as it was, or empty
@@ -62,19 +62,36 @@ roomy c = elim c.if-self.branch [
   | else-self w ↦ rw w.self-is (with_place c.args.prepared.now c.args.self.now c.requires.table w.if-self.false)
 ]
 
-pub add-requires : goal.add-requires
-add-requires c =
-    let is = roomy (goal.at.add-requires c).After-from in
+pub add-state-requires : goal.add-state-requires
+add-state-requires c =
+    let is = roomy (goal.at.add-state-requires c).After-from in
     record { table = is.table; room = is.room; root = c.requires.root; slot = grind (arith, ap vec_len is.index, c.slot_of-slot.ensures.slot) }
+
+pub code-requires-2 : goal.code-requires-2
+code-requires-2 c =
+    let table = c.add-state.ensures.table in
+    record { few = table.room.rows.few; small = table.layout.small; there = omega (arith, table.room.count, c.add-state.ensures.there) }
 
 pub returns : goal.returns
 returns c =
     let slot = c.slot_of-slot.ensures in
+    let flags = c.flags-flags.ensures.cost in
     let find = c.find.ensures.cost in
-    let add = c.add.ensures in
-    let nodes = c.nodes.ensures.value in
+    let add = c.add-state.ensures in
+    let nodes = c.nodes-nodes.ensures.value in
     record {
-      codes = record { table = add.codes.table; adds = (roomy (goal.at.returns c).After-from).adds c.add.new.self add.codes.adds; names = add.codes.names };
-      cost = (omega (arith, slot.cost.0, find.0, add.cost.0), omega (arith, nodes, slot.cost.1, find.1, add.cost.1));
-      counts = least_up _ c.slot_of-slot.new.steps _ _ (subst (λ n. TakesAtLeast c.args.steps.now c.slot_of-slot.new.steps (2 * n)) nodes slot.counts) (omega (arith, find.0, add.cost.0));
+      codes = record {
+        table = add.table;
+        adds = (roomy (goal.at.returns c).After-from).adds c.add-state.new.self add.adds;
+        names = record {
+          to = c.add-state.result;
+          there = add.there;
+          flags = c.flags-flags.result;
+          shown = shown (goal.at.returns c).After-flags-flags c.add-state.new.self c.add-state.result add.has;
+          code = c.code-2.ensures;
+          is = add.has;
+        };
+      };
+      cost = (omega (arith, slot.cost.0, flags.0, find.0, add.cost.0), omega (arith, nodes, slot.cost.1, flags.1, find.1, add.cost.1));
+      counts = least_up _ c.slot_of-slot.new.steps _ _ (subst (λ n. TakesAtLeast c.args.steps.now c.slot_of-slot.new.steps (2 * n)) nodes slot.counts) (omega (arith, flags.0, find.0, add.cost.0));
     }

@@ -19,19 +19,17 @@ returns c =
       leaves = c.in_ok-leaves.leaves;
       ends = c.in_ok-ends.ends;
       roots = c.copies.result;
-      flags = c.copies-2.result;
       cells = c.room.result;
-      index = c.copies-3.result;
-      beginnings = c.copies-4.result;
+      index = c.copies-2.result;
+      beginnings = c.copies-3.result;
     } in
-    let before-4 = c.copies-4.ensures.refused given in
-    let before-3 = c.copies-3.ensures.refused before-4 in
-    let before-room = c.room.ensures.refused before-3 in
-    let before-2 = c.copies-2.ensures.refused before-room in
+    let before-3 = c.copies-3.ensures.refused given in
+    let before-2 = c.copies-2.ensures.refused before-3 in
+    let before-room = c.room.ensures.refused before-2 in
     let shifted = shl_whole c.args.room 16 layout.shift 64 (omega (arith, c.requires.few)) (omega (arith, c.requires.layout)) in
-    let index : 2 ≤ length T.index.items = omega (arith, c.copies-3.ensures.long before-4, T.index.ok) in
-    let begins : length T.beginnings.items ≡ c.count_beginnings-kinds.result = omega (arith, c.copies-4.ensures.long given, T.beginnings.ok) in
-    let noted = none_noted T.beginnings.items c.count_beginnings-kinds.result (c.copies-4.ensures.items given (λ y h. h)) in
+    let index : 2 ≤ length T.index.items = omega (arith, c.copies-2.ensures.long before-3, T.index.ok) in
+    let begins : length T.beginnings.items ≡ c.count_beginnings-kinds.result = omega (arith, c.copies-3.ensures.long given, T.beginnings.ok) in
+    let noted = none_noted T.beginnings.items c.count_beginnings-kinds.result (c.copies-3.ensures.items given (λ y h. h)) in
     let has = has_parts T c.count_beginnings-kinds.result refl
     (record {
       some = c.requires.some;
@@ -40,10 +38,9 @@ returns c =
       ends = c.in_ok-ends.ensures.count;
       leaf_marks = c.in_ok-leaves.ensures.marks;
       end_marks = c.in_ok-ends.ensures.marks;
-      roots = omega (arith, c.copies.ensures.long before-2, T.roots.ok);
-      flags = omega (arith, c.copies-2.ensures.long before-room, T.flags.ok);
+      roots = omega (arith, c.copies.ensures.long before-room, T.roots.ok);
     })
-    shifted (c.room.ensures.room before-3) index begins c.count_beginnings-kinds.ensures.begins noted in
+    shifted (c.room.ensures.room before-2) index begins c.count_beginnings-kinds.ensures.begins noted in
     record {
       way = refl;
       room = refl;

@@ -1,4 +1,4 @@
-use Rattle.std.proofs.Common.{rules, ◌≡◌, ◌+◌, ◌-◌, ◌*◌, ◌∙◌, false, length, refl, sym, ap, subst, inl, inr, arith}
+use Rattle.std.proofs.Common.{rules, ◌+◌, ◌-◌, ◌*◌, ◌∙◌, length, refl, sym, ap, subst, inl, inr, arith}
 use Rattle.sedpass.proofs.Words.{not-false, Way, least_less, least_both}
 use Rattle.sedpass.specs.Rows.{nodes_of}
 use Rattle.sedpass.specs.Table.{BeginsIn, NamesState}
@@ -28,7 +28,7 @@ loop-at-init c =
       table = c.first-code.ensures.codes.table;
       shape = c.first-code.ensures.codes.adds.shape;
       offset = c.arrive-at.ensures.offset;
-      passes = c.arrive-at.ensures.passes (subst (λ (x : Way). x.mirrored ≡ false) (sym way) c.requires.forwards) from (omega arith) c.requires.from names (none_before p S.way w from);
+      passes = c.arrive-at.ensures.passes from (omega arith) c.requires.from names (none_before p S.way w from);
       cost = (cost.0, omega (arith, cost, ap (λ x. 40 * m * (x + 1)) here));
       counts = least_less c.args.steps.now c.first-code.new.steps 1 (2 * (c.arrive-at.result.place - from) + 1) c.first-code.ensures.counts (omega (arith, here));
     }
@@ -43,7 +43,7 @@ loop-at-preserved c =
       table = go.table;
       shape = (go.shape.0 ∙ i.shape.0, go.shape.1 ∙ i.shape.1, go.shape.2 ∙ i.shape.2, go.shape.3 ∙ i.shape.3, go.shape.4 ∙ i.shape.4);
       offset = go.offset;
-      passes = go.passes (subst (λ (x : Way). x.mirrored ≡ false) (sym i.shape.0) c.requires.forwards) c.args.from i.passes;
+      passes = go.passes c.args.from i.passes;
       cost = (omega (arith, before.0, cost), omega (arith, before.1, cost));
       counts = least_both c.args.steps.now c.loop-at.steps c.go_on-at.new.steps (2 * (c.loop-at.at.place - c.args.from) + 1) (2 * (c.go_on-at.result.place - c.loop-at.at.place)) (2 * (c.go_on-at.result.place - c.args.from) + 1) i.counts go.counts (omega (arith, i.passes.after, go.after));
     }
