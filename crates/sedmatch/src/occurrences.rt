@@ -58,10 +58,12 @@ pub struct Occurrences {
 fn own_table(alloc: Global, matcher: &TableMatcher) -> Result<Option<Table>, AllocError>
     ensures { IfOk result (λ r. IfSome r (IsReverseAny matcher.now)) }
 {
-    match matcher.prepared() {
-        Some(prepared) => Ok(Some(Table::new(alloc, prepared, REVERSE_ANY, OWN_STATES)?)),
-        None => Ok(None),
-    }
+    let Some(prepared) = matcher.prepared() else {
+        return Ok(None);
+    };
+    let mut table = Table::with_room(alloc, REVERSE_ANY, OWN_STATES, prepared.nodes())?;
+    table.fit(prepared);
+    Ok(Some(table))
 }
 
 /// Such tables for the first of the expressions.

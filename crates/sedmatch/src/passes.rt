@@ -74,7 +74,7 @@ const TABLES: usize = 4;
 
 /// How many bytes so many states take in all tables of an expression, at most.
 fn size_of(nodes: usize, states: usize) -> usize {
-    let cells = 16 * nodes.min(64);
+    let cells = 16 * nodes.saturating_add(1).min(64);
     let state = cells + nodes / 4 + 64;
     state.saturating_mul(TABLES).saturating_mul(states)
 }
@@ -91,12 +91,15 @@ fn own_tables(
     if size_of(prepared.nodes(), states) > room.bytes {
         return Ok(None);
     }
-    let forward_any = Table::new(alloc, prepared, FORWARD_ANY, states)?;
+    let nodes = prepared.nodes();
+    let mut forward_any = Table::with_room(alloc, FORWARD_ANY, states, nodes)?;
     // What was made is let go of by a call: in place it is proved field by field.
-    let Ok(groups) = GroupTables::new(alloc, prepared, states) else {
+    let Ok(mut groups) = GroupTables::with_room(alloc, states, nodes) else {
         drop(forward_any);
         return Err(AllocError);
     };
+    forward_any.fit(prepared);
+    groups.fit(prepared);
     Ok(Some(OwnTables {
         forward_any,
         groups,

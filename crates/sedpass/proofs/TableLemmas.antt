@@ -1,5 +1,5 @@
 -- Tables of states.
-use Rattle.std.proofs.Common.{Result, Ok, Err, IfOk, ◌≡◌, ◌≢◌, ℕ, zero, suc, ◌+◌, ◌*◌, ◌/◌, ◌%◌, ◌^◌, ◌<◌, ◌≤◌, ◌↔◌, Bool, true, false, List, length, length-set, Option, Some, IsTrue, refl, sym, ap, ◌∙◌, subst, ⊎_elim, arith, mul-le-mul_left, slice_index_or, slice_set, replicate, vec_capacity}
+use Rattle.std.proofs.Common.{◌≡◌, ◌≢◌, ℕ, zero, suc, ◌+◌, ◌*◌, ◌/◌, ◌%◌, ◌^◌, ◌<◌, ◌≤◌, ◌↔◌, Bool, true, false, List, length, length-set, Option, Some, IsTrue, refl, sym, ap, ◌∙◌, subst, ⊎_elim, arith, min, mul-le-mul_left, slice_index_or, slice_set, replicate, vec_capacity}
 use Rattle.sedpass.proofs.Words.{same_from_place, shl-shr, shl_whole, shl_below, from_bool, with_item, pow-le-pow_right, cases_eq, get_or-set_same, get_or-set_other, get_or_default, IsExpr, WrittenExpression, mirror_node, seen, old_node, Node, Set, AgreeBelow, row_of, StateFlags, PlaceKind, Prepared, Way, Work, Beginning, Table}
 use Rattle.sedpass.specs.Rows.{nodes_of, at_begin, at_edge, bits, SameBytes, RowLeadsTo, IsFirstRow}
 use Rattle.sedpass.specs.Table.{PassState, state_of, FlagsShow, HasRow, HasMarks, LeadsOn, BeginsIn, NamesState, IsNext, IsOffset, cell_of, LeadsBy, kind_number, beginning_at, beginning_of, MayBegin, HasRoom, HasRows, IsRoomy, IsTable, SameRoom, SameShape, AddsStates, Codes, code_of, column_at, IsLayout, IsColumn}
@@ -442,72 +442,55 @@ none_noted items n is i =
     let none : Beginning = record { epoch = 0; code = 0 } in
     ap (λ (l : List Beginning). (slice_index_or l i none).epoch) is ∙ ap (λ (b : Beginning). b.epoch) (same_all none n i)
 
--- what holds of each table that was made so
-pub made_so : {E : Type 0} → (P Q : Table → Type 0) (r : Result Table E) → ((t : Table) → P t → Q t) → IfOk r P → IfOk r Q
-made_so P Q (Ok t) so made = so t made
-made_so P Q (Err e) so made = tt
+-- Room for expressions.
 
 -- an empty table that has all its parts, with so many beginnings, has all its room
-pub has_parts : (t : Table) (kinds : ℕ) → t.count ≡ 0 → HasRows t.room t.marks t.leaves t.ends t.roots.items → t.reserved ≡ t.room * 2 ^ t.layout.shift → t.reserved ≤ vec_capacity t.cells →
+pub has_parts : (t : Table) (kinds : ℕ) → HasRows t.room t.marks t.leaves t.ends t.roots.items → t.reserved ≡ t.room * min 256 (4 * (t.marks + 1)) → t.reserved ≤ vec_capacity t.cells →
     2 ≤ length t.index.items → length t.beginnings.items ≡ kinds → ((root : ℕ) (kind : PlaceKind) → root < t.marks → beginning_at t.way.all_starts root kind < kinds) → ((i : ℕ) → (beginning_of t i).epoch ≡ 0) →
-    HasRoom t.marks t
-has_parts t kinds none rows reserved capacity index long begins noted = record {
-  count = omega (arith, none);
-  marks = omega arith;
-  rows = rows;
-  cells = rw none (omega arith);
-  reserved = omega (arith, reserved);
-  capacity = capacity;
-  index = index;
-  begins = λ root kind low. let below = begins root kind low in omega (arith, long, below);
-  past = λ i. let zero = noted i in omega (arith, zero);
-  early = λ i. let zero = noted i in omega (arith, zero);
-}
-
--- Room for other expressions.
-
--- the same room, with other cells and no states
-room_laid : (k m : ℕ) (t : Table) (layout : Layout) → HasRoom k t → 256 * t.room ≤ t.reserved → m ≤ t.marks → layout.shift ≤ 8 → HasRoom m (record t { layout = layout; count = 0 })
-room_laid k m t layout room wide marks small =
+    IsRoomy t.marks t
+has_parts t kinds rows reserved capacity index long begins noted layout small tight =
     let two : 0 < 2 = omega arith in
     let size : 2 ^ layout.shift ≤ 2 ^ 8 = pow-le-pow_right two small in
-    let all : t.room * 2 ^ layout.shift ≤ t.room * 2 ^ 8 = mul-le-mul_left t.room size in
+    let most : 2 ^ layout.shift ≤ min 256 (4 * (t.marks + 1)) = omega (arith, size, tight) in
     record {
       count = omega arith;
-      marks = marks;
-      rows = room.rows;
+      marks = omega arith;
+      rows = rows;
       cells = omega arith;
-      reserved = omega (arith, all, wide);
-      capacity = room.capacity;
-      index = room.index;
-      begins = room.begins;
-      past = room.past;
-      early = room.early;
+      reserved = omega (arith, reserved, mul-le-mul_left t.room most);
+      capacity = capacity;
+      index = index;
+      begins = λ root kind low. let below = begins root kind low in omega (arith, long, below);
+      past = λ i. let zero = noted i in omega (arith, zero);
+      early = λ i. let zero = noted i in omega (arith, zero);
     }
 
--- a table that was made wide has all its room
-pub made_roomy : (m : ℕ) (t : Table) → HasRoom m t → 256 * t.room ≤ t.reserved → IsRoomy m t
-made_roomy m t room wide layout small = room_laid m m t layout room wide room.marks small
+-- the same room, with other cells and no states
+room_laid : (k m : ℕ) (t : Table) (layout : Layout) → HasRoom k t → t.room * 2 ^ layout.shift ≤ t.reserved → m ≤ t.marks → HasRoom m (record t { layout = layout; count = 0 })
+room_laid k m t layout room wide marks = record {
+  count = omega arith;
+  marks = marks;
+  rows = room.rows;
+  cells = omega arith;
+  reserved = wide;
+  capacity = room.capacity;
+  index = room.index;
+  begins = room.begins;
+  past = room.past;
+  early = room.early;
+}
 
--- one that serves an expression has it for others
-pub table_roomy : (m : ℕ) (p : Prepared) (t : Table) → IsTable p t → 256 * t.room ≤ t.reserved → m ≤ t.marks → IsRoomy m t
-table_roomy m p t table wide marks layout small = room_laid (length p.arena.expr.nodes) m t layout table.room wide marks small
-
-abbrev widest : Layout
-widest = record { classes = replicate 256 0; columns = 0; shift = 8 }
-
--- so it has it again, after one expression
+-- a table has all its room again, after it served an expression
 pub roomy_still : (m : ℕ) (p : Prepared) (t t' : Table) → IsRoomy m t → SameRoom t t' → IsTable p t' → IsRoomy m t'
-roomy_still m p t t' roomy same table =
-    let room = roomy widest (omega arith) in
-    table_roomy m p t' table (omega (arith, room.reserved, same.1, same.3)) (omega (arith, room.marks, same.2))
+roomy_still m p t t' roomy same table layout small tight =
+    let room = roomy layout small tight in
+    room_laid (length p.arena.expr.nodes) m t' layout table.room (subst (λ r. r * 2 ^ layout.shift ≤ t'.reserved) (sym same.1) (omega (arith, room.reserved, same.3))) (omega (arith, room.marks, same.2))
 
 -- and for fewer nodes
 pub roomy_fewer : (k m : ℕ) (t : Table) → k ≤ m → IsRoomy m t → IsRoomy k t
-roomy_fewer k m t few roomy layout small =
-    let room = roomy layout small in
-    let wide = (roomy widest (omega arith)).reserved in
-    room_laid m k (record t { layout = layout; count = 0 }) layout room (omega (arith, wide)) (omega (arith, few, room.marks)) small
+roomy_fewer k m t few roomy layout small tight =
+    let room = roomy layout small (omega (arith, tight, few)) in
+    room_laid m k (record t { layout = layout; count = 0 }) layout room room.reserved (omega (arith, few, room.marks))
 
 -- Steps from table to table.
 

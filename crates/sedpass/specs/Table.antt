@@ -33,6 +33,7 @@ pub record IsLayout (nodes : List Node) (layout : Layout) : Type 0 where
   pub few : layout.columns ≤ length nodes + 1
   pub classes : AreAlike nodes layout.classes
   pub small : layout.shift ≤ 8
+  pub tight : 2 ^ layout.shift ≤ 4 * (length nodes + 1)
   pub fits : 2 * layout.columns ≤ 2 ^ layout.shift
 
 -- the column is the byte's
@@ -151,7 +152,7 @@ pub record HasRoom (m : ℕ) (t : Table) : Type 0 where
 
 -- the table has all its room for expressions of at most m nodes, however the cells of a state are laid out
 abbrev pub IsRoomy : ℕ → Table → Type 0
-IsRoomy m t = (layout : Layout) → layout.shift ≤ 8 → HasRoom m (record t { layout = layout; count = 0 })
+IsRoomy m t = (layout : Layout) → layout.shift ≤ 8 → 2 ^ layout.shift ≤ 4 * (m + 1) → HasRoom m (record t { layout = layout; count = 0 })
 
 -- what a table says is right for the expression: of each state, each filled cell, and each beginning of this epoch
 pub record IsTable (p : Prepared) (t : Table) : Type 0 where
@@ -162,13 +163,6 @@ pub record IsTable (p : Prepared) (t : Table) : Type 0 where
   pub filled : (q k : ℕ) → q < t.count → k < 2 * t.layout.columns → 0 < cell_of t q k → NamesState (length p.arena.expr.nodes) t (LeadsBy p t q k) (cell_of t q k)
   pub begun : (root : ℕ) (kind : PlaceKind) → MayBegin p t.way root → (beginning_of t (beginning_at t.way.all_starts root kind)).epoch ≡ t.epoch →
       NamesState (length p.arena.expr.nodes) t (BeginsIn (nodes_of t.way p.arena.expr) t.way root kind) (beginning_of t (beginning_at t.way.all_starts root kind)).code
-
--- an empty table was made: one for the expression for which it is laid out, or, laid out as widely as there is, for any
-pub record IsMade (asked : Way) (states nodes : ℕ) (layout : Layout) (t : Table) : Type 0 where
-  pub way : t.way ≡ asked
-  pub room : t.room ≡ states
-  pub serves : (p : Prepared) → IsExpr p.arena.expr.nodes p.arena.expr.groups → IsLayout p.arena.expr.nodes layout → nodes ≡ length p.arena.expr.nodes → IsTable p t
-  pub roomy : layout.shift ≡ 8 → IsRoomy nodes t
 
 -- what never changes
 abbrev pub SameRoom : Table → Table → Type 0

@@ -1,5 +1,5 @@
 //! How a table names its states by codes, and lays out their cells.
-ghost use Rattle.std.specs.Prelude.{◌≡◌, ℕ, ◌+◌, ◌*◌, ◌^◌, ◌<◌, ◌≤◌, length, slice_index_or, IfSome, vec_capacity};
+ghost use Rattle.std.specs.Prelude.{◌≡◌, ℕ, ◌+◌, ◌*◌, ◌^◌, ◌<◌, ◌≤◌, min, max, length, slice_index_or, IfSome, vec_capacity};
 ghost use Rattle.sedre.specs.Steps.{TakesExactly, Takes};
 ghost use Rattle.sedpass.specs.Table.{code_of, IsLayout, IsColumn};
 ghost use Rattle.sedpass.specs.declared.cells.StateFlags.{StateFlags};
@@ -10,8 +10,8 @@ use sedre::Steps;
 /// The cells of all states begin below this place.
 const PLACES: u32 = 1 << 29;
 
-/// How many classes of bytes have cells at most.
-const MOST_COLUMNS: usize = 128;
+/// How many cells a state has at most.
+const MOST_CELLS: usize = 256;
 
 /// What is known of a state.
 #[derive(Clone, Copy)]
@@ -62,11 +62,20 @@ pub fn flags_of(code: u32) -> StateFlags
     }
 }
 
-/// The power of two that is no smaller.
+/// How many cells there is room for in each state of an expression of at most so many nodes.
+pub fn most_cells(nodes: usize) -> usize
+    requires { nodes ≤ 65536 }
+    ensures { result ≡ min 256 (4 * (nodes + 1)) }
+{
+    MOST_CELLS.min(4 * (nodes + 1))
+}
+
+/// The least power of two that is no smaller.
 fn shift_for(width: usize) -> u32
     requires { width ≤ 256 }
     ensures small { result ≤ 8 }
     ensures fits { width ≤ 2 ^ result }
+    ensures tight { 2 ^ result ≤ max 1 (2 * width) }
 {
     for shift in 0..8u32 {
         if width <= (1usize << shift) {
@@ -85,7 +94,7 @@ impl Layout {
             .classes
             .count
             .min(prepared.nodes() + 1)
-            .min(MOST_COLUMNS);
+            .min(MOST_CELLS / 2);
         Layout {
             classes: prepared.classes.of,
             columns,
@@ -93,14 +102,14 @@ impl Layout {
         }
     }
 
-    /// That of a table that serves no expression yet, with room for as many cells a state as there are at most.
-    pub fn widest() -> Layout
-        ensures { result.shift ≡ 8 }
+    /// That of a table that serves no expression yet: there are no cells.
+    pub fn none() -> Layout
+        ensures { result.shift ≡ 0 }
     {
         Layout {
             classes: [0; 256],
             columns: 0,
-            shift: 8,
+            shift: 0,
         }
     }
 

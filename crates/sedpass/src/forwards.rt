@@ -57,9 +57,19 @@ impl Table {
             EndsBelow prepared.now self.now.way text.now start place end →
             PassIs prepared.now self.now text.now start result }
     {
-        let flags = flags_of(code);
+        let (offset, flags) = (offset_of(code), flags_of(code));
+        // Most states show nothing, so this comes first.
+        let shows = flags.ends | flags.dead;
+        if !shows {
+            return Passed {
+                offset,
+                place,
+                end,
+                over: false,
+            };
+        }
         Passed {
-            offset: offset_of(code),
+            offset,
             place,
             end: flags.ends.then_some(place).or(end),
             over: is_over(self.way.all_starts, flags),

@@ -101,25 +101,6 @@ const REVERSE_ONE: Way = Way {
 };
 
 impl GroupTables {
-    /// Empty tables with room for so many states each. Fails only where a request for memory was refused.
-    pub fn new(alloc: Global, prepared: &Prepared, room: usize) -> Result<GroupTables, AllocError>
-        requires some { 2 ≤ room }
-        requires few { room ≤ 65535 }
-        ensures tables { IfOk result (λ t. AreGroupTables prepared.now t) }
-        ensures room { IfOk result (λ t. (t.reverse_one.room ≡ room) × (t.forward_one.room ≡ room)) }
-    {
-        let forward_one = Table::new(alloc, prepared, FORWARD_ONE, room)?;
-        // What was made is let go of by a call: in place it is proved field by field.
-        let Ok(reverse_one) = Table::new(alloc, prepared, REVERSE_ONE, room) else {
-            drop(forward_one);
-            return Err(AllocError);
-        };
-        Ok(GroupTables {
-            forward_one,
-            reverse_one,
-        })
-    }
-
     /// Empty tables with room for so many states each of any expression of at most so many nodes, which serve none yet. Fails
     /// only where a request for memory was refused.
     pub fn with_room(alloc: Global, room: usize, nodes: usize) -> Result<GroupTables, AllocError>
@@ -131,6 +112,7 @@ impl GroupTables {
         ensures room { IfOk result (λ t. (t.reverse_one.room ≡ room) × (t.forward_one.room ≡ room)) }
     {
         let forward_one = Table::with_room(alloc, FORWARD_ONE, room, nodes)?;
+        // What was made is let go of by a call: in place it is proved field by field.
         let Ok(reverse_one) = Table::with_room(alloc, REVERSE_ONE, room, nodes) else {
             drop(forward_one);
             return Err(AllocError);

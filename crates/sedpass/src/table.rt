@@ -9,9 +9,9 @@ ghost use Rattle.sedre.specs.Steps.{Takes, TakesAtLeast};
 ghost use Rattle.sedpass.specs.Rows.{nodes_of, bits};
 ghost use Rattle.sedpass.specs.declared.nodes.PlaceKind.{PlaceKind};
 ghost use Rattle.sedpass.specs.declared.nodes.Prepared.{Prepared};
-ghost use Rattle.sedpass.specs.Table.{state_of, HasRow, HasMarks, BeginsIn, NamesState, IsNext, IsOffset, beginning_at, MayBegin, IsRoomy, IsTable, SameRoom, SameShape, AddsStates, Codes, IsMade, code_of};
+ghost use Rattle.sedpass.specs.Table.{state_of, HasRow, HasMarks, BeginsIn, NamesState, IsNext, IsOffset, beginning_at, MayBegin, IsRoomy, IsTable, SameRoom, SameShape, AddsStates, Codes, code_of};
 
-use crate::cells::{Layout, StateFlags, code_of, empty_cells};
+use crate::cells::{Layout, StateFlags, code_of, empty_cells, most_cells};
 use crate::nodes::{PlaceKind, Prepared};
 use crate::rows::{Way, Work, first, step};
 use sedre::Steps;
@@ -138,22 +138,21 @@ impl Requests {
 }
 
 impl Table {
-    /// An empty table with room for so many states, for rows of so many nodes, and for cells that are laid out so.
-    fn made(
+    /// An empty table with room for so many states of any expression of at most so many nodes, which serves none yet. Fails only
+    /// where a request for memory was refused.
+    pub fn with_room(
         alloc: Global,
         way: Way,
         room: usize,
         nodes: usize,
-        layout: Layout,
     ) -> Result<Table, AllocError>
         requires some { 2 ≤ room }
         requires few { room ≤ 65535 }
         requires nodes { 1 ≤ nodes }
         requires short { nodes ≤ 65536 }
-        requires layout { layout.shift ≤ 8 }
-        ensures { IfOk result (IsMade way room nodes layout) }
+        ensures table { IfOk result (λ t. IsRoomy nodes t × (t.way ≡ way) × (t.room ≡ room)) }
     {
-        let reserved = room << layout.shift;
+        let reserved = room * most_cells(nodes);
         let leaves = Rows::new(alloc, room, nodes)?;
         let ends = Rows::new(alloc, room, nodes)?;
         let kinds = count_beginnings(way.all_starts, nodes);
@@ -166,7 +165,7 @@ impl Table {
             room,
             marks: nodes,
             reserved,
-            layout,
+            layout: Layout::none(),
             count: 0,
             epoch: 1,
             leaves,
@@ -182,39 +181,6 @@ impl Table {
             return Err(AllocError);
         }
         Ok(table)
-    }
-
-    /// An empty table with room for so many states. Fails only where a request for memory was refused.
-    pub fn new(
-        alloc: Global,
-        prepared: &Prepared,
-        way: Way,
-        room: usize,
-    ) -> Result<Table, AllocError>
-        requires some { 2 ≤ room }
-        requires few { room ≤ 65535 }
-        ensures table { IfOk result (λ t. IsTable prepared.now t) }
-        ensures way { IfOk result (λ t. t.way ≡ way) }
-        ensures room { IfOk result (λ t. t.room ≡ room) }
-    {
-        Table::made(alloc, way, room, prepared.nodes(), Layout::new(prepared))
-    }
-
-    /// An empty table with room for so many states of any expression of at most so many nodes, which serves none yet. Fails only
-    /// where a request for memory was refused.
-    pub fn with_room(
-        alloc: Global,
-        way: Way,
-        room: usize,
-        nodes: usize,
-    ) -> Result<Table, AllocError>
-        requires some { 2 ≤ room }
-        requires few { room ≤ 65535 }
-        requires nodes { 1 ≤ nodes }
-        requires short { nodes ≤ 65536 }
-        ensures table { IfOk result (λ t. IsRoomy nodes t × (t.way ≡ way) × (t.room ≡ room)) }
-    {
-        Table::made(alloc, way, room, nodes, Layout::widest())
     }
 
     /// Begins to serve an expression: lays the cells out anew, and forgets all states.

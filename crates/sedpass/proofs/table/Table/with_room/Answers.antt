@@ -1,5 +1,41 @@
-use Rattle.sedpass.proofs.TableLemmas.{made_so}
+use Rattle.std.proofs.Common.{◌≡◌, ◌*◌, ◌≤◌, length, refl, ap, arith}
+use Rattle.sedpass.proofs.Words.{Table}
+use Rattle.sedpass.proofs.TableLemmas.{has_parts, none_noted}
 use Rattle.sedpass.proofs.table.Table.with_room.Goals as goal
 
 pub returns : goal.returns
-returns c = record { table = made_so _ _ c.made.result (λ t made. (made.roomy c.widest.ensures, made.way, made.room)) c.made.ensures }
+returns c =
+    let given = c.if-requests.false in
+    let T : Table = record {
+      way = c.args.way;
+      room = c.args.room;
+      marks = c.args.nodes;
+      reserved = c.args.room * c.most_cells.result;
+      layout = c.none.result;
+      count = 0;
+      epoch = 1;
+      leaves = c.in_ok-leaves.leaves;
+      ends = c.in_ok-ends.ends;
+      roots = c.copies.result;
+      cells = c.room.result;
+      index = c.copies-2.result;
+      beginnings = c.copies-3.result;
+    } in
+    let before-3 = c.copies-3.ensures.refused given in
+    let before-2 = c.copies-2.ensures.refused before-3 in
+    let before-room = c.room.ensures.refused before-2 in
+    let index : 2 ≤ length T.index.items = omega (arith, c.copies-2.ensures.long before-3, T.index.ok) in
+    let begins : length T.beginnings.items ≡ c.count_beginnings-kinds.result = omega (arith, c.copies-3.ensures.long given, T.beginnings.ok) in
+    let noted = none_noted T.beginnings.items c.count_beginnings-kinds.result (c.copies-3.ensures.items given (λ y h. h)) in
+    let has = has_parts T c.count_beginnings-kinds.result
+    (record {
+      some = c.requires.some;
+      few = c.requires.few;
+      leaves = c.in_ok-leaves.ensures.count;
+      ends = c.in_ok-ends.ensures.count;
+      leaf_marks = c.in_ok-leaves.ensures.marks;
+      end_marks = c.in_ok-ends.ensures.marks;
+      roots = omega (arith, c.copies.ensures.long before-room, T.roots.ok);
+    })
+    (ap (λ n. c.args.room * n) c.most_cells.ensures) (c.room.ensures.room before-2) index begins c.count_beginnings-kinds.ensures.begins noted in
+    record { table = (has, refl, refl) }
