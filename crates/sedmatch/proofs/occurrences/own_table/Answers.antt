@@ -1,7 +1,10 @@
+use Rattle.std.proofs.Common.{◌∙◌, subst}
+use Rattle.sedpass.specs.Table.{IsRoomy}
 use Rattle.sedmatch.proofs.OccurrenceLemmas.{reverse_any_made}
 use Rattle.sedmatch.proofs.occurrences.own_table.Goals as goal
 
-pub returns-in_ok-new-in-Some : goal.returns-in_ok-new-in-Some
-returns-in_ok-new-in-Some c =
-    let made = c.in_ok-new-in-Some.ensures in
-    reverse_any_made c.in-Some.prepared.now c.args.matcher.now c.in_ok-new-in-Some.field-0 c.in-Some.ensures made.table made.way
+pub fit-requires : goal.fit-requires
+fit-requires c = record { roomy = subst (λ m. IsRoomy m c.in_ok-table.table) c.nodes.ensures.value c.in_ok-table.ensures.table.0 }
+
+pub returns : goal.returns
+returns c = reverse_any_made c.in-Some.prepared.now c.args.matcher.now c.fit.new.self c.in-Some.ensures c.fit.ensures.table (c.fit.ensures.room.0 ∙ c.in_ok-table.ensures.table.1)
