@@ -204,7 +204,6 @@ note_cell p t table offset k v byte edge there small column leads =
       rows = old.rows;
       cells = omega (arith, length-set t.cells.items (offset + k) v, old.cells);
       reserved = old.reserved;
-      capacity = old.capacity;
       index = old.index;
       begins = old.begins;
       past = old.past;
@@ -250,7 +249,6 @@ note_beginning p t table root code kind may epoch begins =
       rows = old.rows;
       cells = old.cells;
       reserved = old.reserved;
-      capacity = old.capacity;
       index = old.index;
       begins = λ x other low. omega (arith, length-set t.beginnings.items at fresh, old.begins x other low);
       past = noted_all (λ n. n ≤ t.epoch) t.beginnings.items at t.epoch code inside (omega arith) old.past;
@@ -300,7 +298,6 @@ emptied p t epoch expr room layout later =
       rows = room.rows;
       cells = omega arith;
       reserved = room.reserved;
-      capacity = room.capacity;
       index = room.index;
       begins = room.begins;
       past = λ i. let h = past i in omega (arith, h);
@@ -445,10 +442,10 @@ none_noted items n is i =
 -- Room for expressions.
 
 -- an empty table that has all its parts, with so many beginnings, has all its room
-pub has_parts : (t : Table) (kinds : ℕ) → HasRows t.room t.marks t.leaves t.ends t.roots.items → t.reserved ≡ t.room * min 256 (4 * (t.marks + 1)) → t.reserved ≤ vec_capacity t.cells →
+pub has_parts : (t : Table) (kinds : ℕ) → HasRows t.room t.marks t.leaves t.ends t.roots.items → t.room * min 256 (4 * (t.marks + 1)) ≤ vec_capacity t.cells →
     2 ≤ length t.index.items → length t.beginnings.items ≡ kinds → ((root : ℕ) (kind : PlaceKind) → root < t.marks → beginning_at t.way.all_starts root kind < kinds) → ((i : ℕ) → (beginning_of t i).epoch ≡ 0) →
     IsRoomy t.marks t
-has_parts t kinds rows reserved capacity index long begins noted layout small tight =
+has_parts t kinds rows reserved index long begins noted layout small tight =
     let two : 0 < 2 = omega arith in
     let size : 2 ^ layout.shift ≤ 2 ^ 8 = pow-le-pow_right two small in
     let most : 2 ^ layout.shift ≤ min 256 (4 * (t.marks + 1)) = omega (arith, size, tight) in
@@ -458,7 +455,6 @@ has_parts t kinds rows reserved capacity index long begins noted layout small ti
       rows = rows;
       cells = omega arith;
       reserved = omega (arith, reserved, mul-le-mul_left t.room most);
-      capacity = capacity;
       index = index;
       begins = λ root kind low. let below = begins root kind low in omega (arith, long, below);
       past = λ i. let zero = noted i in omega (arith, zero);
@@ -466,14 +462,13 @@ has_parts t kinds rows reserved capacity index long begins noted layout small ti
     }
 
 -- the same room, with other cells and no states
-room_laid : (k m : ℕ) (t : Table) (layout : Layout) → HasRoom k t → t.room * 2 ^ layout.shift ≤ t.reserved → m ≤ t.marks → HasRoom m (record t { layout = layout; count = 0 })
+room_laid : (k m : ℕ) (t : Table) (layout : Layout) → HasRoom k t → t.room * 2 ^ layout.shift ≤ vec_capacity t.cells → m ≤ t.marks → HasRoom m (record t { layout = layout; count = 0 })
 room_laid k m t layout room wide marks = record {
   count = omega arith;
   marks = marks;
   rows = room.rows;
   cells = omega arith;
   reserved = wide;
-  capacity = room.capacity;
   index = room.index;
   begins = room.begins;
   past = room.past;
@@ -484,7 +479,7 @@ room_laid k m t layout room wide marks = record {
 pub roomy_still : (m : ℕ) (p : Prepared) (t t' : Table) → IsRoomy m t → SameRoom t t' → IsTable p t' → IsRoomy m t'
 roomy_still m p t t' roomy same table layout small tight =
     let room = roomy layout small tight in
-    room_laid (length p.arena.expr.nodes) m t' layout table.room (subst (λ r. r * 2 ^ layout.shift ≤ t'.reserved) (sym same.1) (omega (arith, room.reserved, same.3))) (omega (arith, room.marks, same.2))
+    room_laid (length p.arena.expr.nodes) m t' layout table.room (subst (λ r. r * 2 ^ layout.shift ≤ vec_capacity t'.cells) (sym same.1) (omega (arith, room.reserved, same.3))) (omega (arith, room.marks, same.2))
 
 -- and for fewer nodes
 pub roomy_fewer : (k m : ℕ) (t : Table) → k ≤ m → IsRoomy m t → IsRoomy k t

@@ -142,8 +142,7 @@ pub record HasRoom (m : ℕ) (t : Table) : Type 0 where
   pub marks : m ≤ t.marks
   pub rows : HasRows t.room t.marks t.leaves t.ends t.roots.items
   pub cells : t.count * 2 ^ t.layout.shift ≤ length t.cells.items
-  pub reserved : t.room * 2 ^ t.layout.shift ≤ t.reserved
-  pub capacity : t.reserved ≤ vec_capacity t.cells
+  pub reserved : t.room * 2 ^ t.layout.shift ≤ vec_capacity t.cells
   pub index : 2 ≤ length t.index.items
   pub begins : (root : ℕ) (kind : PlaceKind) → root < t.marks → beginning_at t.way.all_starts root kind < length t.beginnings.items
   -- no beginning is of a later epoch, nor of one of the last two
@@ -166,11 +165,11 @@ pub record IsTable (p : Prepared) (t : Table) : Type 0 where
 
 -- what never changes
 abbrev pub SameRoom : Table → Table → Type 0
-SameRoom old new = (new.way ≡ old.way) × (new.room ≡ old.room) × (new.marks ≡ old.marks) × (new.reserved ≡ old.reserved)
+SameRoom old new = (new.way ≡ old.way) × (new.room ≡ old.room) × (new.marks ≡ old.marks) × (vec_capacity new.cells ≡ vec_capacity old.cells)
 
 -- nor does this, while the table serves one expression
 abbrev pub SameShape : Table → Table → Type 0
-SameShape old new = (new.way ≡ old.way) × (new.room ≡ old.room) × (new.layout ≡ old.layout) × (new.marks ≡ old.marks) × (new.reserved ≡ old.reserved)
+SameShape old new = (new.way ≡ old.way) × (new.room ≡ old.room) × (new.layout ≡ old.layout) × (new.marks ≡ old.marks) × (vec_capacity new.cells ≡ vec_capacity old.cells)
 
 -- a table of passes forwards, each from one start, which keeps the ends of the root alone
 pub record IsForwardOne (p : Prepared) (t : Table) : Type 0 where

@@ -54,8 +54,6 @@ pub struct Table {
     pub room: usize,
     /// For how many nodes a row has room.
     pub marks: usize,
-    /// For how many cells there is room.
-    pub reserved: usize,
     /// How the cells of a state are laid out.
     pub layout: Layout,
     /// How many states there are.
@@ -152,7 +150,6 @@ impl Table {
         requires short { nodes ≤ 65536 }
         ensures table { IfOk result (λ t. IsRoomy nodes t × (t.way ≡ way) × (t.room ≡ room)) }
     {
-        let reserved = room * most_cells(nodes);
         let leaves = Rows::new(alloc, room, nodes)?;
         let ends = Rows::new(alloc, room, nodes)?;
         let kinds = count_beginnings(way.all_starts, nodes);
@@ -164,14 +161,13 @@ impl Table {
             way,
             room,
             marks: nodes,
-            reserved,
             layout: Layout::none(),
             count: 0,
             epoch: 1,
             leaves,
             ends,
             roots: requests.copies(0, room),
-            cells: requests.room(reserved),
+            cells: requests.room(room * most_cells(nodes)),
             // An odd number and one: by a power of two only a digest's last bits would count.
             index: requests.copies(Slot { epoch: 0, state: 0 }, 2 * room + 2),
             beginnings: requests.copies(Beginning { epoch: 0, code: 0 }, kinds),

@@ -12,7 +12,7 @@ use std::io;
 use std::rt::Stdout;
 
 /// How many bytes are gathered before they are written to the standard output.
-const OUTPUT_ROOM: usize = 262144;
+const OUTPUT_ROOM: usize = 65536;
 
 /// How many bytes are gathered before they are written to a file.
 const FILE_ROOM: usize = 8192;

@@ -36,7 +36,7 @@ empty_cells-requires c =
     let place = shifted T.count T.room T.layout.shift c.requires.room t.room.rows.few t.layout.small in
     let up : T.count + 1 ≤ T.room = omega (arith, c.requires.room) in
     let size = one_shifted T.layout.shift t.layout.small in
-    record { there = omega (arith, place, t.room.cells); room = omega (arith, place, mul-le-mul_left (2 ^ T.layout.shift) up, t.room.reserved, t.room.capacity, size); fits = omega (arith, t.layout.fits, size) }
+    record { there = omega (arith, place, t.room.cells); room = omega (arith, place, mul-le-mul_left (2 ^ T.layout.shift) up, t.room.reserved, size); fits = omega (arith, t.layout.fits, size) }
 
 pub returns : goal.returns
 returns c =
@@ -49,7 +49,6 @@ returns c =
       way = T.way;
       room = T.room;
       marks = T.marks;
-      reserved = T.reserved;
       layout = T.layout;
       count = T.count + 1;
       epoch = T.epoch;
@@ -63,8 +62,8 @@ returns c =
     let nodes = c.nodes-nodes.ensures.value in
     let leaves : AgreeBelow m (row_of c.store.new.self T.count) L = subst (λ n. AgreeBelow n (row_of c.store.new.self T.count) L) nodes c.store.ensures.same in
     let ends : AgreeBelow m (row_of c.store-2.new.self T.count) E = subst (λ n. AgreeBelow n (row_of c.store-2.new.self T.count) E) nodes c.store-2.ensures.same in
-    let adds : AddsStates m T N = state_adds m T N c.args.root L E c.requires.room t.room (refl, refl, refl, refl, refl) refl refl c.store.ensures.other leaves c.store-2.ensures.other ends refl in
-    let added = state_added m T N c.args.root L E c.requires.room t.room (refl, refl, refl, refl, refl) refl refl c.store.ensures.other leaves c.store-2.ensures.other ends refl in
+    let adds : AddsStates m T N = state_adds m T N c.args.root L E c.requires.room t.room (refl, refl, refl, refl, c.empty_cells.ensures.capacity) refl refl c.store.ensures.other leaves c.store-2.ensures.other ends refl in
+    let added = state_added m T N c.args.root L E c.requires.room t.room (refl, refl, refl, refl, c.empty_cells.ensures.capacity) refl refl c.store.ensures.other leaves c.store-2.ensures.other ends refl in
     let place = shifted T.count T.room T.layout.shift c.requires.room t.room.rows.few t.layout.small in
     let room : HasRoom m N = record {
       count = omega (arith, c.requires.room);
@@ -79,8 +78,7 @@ returns c =
         roots = length-set T.roots.items T.count c.args.root ∙ t.room.rows.roots;
       };
       cells = omega (arith, place, c.empty_cells.ensures.long, one_shifted T.layout.shift t.layout.small);
-      reserved = t.room.reserved;
-      capacity = omega (arith, t.room.capacity, c.empty_cells.ensures.capacity);
+      reserved = omega (arith, t.room.reserved, c.empty_cells.ensures.capacity);
       index = omega (arith, length-set T.index.items c.args.slot (record { epoch = T.epoch % 65536; state = T.count }), t.room.index);
       begins = t.room.begins;
       past = t.room.past;

@@ -1,4 +1,4 @@
-use Rattle.std.proofs.Common.{◌≡◌, ◌*◌, ◌≤◌, length, refl, ap, arith}
+use Rattle.std.proofs.Common.{◌≡◌, ◌*◌, ◌≤◌, length, refl, subst, arith, vec_capacity}
 use Rattle.sedpass.proofs.Words.{Table}
 use Rattle.sedpass.proofs.TableLemmas.{has_parts, none_noted}
 use Rattle.sedpass.proofs.table.Table.with_room.Goals as goal
@@ -10,7 +10,6 @@ returns c =
       way = c.args.way;
       room = c.args.room;
       marks = c.args.nodes;
-      reserved = c.args.room * c.most_cells.result;
       layout = c.none.result;
       count = 0;
       epoch = 1;
@@ -37,5 +36,5 @@ returns c =
       end_marks = c.in_ok-ends.ensures.marks;
       roots = omega (arith, c.copies.ensures.long before-room, T.roots.ok);
     })
-    (ap (λ n. c.args.room * n) c.most_cells.ensures) (c.room.ensures.room before-2) index begins c.count_beginnings-kinds.ensures.begins noted in
+    (subst (λ n. c.args.room * n ≤ vec_capacity c.room.result) c.most_cells.ensures (c.room.ensures.room before-2)) index begins c.count_beginnings-kinds.ensures.begins noted in
     record { table = (has, refl, refl) }
