@@ -1,12 +1,12 @@
 -- Passes for the whole expression.
-use Rattle.std.proofs.Common.{inl, inr, ◌≡◌, ℕ, ◌+◌, ◌-◌, ◌*◌, ◌/◌, ◌^◌, ◌<◌, ◌≤◌, ◌⊎◌, ◌↔◌, Bool, true, false, cond, ◌||◌, List, length, Option, Some, None, IsTrue, refl, sym, ap, ◌∙◌, subst, ⊎_elim, true≢false, arith, mul-le-mul_left, min, slice_get, is_some, IfSome}
+use Rattle.std.proofs.Common.{inl, inr, ◌≡◌, ℕ, ◌+◌, ◌-◌, ◌*◌, ◌/◌, ◌^◌, ◌<◌, ◌≤◌, ◌⊎◌, ◌↔◌, Bool, true, false, cond, List, length, Option, Some, None, IsTrue, refl, sym, ap, ◌∙◌, subst, ⊎_elim, true≢false, arith, mul-le-mul_left, min, slice_get, is_some, IfSome}
 use Rattle.std.specs.Bool.{then_some}
 use Rattle.sedpass.proofs.Words.{option_or, cases_lt, cases_Bool, both_ways, slice_get_within, IsArena, expression_tree, tree_at, Tree, seen, Node, Starts, TakesAtLeast, LooksPast, byte_is_in, HasSpan, IsStart, SomeSpan, IsLongestFrom, Matches, SomeFound, Matches-forward, Matches-within, IsPlace, StateFlags, PlaceKind, Prepared, Way, Table, Passed, seen-arena, seen-length, least_less, least_since, least_both}
 use Rattle.sedpass.specs.Rows.{nodes_of, at_begin, at_edge, RowOfPlace}
 use Rattle.sedpass.specs.Table.{PassState, state_of, FlagsShow, StateAt, LeadsOn, BeginsIn, NamesState, IsTable, IsForwardOne, IsForwardAny, SameShape, code_of}
 use Rattle.sedpass.specs.Forwards.{starts_of, LastBelow, IsPassEnd, Arrives, EndsBelow, PassIs, is_over}
 use Rattle.sedpass.proofs.RowLemmas.{dead, row_root, row_empty}
-use Rattle.sedpass.proofs.TableLemmas.{names_state, names_flags, names_map}
+use Rattle.sedpass.proofs.TableLemmas.{names_state, names_flags, names_shown, names_map}
 
 -- The starts of a pass.
 
@@ -56,10 +56,6 @@ none_before p way w from k low some =
 over_why : (all_starts ends dead : Bool) → IsTrue (cond all_starts ends dead) → (IsTrue all_starts × IsTrue ends) ⊎ ((all_starts ≡ false) × IsTrue dead)
 over_why true ends dead h = inl (refl, h)
 over_why false ends dead h = inr (refl, h)
-
-neither : (a b : Bool) → (a || b) ≡ false → (a ≡ false) × (b ≡ false)
-neither false b h = (refl, h)
-neither true b h = absurd (true≢false h)
 
 not_over : (all_starts : Bool) (flags : StateFlags) → flags.ends ≡ false → flags.dead ≡ false → is_over all_starts flags ≡ false
 not_over true flags ends dead = ends
@@ -126,9 +122,10 @@ module _ (p : Prepared) (t : Table) (w : List ℕ) (start place code o : ℕ) (e
       }
 
   -- where the state shows nothing the pass goes on
-  pub arrive_plain : (flags.ends || flags.dead) ≡ false → PassIs p t w start (record { offset = o; place = place; end = end; over = false })
-  arrive_plain nothing =
-      let both = neither flags.ends flags.dead nothing in
+  pub arrive_plain : ((f : StateFlags) (u : ℕ) → u < 536870912 → code ≡ code_of f u → (f.ends ≡ false) × (f.dead ≡ false)) → PassIs p t w start (record { offset = o; place = place; end = end; over = false })
+  arrive_plain plain =
+      let given = names_shown p t table (Arrives p t.way w start place) code o n shows in
+      let both = subst (λ (f : StateFlags). (f.ends ≡ false) × (f.dead ≡ false)) (sym (given (λ f. flags ≡ f) shown)) (given (λ f. (f.ends ≡ false) × (f.dead ≡ false)) plain) in
       subst (λ b. PassIs p t w start (record { offset = o; place = place; end = end; over = b })) (not_over t.way.all_starts flags both.0 both.1) (arrive_at end (sym (ap (λ b. option_or (then_some b place) end) both.0)))
 
 -- Further on.

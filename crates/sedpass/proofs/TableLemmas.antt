@@ -404,10 +404,14 @@ module _ (p : Prepared) (t : Table) (table : IsTable p t) (P : PassState → Typ
   pub names_state : P (state_of (length p.arena.expr.nodes) t (o / 2 ^ t.layout.shift))
   names_state = subst (λ x. P (state_of (length p.arena.expr.nodes) t x)) (sym reverse_any) n.is
 
+  -- what is true of all flags that the code may show is true of those that it does
+  pub names_shown : (Q : StateFlags → Type 0) → ((flags : StateFlags) (u : ℕ) → u < 536870912 → v ≡ code_of flags u → Q flags) → Q n.flags
+  names_shown Q all = all n.flags (n.to * 2 ^ t.layout.shift) small_offset n.code
+
   -- what the code shows are the flags of its state
   pub names_flags : (shown : StateFlags) → ((flags : StateFlags) (u : ℕ) → u < 536870912 → v ≡ code_of flags u → shown ≡ flags) → FlagsShow (state_of (length p.arena.expr.nodes) t (o / 2 ^ t.layout.shift)) shown
   names_flags shown show = subst (λ x. FlagsShow (state_of (length p.arena.expr.nodes) t x) shown) (sym reverse_any)
-      (subst (FlagsShow (state_of (length p.arena.expr.nodes) t n.to)) (sym (show n.flags (n.to * 2 ^ t.layout.shift) small_offset n.code)) n.shown)
+      (subst (FlagsShow (state_of (length p.arena.expr.nodes) t n.to)) (sym (names_shown (λ f. shown ≡ f) show)) n.shown)
 
 -- what a cell holds
 module _ (p : Prepared) (t : Table) (table : IsTable p t) (offset byte k : ℕ) (edge : Bool) (at : IsOffset t offset) (column : IsColumn t.layout byte edge k) where

@@ -1,5 +1,5 @@
 //! How a table names its states by codes, and lays out their cells.
-ghost use Rattle.std.specs.Prelude.{◌≡◌, ℕ, ◌+◌, ◌*◌, ◌^◌, ◌<◌, ◌≤◌, min, max, length, slice_index_or, IfSome, vec_capacity};
+ghost use Rattle.std.specs.Prelude.{◌≡◌, ℕ, false, ◌+◌, ◌*◌, ◌^◌, ◌<◌, ◌≤◌, min, max, length, slice_index_or, IfSome, IsTrue, vec_capacity};
 ghost use Rattle.sedre.specs.Steps.{TakesExactly, Takes};
 ghost use Rattle.sedpass.specs.Table.{code_of, IsLayout, IsColumn};
 ghost use Rattle.sedpass.specs.declared.cells.StateFlags.{StateFlags};
@@ -29,7 +29,7 @@ pub struct Layout {
     pub classes: [u8; 256],
     /// How many classes of bytes have cells: one each, and behind these one each for bytes after which the text's edge comes. What a
     /// byte of another class leads to is found out anew each time.
-    pub columns: usize,
+    pub columns: u16,
     /// The cells of a state begin at its number times this power of two.
     pub shift: u32,
 }
@@ -60,6 +60,14 @@ pub fn flags_of(code: u32) -> StateFlags
         ends: code / (2 * PLACES) % 2 == 1,
         dead: code / (4 * PLACES) == 1,
     }
+}
+
+/// Whether no flag of the state with this code is set.
+#[inline(always)]
+pub fn is_plain(code: u32) -> bool
+    ensures { IsTrue result → (flags : StateFlags) (offset : ℕ) → offset < 536870912 → code ≡ code_of flags offset → (flags.ends ≡ false) × (flags.dead ≡ false) }
+{
+    code < 2 * PLACES
 }
 
 /// How many cells there is room for in each state of an expression of at most so many nodes.
@@ -97,7 +105,7 @@ impl Layout {
             .min(MOST_CELLS / 2);
         Layout {
             classes: prepared.classes.of,
-            columns,
+            columns: columns as u16,
             shift: shift_for(2 * columns),
         }
     }
@@ -119,14 +127,11 @@ impl Layout {
         ensures { IfSome result (IsColumn self.now byte edge) }
     {
         let class = self.classes[byte as usize] as usize;
-        if class >= self.columns {
+        let columns = self.columns as usize;
+        if class >= columns {
             return None;
         }
-        if edge {
-            self.columns.checked_add(class)
-        } else {
-            Some(class)
-        }
+        Some(if edge { columns + class } else { class })
     }
 }
 

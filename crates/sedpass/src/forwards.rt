@@ -9,7 +9,7 @@ ghost use Rattle.sedre.specs.Steps.{TakesAtLeast};
 ghost use Rattle.sedpass.specs.Table.{NamesState, IsOffset, IsTable, SameShape};
 ghost use Rattle.sedpass.specs.Forwards.{Arrives, EndsBelow, PassIs, is_over};
 
-use crate::cells::{StateFlags, flags_of, offset_of};
+use crate::cells::{StateFlags, flags_of, is_plain, offset_of};
 use crate::nodes::{Prepared, kind_of};
 use crate::rows::Work;
 use crate::table::Table;
@@ -59,8 +59,7 @@ impl Table {
     {
         let (offset, flags) = (offset_of(code), flags_of(code));
         // Most states show nothing, so this comes first.
-        let shows = flags.ends | flags.dead;
-        if !shows {
+        if is_plain(code) {
             return Passed {
                 offset,
                 place,

@@ -294,7 +294,7 @@ impl Table {
         empty_cells(
             &mut self.cells,
             offset,
-            2 * self.layout.columns,
+            2 * self.layout.columns as usize,
             size,
             steps,
         );
