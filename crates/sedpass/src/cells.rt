@@ -110,17 +110,6 @@ impl Layout {
         }
     }
 
-    /// That of a table that serves no expression yet: there are no cells.
-    pub fn none() -> Layout
-        ensures { result.shift ≡ 0 }
-    {
-        Layout {
-            classes: [0; 256],
-            columns: 0,
-            shift: 0,
-        }
-    }
-
     /// The column of a byte, if the cells of its class are kept. `edge` says whether the text's edge comes after the byte.
     #[inline(always)]
     pub fn column(&self, byte: u8, edge: bool) -> Option<usize>

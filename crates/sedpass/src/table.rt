@@ -161,7 +161,11 @@ impl Table {
             way,
             room,
             marks: nodes,
-            layout: Layout::none(),
+            layout: Layout {
+                classes: [0; 256],
+                columns: 0,
+                shift: 0,
+            },
             count: 0,
             epoch: 1,
             leaves,

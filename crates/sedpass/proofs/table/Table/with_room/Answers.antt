@@ -1,4 +1,4 @@
-use Rattle.std.proofs.Common.{◌≡◌, ◌*◌, ◌≤◌, length, refl, subst, arith, vec_capacity}
+use Rattle.std.proofs.Common.{◌≡◌, ◌*◌, ◌≤◌, length, refl, subst, arith, replicate, vec_capacity}
 use Rattle.sedpass.proofs.Words.{Table}
 use Rattle.sedpass.proofs.TableLemmas.{has_parts, none_noted}
 use Rattle.sedpass.proofs.table.Table.with_room.Goals as goal
@@ -10,7 +10,7 @@ returns c =
       way = c.args.way;
       room = c.args.room;
       marks = c.args.nodes;
-      layout = c.none.result;
+      layout = record { classes = replicate 256 0; columns = 0; shift = 0 };
       count = 0;
       epoch = 1;
       leaves = c.in_ok-leaves.leaves;
