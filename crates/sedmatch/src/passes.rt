@@ -180,6 +180,7 @@ fn matches_with(
         return false;
     };
     match &sought.begins {
+        // The first place alone is a start, and a pass from it can end early.
         Begins::AtStart => forward_one
             .run(prepared, text, start, work, steps)
             .end
