@@ -1,20 +1,20 @@
 -- Expressions whose matches a look at the text shows.
-use Rattle.std.proofs.Common.{◌≡◌, ℕ, ◌+◌, ◌-◌, ◌*◌, ◌≤◌, ◌↔◌, Bool, false, List, length, Option, Some, None, IsTrue, refl, sym, subst, true≢false, arith}
+use Rattle.std.proofs.Common.{◌≡◌, ℕ, ◌+◌, ◌-◌, ◌*◌, ◌≤◌, ◌↔◌, Bool, List, [], drop, length, length-drop, Option, Some, None, IsTrue, refl, sym, subst, true≢false, arith}
+use Rattle.std.proofs.lemmas.List.{nil_from_length}
 use Rattle.std.specs.Prelude.{IfSome, is_some}
 use Rattle.sedre.specs.Tree.{Tree, WrittenExpression, expression_tree}
-use Rattle.sedre.specs.declared.types.Node.{Node}
 use Rattle.sedre.specs.Steps.{Takes, TakesAtLeast}
 use Rattle.sedtext.specs.Answer.{SpanAnswer}
 use Rattle.sedtext.specs.Bytes.{AreBytes}
 use Rattle.sedtext.specs.Costs.{CostsWithin}
 use Rattle.sedtext.specs.Following.{CanEndEarly, LooksPast}
-use Rattle.sedtext.specs.Required.{IsLiteral, GoesOnAs, FirstLiteral}
-use Rattle.sedtext.specs.Reach.{HasSpan}
+use Rattle.sedtext.specs.Links.{ChainLeads}
+use Rattle.sedtext.specs.Required.{IsLiteral, FirstLiteral}
 use Rattle.sedtext.specs.Runs.{SetRepeats}
 use Rattle.sedtext.specs.Spans.{SomeFound}
 use Rattle.sedtext.specs.FixedRuns.{FirstFixedRun}
-use Rattle.sedtext.specs.declared.required.Literal.{Literal as Bytes}
-use Rattle.sedmatch.specs.Direct.{LiteralSpans, AllLiteral, FirstSpan, FormSpans, IsDirect, SpannedAs, bytes_looked_at}
+use Rattle.sedtext.specs.declared.links.Link.{Link}
+use Rattle.sedmatch.specs.Direct.{AllLiteral, FirstSpan, FormSpans, IsDirect, SpannedAs, bytes_looked_at}
 use Rattle.sedmatch.specs.Stretches.{IsAnchored, bytes_sought, end_or, width}
 use Rattle.sedmatch.specs.declared.direct.DirectForm.{DirectForm}
 use Rattle.sedmatch.specs.declared.direct.DirectForm.TheVariants.{Stretch, Anchored, FixedRun, Literal}
@@ -23,18 +23,6 @@ use Rattle.sedmatch.specs.declared.stretches.Anchoring.TheVariants.{AtEnd}
 use Rattle.sedtext.proofs.CountLemmas.{least_less}
 use Rattle.sedtext.proofs.SpanLemmas.{Matches-forward}
 use Rattle.sedmatch.proofs.StretchLemmas.{follow_on}
-
--- a literal after which nothing is left
-pub none_of : (r : Option ℕ) → is_some r ≡ false → r ≡ None
-none_of None missing = refl
-none_of (Some t) missing = absurd (true≢false missing)
-
-pub all_literal : (nodes : List Node) (x last : ℕ) (l : Bytes) (literal : List ℕ) → last ≡ x → literal ≡ l.bytes.items → IsLiteral nodes x l → l.rest ≡ None → AllLiteral nodes last literal
-all_literal nodes x last l literal whole same is none w i j within =
-    subst (λ v. HasSpan nodes w last i j ↔ LiteralSpans v w i j) (sym same) (subst (λ v. HasSpan nodes w v i j ↔ LiteralSpans l.bytes.items w i j) (sym whole) (
-      (λ at. let h = (is w i j within).0 at in (h.0, sym (subst (GoesOnAs nodes w (i + length l.bytes.items) j) none h.1))),
-      (λ h. (is w i j within).1 (h.0, subst (GoesOnAs nodes w (i + length l.bytes.items) j) (sym none) (sym h.1))),
-    ))
 
 -- where one of the longest begins and ends
 pub span_times : (members : List Bool) (count : ℕ) (w : List ℕ) (p i j : ℕ) → FirstFixedRun members count w p (Some i) → j ≡ i + count → FirstSpan (FixedRun members count) w p (Some (i, j))

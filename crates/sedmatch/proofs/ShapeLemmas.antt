@@ -1,33 +1,73 @@
--- What comes before the end of the text, and after its beginning.
-use Rattle.std.proofs.Common.{◌≡◌, ℕ, ◌↔◌, List, Option, Some, None, sym, subst, ◌∙◌}
+-- Stems, and one link more before them.
+use Rattle.std.proofs.Common.{◌≡◌, ℕ, ◌+◌, ◌≤◌, ◌⊎◌, ◌↔◌, Bool, false, true≢false, List, [], ◌∷◌, drop, drop-cons, length, suc, Option, Some, None, refl, sym, ap, ◌∙◌, subst, inl, inr, ⊎_elim, arith}
+use Rattle.std.specs.Prelude.{IfSome, slice_index_or}
+use Rattle.std.proofs.lemmas.Option.{IfSome_then}
+use Rattle.sedre.specs.Tree.{Tree}
 use Rattle.sedre.specs.declared.types.Node.{Node}
-use Rattle.sedtext.specs.Forms.{HasForm}
+use Rattle.sedtext.specs.Bytes.{AreBytes}
+use Rattle.sedtext.specs.Links.{ChainLeads, FollowedBy, IsChain, LinkLeads}
 use Rattle.sedtext.specs.Reach.{HasSpan}
-use Rattle.sedtext.specs.declared.forms.Form.TheVariants.{Start, End, Both}
-use Rattle.sedmatch.specs.Shapes.{IsStem, StemLeads}
-use Rattle.sedmatch.specs.Stretches.{IsAnchored}
+use Rattle.sedtext.specs.Runs.{SetRepeats}
+use Rattle.sedtext.specs.declared.links.Link.{Link}
+use Rattle.sedtext.specs.declared.links.Link.TheVariants.{Either, Run}
+use Rattle.sedmatch.specs.Direct.{FormSpans, SpannedAs}
+use Rattle.sedmatch.specs.Shapes.{ByteLeads, StemLeads}
+use Rattle.sedmatch.specs.Stretches.{Follow}
+use Rattle.sedmatch.specs.declared.direct.DirectForm.{DirectForm}
 use Rattle.sedmatch.specs.declared.shapes.Stem.{Stem}
-use Rattle.sedmatch.specs.declared.stretches.Anchoring.{Anchoring}
-use Rattle.sedmatch.specs.declared.stretches.Anchoring.TheVariants.{AtEnd}
 
-module _ (nodes : List Node) (x y z : ℕ) (both : HasForm nodes x (Both y z)) (stem : Stem) where
-  pub stem_before_end : HasForm nodes z End → IsStem nodes y stem None → IsStem nodes x stem (Some AtEnd)
-  stem_before_end ends is w i j = (
-    (λ at.
-        let f = (both.2 w i j).0 at in
-        let e = (ends w f.0 j).0 f.2 in
-        (subst (StemLeads stem w i) (e.0 ∙ sym e.1) ((is w i f.0).0 f.1).0, e.1)),
-    (λ s. (both.2 w i j).1 (j, (is w i j).1 (s.0, tt), (ends w j j).1 (s.1, s.1))),
-  )
+-- the stem is the link, and the one behind it
+abbrev IsWith : Link → Stem → Stem → Type 0
+IsWith link behind stem = (nodes : List Node) (w : List ℕ) (i j : ℕ) → StemLeads stem w i j ↔ ((k : ℕ) × LinkLeads nodes w link i k × StemLeads behind w k j)
 
-  pub stem_after_start : (anchoring : Option Anchoring) (to : Anchoring) → HasForm nodes y Start → IsStem nodes z stem anchoring → ((w : List ℕ) (i j : ℕ) → IsAnchored (Some to) w i j ↔ ((i ≡ 0) × IsAnchored anchoring w i j)) → IsStem nodes x stem (Some to)
-  stem_after_start anchoring to starts is stands w i j = (
-    (λ at.
-        let f = (both.2 w i j).0 at in
-        let b = (starts w i f.0).0 f.1 in
-        let s = (is w i j).0 (subst (λ k. HasSpan nodes w z k j) (b.1 ∙ sym b.0) f.2) in
-        (s.0, (stands w i j).1 (b.0, s.1))),
-    (λ s.
-        let b = (stands w i j).0 s.1 in
-        (both.2 w i j).1 (i, (starts w i i).1 (b.0, b.0), (is w i j).1 (s.0, b.1))),
-  )
+-- a run before the end of the text, or before nothing
+pub with_run : (link : Link) (behind : Stem) (s : List Bool) → link ≡ Run s → behind.at_start ≡ false → behind.first ≡ None → behind.rest ≡ None →
+    IsWith link behind (record { at_start = behind.at_start; first = behind.first; rest = Some s; at_end = behind.at_end })
+with_run link behind s is anywhere first rest nodes w i j = (
+  λ h.
+      let from = subst (λ v. ByteLeads v w i h.0.0) first h.0.1 in (
+        j,
+        subst (λ v. LinkLeads nodes w v i j) (sym is) (subst (λ k. SetRepeats s w k j) from h.0.2),
+        ((j, subst (λ v. ByteLeads v w j j) (sym first) refl, subst (λ v. Follow v w j j) (sym rest) refl), ((λ t. absurd (true≢false (sym t ∙ anywhere))), h.1.1)),
+      ),
+  λ f.
+      let from = subst (λ v. ByteLeads v w f.0 f.2.0.0) first f.2.0.1 in
+      let to = subst (λ v. Follow v w f.2.0.0 j) rest f.2.0.2 in
+      let run = subst (λ v. LinkLeads nodes w v i f.0) is f.1 in
+      ((i, subst (λ v. ByteLeads v w i i) (sym first) refl, subst (SetRepeats s w i) (sym (to ∙ from)) run), ((λ t. absurd (true≢false (sym t ∙ anywhere))), f.2.1.1)),
+)
+
+-- a chain and the link before it
+pub one_link_more : (links : List Link) (x : ℕ) (link : Link) (behind stem : Stem) → x + 1 ≤ length links → link ≡ slice_index_or links x link → IsWith link behind stem →
+    ((nodes : List Node) (w : List ℕ) (i j : ℕ) → ChainLeads nodes w (drop (suc x) links) i j ↔ StemLeads behind w i j) →
+    (nodes : List Node) (w : List ℕ) (i j : ℕ) → ChainLeads nodes w (drop x links) i j ↔ StemLeads stem w i j
+one_link_more links x link behind stem inside here is rest nodes w i j =
+    let opened : drop x links ≡ link ∷ drop (suc x) links = drop-cons links x link (omega arith) ∙ ap (λ v. v ∷ drop (suc x) links) (sym here) in (
+      λ at. let f = subst (λ v. ChainLeads nodes w v i j) opened at in (is nodes w i j).1 (f.0, f.1, (rest nodes w f.0 j).0 f.2),
+      λ s. let f = (is nodes w i j).0 s in subst (λ v. ChainLeads nodes w v i j) (sym opened) (f.0, f.1, (rest nodes w f.0 j).1 f.2),
+    )
+
+-- two alternatives whose chains lead as the form does
+abbrev LeadAs : List Link → List Link → DirectForm → Type 0
+LeadAs left right form = (nodes : List Node) (w : List ℕ) → AreBytes w → (i j : ℕ) → i ≤ length w → (ChainLeads nodes w left i j ⊎ ChainLeads nodes w right i j) ↔ FormSpans form w i j
+
+pub either_spanned : (nodes : List Node) (e : Tree) (links left right : List Link) (x y : ℕ) (form : Option DirectForm) → IsChain nodes e links → links ≡ Either x y ∷ [] →
+    FollowedBy nodes [] x left → FollowedBy nodes [] y right → IfSome form (LeadAs left right) → IfSome form (SpannedAs e)
+either_spanned nodes e links left right x y form chain is first second lead =
+    IfSome_then form lead (λ f leads w bytes i j within. (
+      λ at.
+          let h = subst (λ v. ChainLeads nodes w v i j) is ((chain w i j).0 at) in
+          let here = subst (LinkLeads nodes w (Either x y) i) h.2 h.1 in
+          (leads nodes w bytes i j within).0 (⊎_elim (λ l. inl ((first w i j).0 (i, refl, l))) (λ r. inr ((second w i j).0 (i, refl, r))) here),
+      λ at.
+          (chain w i j).1 (subst (λ v. ChainLeads nodes w v i j) (sym is) (
+            j,
+            (
+                ⊎_elim
+                (λ l. let f = (first w i j).1 l in inl (subst (λ k. HasSpan nodes w x k j) (sym f.1) f.2))
+                (λ r. let f = (second w i j).1 r in inr (subst (λ k. HasSpan nodes w y k j) (sym f.1) f.2))
+                ((leads nodes w bytes i j within).1 at)
+                ),
+            refl,
+          )),
+    ))

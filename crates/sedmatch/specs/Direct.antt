@@ -6,8 +6,9 @@ use Rattle.sedre.specs.declared.types.Node.{Node}
 use Rattle.sedre.specs.Tree.{WrittenExpression, expression_tree, Tree}
 use Rattle.sedtext.specs.Bytes.{AreBytes}
 use Rattle.sedtext.specs.Spans.{Matches}
-use Rattle.sedtext.specs.Reach.{HasSpan}
+use Rattle.sedtext.specs.Links.{ChainLeads}
 use Rattle.sedtext.specs.FixedRuns.{IsFixedRun}
+use Rattle.sedtext.specs.declared.links.Link.{Link}
 use Rattle.sedmatch.specs.Stretches.{FirstOf, StretchSpans, bytes_sought}
 use Rattle.sedmatch.specs.declared.direct.DirectForm.{DirectForm}
 use Rattle.sedmatch.specs.declared.direct.DirectForm.TheVariants.{Stretch, Anchored, FixedRun, Literal}
@@ -16,9 +17,9 @@ use Rattle.sedmatch.specs.declared.direct.DirectForm.TheVariants.{Stretch, Ancho
 abbrev pub LiteralSpans : List ℕ → List ℕ → ℕ → ℕ → Type 0
 LiteralSpans literal w i j = OccursAt w literal i × (j ≡ i + length literal)
 
--- the spans of the node x are those of the literal
-abbrev pub AllLiteral : List Node → ℕ → List ℕ → Type 0
-AllLiteral nodes x literal = (w : List ℕ) (i j : ℕ) → i ≤ length w → HasSpan nodes w x i j ↔ LiteralSpans literal w i j
+-- the chain leads over the literal, and over nothing else
+abbrev pub AllLiteral : List Link → List ℕ → Type 0
+AllLiteral links literal = (nodes : List Node) (w : List ℕ) (i j : ℕ) → i ≤ length w → ChainLeads nodes w links i j ↔ LiteralSpans literal w i j
 
 -- what matches from i to j
 abbrev pub FormSpans : DirectForm → List ℕ → ℕ → ℕ → Type 0

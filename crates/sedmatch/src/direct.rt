@@ -7,12 +7,14 @@
 #![tactic(auto, unfolding(sedre::specs::Steps::TakesAtLeast, sedre::specs::Steps::TakesExactly))]
 
 ghost use Rattle.std.specs.Prelude.{◌+◌, ◌-◌, ◌*◌, ◌≤◌, length, IfOk, IfSome};
+ghost use Rattle.std.specs.List.{All};
 ghost use Rattle.sedre.specs.Arena.{IsExpr};
 ghost use Rattle.sedre.specs.Tree.{WrittenExpression, expression_tree};
 ghost use Rattle.sedre.specs.Steps.{Takes, TakesAtLeast};
 ghost use Rattle.sedtext.specs.Answer.{SpanAnswer};
 ghost use Rattle.sedtext.specs.Costs.{CostsWithin};
 ghost use Rattle.sedtext.specs.Following.{CanEndEarly};
+ghost use Rattle.sedtext.specs.Links.{IsChain, IsWithin};
 ghost use Rattle.sedmatch.specs.Candidates.{NoMatchBefore};
 ghost use Rattle.sedmatch.specs.Direct.{AllLiteral, FirstSpan, IsDirect, bytes_looked_at};
 ghost use Rattle.sedmatch.specs.Passes.{AnswersMatch};
@@ -27,7 +29,8 @@ use sedre::{ByteSet, Expr, Steps};
 use sedtext::counted::lookups::find_literal;
 use sedtext::counted::{Text, are_bytes};
 use sedtext::fixed_runs::{find_fixed_run, fixed_run_of};
-use sedtext::required::{Literal, literal_from};
+use sedtext::links::Link;
+use sedtext::required::literal_at;
 use std::alloc::{AllocError, Global};
 
 /// The form of the matches of an expression.
@@ -43,18 +46,12 @@ pub enum DirectForm {
     Literal(Finder<'static>),
 }
 
-/// The literal that every match is, where it has two bytes or more. A single byte is sought faster as one.
-fn literal_of(
-    alloc: Global,
-    expr: &Expr,
-    steps: &mut Steps,
-) -> Result<Option<Finder<'static>>, AllocError>
-    ensures literal { IfOk result (λ r. IfSome r (λ w. AllLiteral expr.now.nodes (length expr.now.nodes - 1) w)) }
-    ensures cost { Takes steps.old steps.new 196611 }
+/// The literal that the chain is, where it has two bytes or more. A single byte is sought faster as one.
+fn literal_of(alloc: Global, chain: &[Link]) -> Result<Option<Finder<'static>>, AllocError>
+    ensures literal { IfOk result (λ r. IfSome r (AllLiteral chain.now)) }
 {
-    let root = expr.root().index();
-    let Literal { bytes, rest } = literal_from(alloc, expr, root, steps)?;
-    if rest.is_some() || bytes.len() < 2 {
+    let bytes = literal_at(alloc, chain, 0)?;
+    if bytes.len() < 2 || bytes.len() < chain.len() {
         return Ok(None);
     }
     Ok(Some(Finder::new(&bytes).into_owned(alloc)?))
@@ -69,26 +66,28 @@ pub(crate) fn is_expression(expr: &Expr)
     let (_groups, _nodes) = (expr.groups(), expr.nodes());
 }
 
-/// The direct form of the expression, if it has one. It fails only where a request for memory was refused.
+/// The direct form of the expression whose chain this is, if it has one. It fails only where a request for memory was refused.
 pub fn direct_form_of(
     alloc: Global,
     expr: &Expr,
+    chain: &[Link],
     steps: &mut Steps,
 ) -> Result<Option<DirectForm>, AllocError>
+    requires chain { IsChain expr.now.nodes (expression_tree expr.now) chain.now }
+    requires within { All (IsWithin (length expr.now.nodes)) chain.now }
     ensures form { IfOk result (λ r. IfSome r (IsDirect expr.now)) }
-    ensures cost { Takes steps.old steps.new 262172 }
 {
     is_expression(expr);
     if expr.groups() > 0 {
         return Ok(None);
     }
-    if let Some(form) = stretch_of(expr, steps) {
+    if let Some(form) = stretch_of(alloc, expr, chain, steps)? {
         return Ok(Some(form));
     }
-    if let Some(finder) = literal_of(alloc, expr, steps)? {
+    if let Some(finder) = literal_of(alloc, chain)? {
         return Ok(Some(DirectForm::Literal(finder)));
     }
-    match fixed_run_of(alloc, expr, steps)? {
+    match fixed_run_of(chain) {
         Some((set, count)) => Ok(Some(DirectForm::FixedRun(set, count))),
         None => Ok(None),
     }

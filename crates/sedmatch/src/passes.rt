@@ -1,10 +1,12 @@
 //! An expression that is searched by passes: what is found out of it once, its tables, and what they show of a text.
 ghost use Rattle.std.specs.Prelude.{◌≡◌, ℕ, List, ◌+◌, ◌-◌, ◌*◌, ◌/◌, ◌<◌, ◌≤◌, ◌↔◌, [], length, vec_capacity, IfOk, IfSome, IsTrue};
+ghost use Rattle.std.specs.List.{All};
 ghost use Rattle.sedre.specs.Arena.{IsExpr};
 ghost use Rattle.sedre.specs.Tree.{Tree, WrittenExpression, expression_tree};
 ghost use Rattle.sedre.specs.Steps.{Takes, TakesAtLeast};
 ghost use Rattle.sedtext.specs.Beginnings.{AllBegin};
 ghost use Rattle.sedtext.specs.Following.{LooksPast};
+ghost use Rattle.sedtext.specs.Links.{IsChain, IsWithin};
 ghost use Rattle.sedtext.specs.Required.{IsRequired};
 ghost use Rattle.sedpass.specs.Table.{IsForwardOne, IsForwardAny, SameShape};
 ghost use Rattle.sedtext.specs.Spans.{SomeFound, Matches};
@@ -25,6 +27,7 @@ use sedre::{Expr, Steps};
 use sedtext::beginnings::{Begins, how_begins, next_start};
 use sedtext::counted::Text;
 use sedtext::counted::lookups::{find_literal, sift};
+use sedtext::links::Link;
 use sedtext::required::{RequiredLiteral, find_required, skip_to_literal};
 use std::alloc::{AllocError, Global};
 
@@ -93,11 +96,7 @@ fn own_tables(
     }
     let nodes = prepared.nodes();
     let mut forward_any = Table::with_room(alloc, FORWARD_ANY, states, nodes)?;
-    // What was made is let go of by a call: in place it is proved field by field.
-    let Ok(mut groups) = GroupTables::with_room(alloc, states, nodes) else {
-        drop(forward_any);
-        return Err(AllocError);
-    };
+    let mut groups = GroupTables::with_room(alloc, states, nodes)?;
     forward_any.fit(prepared);
     groups.fit(prepared);
     Ok(Some(OwnTables {
@@ -106,17 +105,20 @@ fn own_tables(
     }))
 }
 
-/// An expression that is searched by passes, with its own tables if there is room for them.
+/// An expression that is searched by passes, whose chain this is, with its own tables if there is room for them.
 pub fn new_passes(
     alloc: Global,
     expr: &Expr,
+    chain: &[Link],
     room: TableRoom,
     steps: &mut Steps,
 ) -> Result<Passes, AllocError>
+    requires chain { IsChain expr.now.nodes (expression_tree expr.now) chain.now }
+    requires within { All (IsWithin (length expr.now.nodes)) chain.now }
     ensures { IfOk result (ArePasses expr.now) }
 {
-    let begins = how_begins(expr, steps);
-    let required = find_required(alloc, expr, steps)?;
+    let begins = how_begins(alloc, expr, chain, steps)?;
+    let required = find_required(alloc, chain)?;
     let prepared = Prepared::new(alloc, expr, steps)?;
     let own = own_tables(alloc, &prepared, room)?;
     let sought = Sought {

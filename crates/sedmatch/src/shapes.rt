@@ -1,141 +1,92 @@
 //! Which expressions are a stretch: a byte, a run of bytes, or both, anywhere or at the ends of the text.
-ghost use Rattle.std.specs.Prelude.{◌≡◌, ℕ, ◌-◌, ◌<◌, ◌↔◌, List, length, IfSome, IsTrue, Some, None};
-ghost use Rattle.sedre.specs.Steps.{Takes};
+ghost use Rattle.std.specs.Prelude.{◌≡◌, ℕ, List, [], ◌∷◌, ◌≤◌, ◌↔◌, ◌⊎◌, length, IfOk, IfSome, IsTrue};
+ghost use Rattle.std.specs.List.{All};
 ghost use Rattle.sedre.specs.Tree.{expression_tree};
-ghost use Rattle.sedmatch.specs.Direct.{SpannedAs};
-ghost use Rattle.sedmatch.specs.Shapes.{IsFirst, IsLastRun, IsStem};
+ghost use Rattle.sedre.specs.declared.types.Node.{Node};
+ghost use Rattle.sedtext.specs.Links.{ChainLeads, IsChain, IsWithin, LinkLeads};
+ghost use Rattle.sedtext.specs.Bytes.{AreBytes};
+ghost use Rattle.sedtext.specs.declared.links.Link.TheVariants.{Either};
+ghost use Rattle.sedmatch.specs.Direct.{FormSpans, SpannedAs};
+ghost use Rattle.sedmatch.specs.Shapes.{AreEither, IsFirst, IsPlaced, StemBytes, StemLeads};
 ghost use Rattle.sedmatch.specs.Stretches.{IsAnchored};
-ghost use Rattle.sedmatch.specs.declared.stretches.Anchoring.TheVariants.{AtEnd, AtStart};
 
 use crate::direct::DirectForm;
 use crate::stretches::{Anchoring, First, Stretch};
 use sedre::{ByteSet, Expr, Steps};
 use sedtext::counted::few::members_of;
-use sedtext::forms::{Form, form_of, set_of};
-use sedtext::repeats::star_set;
+use sedtext::links::{Link, links_after};
+use std::alloc::{AllocError, Global};
 
 /// A byte of the one set, if there is one, and bytes of the other, any number of them, if there is one.
 #[derive(Clone, Copy)]
 pub struct Stem {
+    /// Whether it is at the beginning of the text.
+    pub at_start: bool,
     /// The set of the byte.
     pub first: Option<ByteSet>,
     /// The set of those that follow.
     pub rest: Option<ByteSet>,
+    /// Whether it is at the end of the text.
+    pub at_end: bool,
 }
 
-/// No byte at all.
+/// No byte at all, anywhere.
 const NO_BYTE: Stem = Stem {
+    at_start: false,
     first: None,
     rest: None,
+    at_end: false,
 };
 
-/// The stem whose spans those of the node are.
-fn stem_of(expr: &Expr, index: usize, steps: &mut Steps) -> Option<Stem>
-    requires inside { index < length expr.now.nodes }
-    ensures stem { IfSome result (λ s. IsStem expr.now.nodes index s None) }
-    ensures cost { Takes steps.old steps.new 5 }
+/// The stem that the link and the one behind it are together, if they are one.
+fn stem_with(link: &Link, behind: Stem) -> Option<Stem>
+    ensures { IfSome result (λ s. (nodes : List Node) (w : List ℕ) (i j : ℕ) →
+        StemLeads s w i j ↔ ((k : ℕ) × LinkLeads nodes w link.now i k × StemLeads behind w k j)) }
 {
-    match form_of(expr, index, steps) {
-        Form::Byte(set) => Some(Stem {
-            first: Some(set),
-            rest: None,
+    let Stem {
+        at_start,
+        first,
+        rest,
+        at_end,
+    } = behind;
+    match (link, at_start, first, rest, at_end) {
+        (Link::Start, _, _, _, _) => Some(Stem {
+            at_start: true,
+            first,
+            rest,
+            at_end,
         }),
-        Form::Both(byte, copies) => {
-            let set = set_of(expr, byte, steps)?;
-            let members = star_set(expr, copies, steps)?;
-            Some(Stem {
-                first: Some(set),
-                rest: Some(members),
-            })
-        }
-        _ => {
-            let members = star_set(expr, index, steps)?;
-            Some(Stem {
-                first: None,
-                rest: Some(members),
-            })
-        }
-    }
-}
-
-/// The set of which the node is a run before the end of the text, if it is one.
-fn last_run(expr: &Expr, index: usize, steps: &mut Steps) -> Option<ByteSet>
-    requires inside { index < length expr.now.nodes }
-    ensures run { IfSome result (λ s. IsLastRun expr.now.nodes index s) }
-    ensures cost { Takes steps.old steps.new 5 }
-{
-    let Form::Both(copies, end) = form_of(expr, index, steps) else {
-        return None;
-    };
-    let Form::End = form_of(expr, end, steps) else {
-        return None;
-    };
-    star_set(expr, copies, steps)
-}
-
-/// The stem before the end of the text whose spans those of the node are.
-fn stem_before_end(expr: &Expr, index: usize, steps: &mut Steps) -> Option<Stem>
-    requires inside { index < length expr.now.nodes }
-    ensures stem { IfSome result (λ s. IsStem expr.now.nodes index s (Some AtEnd)) }
-    ensures cost { Takes steps.old steps.new 8 }
-{
-    match form_of(expr, index, steps) {
-        Form::End => Some(NO_BYTE),
-        Form::Both(first, last) => match form_of(expr, last, steps) {
-            Form::End => stem_of(expr, first, steps),
-            _ => {
-                let set = set_of(expr, first, steps)?;
-                let members = last_run(expr, last, steps)?;
-                Some(Stem {
-                    first: Some(set),
-                    rest: Some(members),
-                })
-            }
-        },
+        (Link::Byte(set), false, None, _, _) => Some(Stem {
+            at_start,
+            first: Some(*set),
+            rest,
+            at_end,
+        }),
+        (Link::Run(set), false, None, None, _) => Some(Stem {
+            at_start,
+            first,
+            rest: Some(*set),
+            at_end,
+        }),
+        (Link::End, false, None, None, false) => Some(Stem {
+            at_start,
+            first,
+            rest,
+            at_end: true,
+        }),
         _ => None,
     }
 }
 
-/// The stem whose spans those of the node are, before the end of the text or anywhere.
-fn stem_anchored(expr: &Expr, index: usize, steps: &mut Steps) -> Option<(Stem, Option<Anchoring>)>
-    requires inside { index < length expr.now.nodes }
-    ensures stem { IfSome result (λ s. IsStem expr.now.nodes index s.0 s.1) }
-    ensures cost { Takes steps.old steps.new 13 }
+/// The stem that the chain is, if it is one.
+fn stem_of(chain: &[Link]) -> Option<Stem>
+    ensures { IfSome result (λ s. (nodes : List Node) (w : List ℕ) (i j : ℕ) → ChainLeads nodes w chain.now i j ↔ StemLeads s w i j) }
 {
-    if let Some(stem) = stem_before_end(expr, index, steps) {
-        return Some((stem, Some(Anchoring::AtEnd)));
+    let mut stem = NO_BYTE;
+    for x in (0..chain.len()).rev() {
+        stem = stem_with(&chain[x], stem)?;
     }
-    let stem = stem_of(expr, index, steps)?;
-    Some((stem, None))
-}
-
-/// The same at the beginning of the text.
-fn at_start(anchoring: Option<Anchoring>) -> Anchoring
-    ensures { (w : List ℕ) (i j : ℕ) → IsAnchored (Some result) w i j ↔ ((i ≡ 0) × IsAnchored anchoring w i j) }
-{
-    match anchoring {
-        None | Some(Anchoring::AtStart | Anchoring::AtEitherEnd) => Anchoring::AtStart,
-        Some(Anchoring::AtEnd | Anchoring::Whole) => Anchoring::Whole,
-    }
-}
-
-/// The stem whose spans those of the node are, and where it is.
-fn one_stem(expr: &Expr, index: usize, steps: &mut Steps) -> Option<(Stem, Option<Anchoring>)>
-    requires inside { index < length expr.now.nodes }
-    ensures stem { IfSome result (λ s. IsStem expr.now.nodes index s.0 s.1) }
-    ensures cost { Takes steps.old steps.new 15 }
-{
-    match form_of(expr, index, steps) {
-        Form::Start => Some((NO_BYTE, Some(Anchoring::AtStart))),
-        Form::Both(start, rest) => match form_of(expr, start, steps) {
-            Form::Start => {
-                let (stem, anchoring) = stem_anchored(expr, rest, steps)?;
-                Some((stem, Some(at_start(anchoring))))
-            }
-            _ => stem_anchored(expr, index, steps),
-        },
-        _ => stem_anchored(expr, index, steps),
-    }
+    Some(stem)
 }
 
 /// Whether the sets are the same.
@@ -149,20 +100,13 @@ fn same_set(set: &Option<ByteSet>, other: &Option<ByteSet>) -> bool
     }
 }
 
-/// The stem of two alternatives that are the same one, at the beginning of the text and at its end.
-fn either_stem(expr: &Expr, left: usize, right: usize, steps: &mut Steps) -> Option<Stem>
-    requires left { left < length expr.now.nodes }
-    requires right { right < length expr.now.nodes }
-    ensures left { IfSome result (λ s. IsStem expr.now.nodes left s (Some AtStart)) }
-    ensures right { IfSome result (λ s. IsStem expr.now.nodes right s (Some AtEnd)) }
-    ensures cost { Takes steps.old steps.new 23 }
+/// The stem of two that are the same one, at the beginning of the text and at its end.
+fn either_stem(left: Stem, right: Stem) -> Option<Stem>
+    ensures { IfSome result (AreEither left right) }
 {
-    let (stem, Some(Anchoring::AtStart)) = one_stem(expr, left, steps)? else {
-        return None;
-    };
-    let other = stem_before_end(expr, right, steps)?;
-    if same_set(&stem.first, &other.first) && same_set(&stem.rest, &other.rest) {
-        Some(stem)
+    let placed = left.at_start && !left.at_end && !right.at_start && right.at_end;
+    if placed && same_set(&left.first, &right.first) && same_set(&left.rest, &right.rest) {
+        Some(left)
     } else {
         None
     }
@@ -181,33 +125,69 @@ fn first_of(set: &Option<ByteSet>) -> First
     }
 }
 
-/// The stem whose spans those of the expression are, and where it is.
-fn whole_stem(expr: &Expr, steps: &mut Steps) -> Option<(Stem, Option<Anchoring>)>
-    ensures stem { IfSome result (λ s. IsStem expr.now.nodes (length expr.now.nodes - 1) s.0 s.1) }
-    ensures cost { Takes steps.old steps.new 24 }
+/// The form of the stem's matches, where they are anchored so.
+fn form_of(stem: &Stem, anchoring: Option<Anchoring>) -> DirectForm
+    ensures { (w : List ℕ) → AreBytes w → (i j : ℕ) → i ≤ length w → FormSpans result w i j ↔ (StemBytes stem.now w i j × IsAnchored anchoring w i j) }
 {
-    let root = expr.root().index();
-    match form_of(expr, root, steps) {
-        Form::Either(left, right) => {
-            let stem = either_stem(expr, left, right, steps)?;
-            Some((stem, Some(Anchoring::AtEitherEnd)))
-        }
-        _ => one_stem(expr, root, steps),
-    }
-}
-
-/// The form of the expression, if its matches are a stretch.
-pub fn stretch_of(expr: &Expr, steps: &mut Steps) -> Option<DirectForm>
-    ensures spans { IfSome result (SpannedAs (expression_tree expr.now)) }
-    ensures cost { Takes steps.old steps.new 24 }
-{
-    let (stem, anchoring) = whole_stem(expr, steps)?;
     let stretch = Stretch {
         first: first_of(&stem.first),
         rest: stem.rest,
     };
     match anchoring {
-        None => Some(DirectForm::Stretch(stretch)),
-        Some(ends) => Some(DirectForm::Anchored(stretch, ends)),
+        None => DirectForm::Stretch(stretch),
+        Some(ends) => DirectForm::Anchored(stretch, ends),
     }
+}
+
+/// Where the stem is.
+fn anchoring_of(stem: &Stem) -> Option<Anchoring>
+    ensures { (w : List ℕ) (i j : ℕ) → IsAnchored result w i j ↔ IsPlaced stem.now w i j }
+{
+    match (stem.at_start, stem.at_end) {
+        (false, false) => None,
+        (true, false) => Some(Anchoring::AtStart),
+        (false, true) => Some(Anchoring::AtEnd),
+        (true, true) => Some(Anchoring::Whole),
+    }
+}
+
+/// The form of two alternatives that are the same stem, at the beginning of the text and at its end.
+fn form_at_ends(left: &[Link], right: &[Link]) -> Option<DirectForm>
+    ensures { IfSome result (λ f. (nodes : List Node) (w : List ℕ) → AreBytes w → (i j : ℕ) → i ≤ length w →
+        (ChainLeads nodes w left.now i j ⊎ ChainLeads nodes w right.now i j) ↔ FormSpans f w i j) }
+{
+    let stem = either_stem(stem_of(left)?, stem_of(right)?)?;
+    Some(form_of(&stem, Some(Anchoring::AtEitherEnd)))
+}
+
+/// The alternatives that the chain is, if it is nothing else.
+fn alternatives_of(chain: &[Link]) -> Option<(usize, usize)>
+    ensures { IfSome result (λ p. chain.now ≡ Either p.0 p.1 ∷ []) }
+{
+    match chain.first() {
+        Some(Link::Either(left, right)) if chain.len() == 1 => Some((*left, *right)),
+        _ => None,
+    }
+}
+
+/// The form of the expression whose chain this is, if its matches are a stretch. It fails only where a request for memory was refused.
+pub fn stretch_of(
+    alloc: Global,
+    expr: &Expr,
+    chain: &[Link],
+    steps: &mut Steps,
+) -> Result<Option<DirectForm>, AllocError>
+    requires chain { IsChain expr.now.nodes (expression_tree expr.now) chain.now }
+    requires within { All (IsWithin (length expr.now.nodes)) chain.now }
+    ensures spans { IfOk result (λ r. IfSome r (SpannedAs (expression_tree expr.now))) }
+{
+    if let Some(stem) = stem_of(chain) {
+        return Ok(Some(form_of(&stem, anchoring_of(&stem))));
+    }
+    let Some((left, right)) = alternatives_of(chain) else {
+        return Ok(None);
+    };
+    let left = links_after(alloc, &[], expr, left, steps)?;
+    let right = links_after(alloc, &[], expr, right, steps)?;
+    Ok(form_at_ends(&left, &right))
 }

@@ -28,6 +28,7 @@ use crate::table_room::TableRoom;
 use sedpass::nodes::Prepared;
 use sedre::{Expr, Steps};
 use sedtext::counted::Text;
+use sedtext::links::chain_of;
 use std::alloc::{AllocError, Global};
 use std::marker::Model;
 
@@ -142,8 +143,9 @@ impl TableMatcher {
     ) -> Result<TableMatcher, AllocError>
         ensures { IfOk result (λ m. m ≡ expr.now) }
     {
-        let Some(form) = direct_form_of(alloc, expr, steps)? else {
-            let passes = Box::new(alloc, new_passes(alloc, expr, room, steps)?)?;
+        let chain = chain_of(alloc, expr, steps)?;
+        let Some(form) = direct_form_of(alloc, expr, &chain, steps)? else {
+            let passes = Box::new(alloc, new_passes(alloc, expr, &chain, room, steps)?)?;
             return Ok(TableMatcher {
                 engine: SearchMethod::Passes(passes),
             });

@@ -1,18 +1,19 @@
 -- Bytes of a set, always as many.
-use Rattle.std.proofs.Common.{◌≡◌, ℕ, ◌+◌, ◌<◌, ◌≤◌, Bool, List, length, Option, Some, None, IfSome, refl, sym, subst, ◌∙◌, ⊎_elim, arith}
-use Rattle.std.specs.Prelude.{slice_get, slice_index_or, false, IsTrue, SomeIff}
+use Rattle.std.proofs.Common.{◌≡◌, ℕ, ◌+◌, ◌<◌, ◌≤◌, Bool, List, [], ◌∷◌, length, Some, None, refl, sym, subst, ◌∙◌, ⊎_elim, arith}
+use Rattle.std.specs.Prelude.{slice_get, slice_index_or, false, IsTrue}
+use Rattle.std.specs.List.{All}
 use Rattle.std.proofs.lemmas.Bool.{cases_lt}
+use Rattle.std.proofs.lemmas.List.Elements.{All-head, All-tail}
 use Rattle.sedre.specs.Tree.{byte_of, any_copies}
-use Rattle.sedre.specs.declared.types.Node.{Node}
 use Rattle.sedtext.specs.Spans.{Matches, CopiesLead, no_copy, one_more}
 use Rattle.sedtext.specs.Runs.{SetRepeats, RunBegins}
 use Rattle.sedtext.specs.Bytes.{MemberAt}
-use Rattle.sedtext.specs.FixedRuns.{IsFixedRun, AllFixedRuns, AreWidths, FirstFixedRun}
+use Rattle.sedtext.specs.FixedRuns.{AllFixedRuns, FirstFixedRun}
+use Rattle.sedtext.specs.Links.{LinkLeads}
+use Rattle.sedtext.specs.declared.links.Link.{Link}
+use Rattle.sedtext.specs.declared.links.Link.TheVariants.{Byte}
 use Rattle.sedtext.proofs.SpanLemmas.{Matches-within}
-use Rattle.std.proofs.lemmas.List.{get_or_default}
 use Rattle.sedtext.proofs.BeginningLemmas.{member_step}
-use Rattle.sedtext.specs.Forms.{HasForm, IsOfSet}
-use Rattle.sedtext.specs.declared.forms.Form.TheVariants.{Both, Inner}
 
 -- copies and more copies after them
 pub CopiesLead-join : (R : ℕ → ℕ → Type 0) (j k i : ℕ) → CopiesLead R k i → CopiesLead R j k → CopiesLead R j i
@@ -51,10 +52,6 @@ module _ (members : List Bool) (w : List ℕ) where
   pub repeated_within : (i j : ℕ) → i ≤ length w → SetRepeats members w i j → j ≤ length w
   repeated_within i j within all = Matches-within (any_copies (byte_of members) false) w i j within all
 
-  -- those of one byte
-  pub repeated_one : (i j : ℕ) → Matches (byte_of members) w i j → IsFixedRun members 1 w i j
-  repeated_one i j s = (one_more i j (omega (arith, s.3)) s no_copy, s.3)
-
 -- the same, where the byte was looked at
 pub repeated_more : (members : List Bool) (w : List ℕ) (before place to byte : ℕ) (has : Bool) → before + 1 ≡ place → slice_get w before ≡ Some byte → has ≡ slice_index_or members byte false → IsTrue has →
     SetRepeats members w place to → SetRepeats members w before to
@@ -73,42 +70,23 @@ run_stops members w p q before place byte has next low high is value missing cop
       member_step members w before before byte has is value missing (λ k these those. absurd (omega arith)) before (omega arith) (omega arith) can,
 )
 
-module _ (nodes : List Node) (x : ℕ) (members : List Bool) where
-  -- the set itself
-  pub times_set : IsOfSet nodes x members → AllFixedRuns nodes x members 1
-  times_set is w bytes i j = (
-    (λ at. let s = (is w i j).0 at in repeated_one members w i j (s.0.0, s.0.1, s.0.2, s.1)),
-    (λ h. (is w i j).1 (repeated_first members w j i (omega (arith, h.1)) h.0, h.1)),
-  )
-
-  -- a concatenation
-  times_seq : (a b first second : ℕ) → HasForm nodes x (Both a b) → AllFixedRuns nodes a members first → AllFixedRuns nodes b members second → AllFixedRuns nodes x members (first + second)
-  times_seq a b first second both left right w bytes i j = (
-    (λ at.
-        let f = (both.2 w i j).0 at in
-        let these = (left w bytes i f.0).0 f.1 in
-        let those = (right w bytes f.0 j).0 f.2 in
-        (CopiesLead-join (Matches (byte_of members) w) j f.0 i these.0 those.0, omega (arith, these.1, those.1))),
-    (λ h.
-        let cut = repeated_cut members w (i + first) j i (omega arith) (omega (arith, h.1)) h.0 in
-        (both.2 w i j).1 (i + first, (left w bytes i (i + first)).1 (cut.0, refl), (right w bytes (i + first) j).1 (cut.1, omega (arith, h.1)))),
-  )
-
-  -- whose sum is known
-  pub if_sum : (a b first second : ℕ) (sum : Option ℕ) (P : Type 0) → HasForm nodes x (Both a b) → AllFixedRuns nodes a members first → AllFixedRuns nodes b members second →
-      SomeIff sum P (first + second) → IfSome sum (λ s. AllFixedRuns nodes x members s)
-  if_sum a b first second None P both left right added = tt
-  if_sum a b first second (Some sum) P both left right added = subst (λ v. AllFixedRuns nodes x members v) (sym added.1) (times_seq a b first second both left right)
-
-  -- a group
-  pub times_group : (a count : ℕ) → HasForm nodes x (Inner a) → AllFixedRuns nodes a members count → AllFixedRuns nodes x members count
-  times_group a count group inner w bytes i j = (λ at. (inner w bytes i j).0 ((group.1 w i j).0 at), λ h. (group.1 w i j).1 ((inner w bytes i j).1 h))
-
--- a width that is known
-pub width_at : (nodes : List Node) (members : List Bool) (widths : List ℕ) (x count : ℕ) → AreWidths nodes members widths → x < length widths →
-    count ≡ slice_index_or widths x count → AllFixedRuns nodes x members count
-width_at nodes members widths x count are lt is =
-    subst (λ v. AllFixedRuns nodes x members v) (sym (is ∙ get_or_default widths x count 0 lt)) (are x lt)
+-- links each of which is a byte of the set
+pub runs_of_bytes : (links : List Link) (members : List Bool) → All (λ l. l ≡ Byte members) links → AllFixedRuns links members (length links)
+runs_of_bytes [] members all nodes w i j = (
+  λ at. (subst (SetRepeats members w i) at no_copy, omega (arith, at)),
+  λ h. omega (arith, h.1),
+)
+runs_of_bytes (l ∷ ls) members all nodes w i j =
+    let first : l ≡ Byte members = All-head (λ l. l ≡ Byte members) l ls all in
+    let rest = runs_of_bytes ls members (All-tail (λ l. l ≡ Byte members) l ls all) nodes w in (
+      λ at.
+          let here = subst (λ v. LinkLeads nodes w v i at.0) first at.1 in
+          let more = (rest at.0 j).0 at.2 in
+          (repeated_before members w i j here.0 (subst (λ v. SetRepeats members w v j) here.1 more.0), omega (arith, here.1, more.1)),
+      λ h.
+          let cut = repeated_cut members w (i + 1) j i (omega arith) (omega (arith, h.1)) h.0 in
+          (i + 1, subst (λ v. LinkLeads nodes w v i (i + 1)) (sym first) (repeated_first members w j i (omega (arith, h.1)) h.0, refl), (rest (i + 1) j).1 (cut.1, omega (arith, h.1))),
+    )
 
 module _ (members : List Bool) (count : ℕ) (w : List ℕ) (from : ℕ) where
   -- no so many bytes begin before a run that begins among those

@@ -9,14 +9,14 @@ pub mod BeginningLemmas
 pub mod SpanLemmas
 pub mod MirrorLemmas
 pub mod ReachLemmas
-pub mod FormLemmas
 pub mod WordLemmas
 pub mod BitLemmas
 pub mod CountLemmas
 pub mod FixedRunLemmas
 pub mod RequiredLemmas
 pub mod FewLemmas
-pub mod PrefixLemmas
+pub mod BranchLemmas
 pub mod LaneLemmas
+pub mod LinkLemmas
 pub mod SieveLemmas
 pub mod NibbleLemmas

@@ -1,90 +1,91 @@
 -- Literals that the spans of an expression hold.
-use Rattle.std.proofs.Common.{◌≡◌, ◌<◌, Bool, true, false, true≢false, [], ◌∷◌, ◌++◌, refl, length-append, ℕ, ◌+◌, ◌-◌, ◌≤◌, ◌⊎◌, List, length, take, drop, Option, Some, None, IsTrue, sym, ap, ◌∙◌, subst, ⊎_elim, arith}
-use Rattle.std.specs.Prelude.{◌==◌, IfSome, slice_index}
+use Rattle.std.proofs.Common.{◌≡◌, ◌<◌, true, false, true≢false, [], ◌∷◌, ◌++◌, refl, length-append, ℕ, suc, ◌+◌, ◌-◌, ◌≤◌, ◌⊎◌, List, length, take, drop, drop-cons, Some, None, IsTrue, sym, ap, ◌∙◌, subst, ⊎_elim, arith}
+use Rattle.std.specs.Prelude.{◌==◌, slice_index, slice_index_or}
 use Rattle.std.proofs.lemmas.Bool.{cases_lt}
 use Rattle.std.proofs.lemmas.List.{get_or_append_left, get_or_push}
 use Rattle.std.proofs.lemmas.Option.{slice_get_within, get_or_from_slice_get, slice_get-get_or}
 use Rattle.memchr.specs.Find.{OccursAt, Nowhere, NoneBefore as FirstOf}
-use Rattle.sedre.specs.Tree.{Tree, tree_at}
+use Rattle.sedre.specs.Tree.{Tree}
 use Rattle.sedre.specs.declared.types.Node.{Node}
-use Rattle.sedre.specs.Sets.{has, only}
+use Rattle.sedre.specs.Sets.{has}
 use Rattle.sedre.specs.WordLaws.{has-set_of}
 use Rattle.sedtext.proofs.MatchingLemmas.{equal-iff}
+use Rattle.sedtext.specs.Links.{ChainLeads, IsChain}
 use Rattle.sedtext.specs.Spans.{IsIn, NotFound}
-use Rattle.sedtext.specs.Reach.{HasSpan}
-use Rattle.sedtext.specs.Forms.{HasForm}
-use Rattle.sedtext.specs.declared.forms.Form.TheVariants.{Both}
-use Rattle.sedtext.specs.Required.{BeginsAs, IsLiteral, GoesOnAs, AllHold, AllEndWith, IsRequired, Requires, FirstLiteral, Narrowed}
-use Rattle.sedtext.specs.Prefix.{LinksTo}
-use Rattle.sedtext.specs.declared.prefix.Link.TheVariants.{OneOf}
+use Rattle.sedtext.specs.Required.{AllHold, FirstLiteral, IsThisByte, IsLiteral, IsRequired, Narrowed, Requires}
+use Rattle.sedtext.specs.declared.links.Link.{Link}
+use Rattle.sedtext.specs.declared.links.Link.TheVariants.{Byte}
 use Rattle.sedtext.specs.declared.required.RequiredLiteral.{RequiredLiteral}
-use Rattle.sedtext.specs.declared.required.Literal.{Literal}
 use Rattle.sedtext.proofs.FewLemmas.{length-rest, rest_at}
-use Rattle.sedtext.proofs.SpanLemmas.{Matches-forward, Matches-within}
+use Rattle.sedtext.proofs.LinkLemmas.{chain_on}
 
 -- one more byte of a literal
-pub one_longer : (nodes : List Node) (x y byte : ℕ) (bytes after : List ℕ) (s : List Bool) (rest : Option ℕ) → BeginsAs nodes x bytes (Some y) → LinksTo nodes y (OneOf s rest) →
-    ((c : ℕ) → IsIn c s → c ≡ byte) → s ≡ only byte → byte < 256 → after ≡ bytes ++ byte ∷ [] → BeginsAs nodes x after rest
-one_longer nodes x y byte bytes after s rest begins link sole only_one fits is w i j within =
-    let member : IsIn byte s = ap (λ v. has v byte) only_one ∙ has-set_of (λ c. c == byte) byte fits ∙ (equal-iff byte byte).1 refl in
+pub one_longer : (links : List Link) (q byte : ℕ) (bytes after : List ℕ) (link : Link) → IsLiteral links q bytes → q + length bytes < length links →
+    link ≡ slice_index_or links (q + length bytes) link → IsThisByte link byte → byte < 256 → after ≡ bytes ++ byte ∷ [] → IsLiteral links q after
+one_longer links q byte bytes after (Byte s) literal inside here alone fits is =
     let n = length bytes in
     let long : length after ≡ n + 1 = ap length is ∙ length-append bytes (byte ∷ []) in
-    let next : i + length after ≡ i + n + 1 = omega (arith, long) in
+    let opened : drop (q + n) links ≡ Byte s ∷ drop (suc (q + n)) links = drop-cons links (q + n) (Byte s) inside ∙ ap (λ v. v ∷ drop (suc (q + n)) links) (sym here) in
+    let member : IsIn byte s = ap (λ v. has v byte) alone.0 ∙ has-set_of (λ c. c == byte) byte fits ∙ (equal-iff byte byte).1 refl in
     let old : (k : ℕ) → k < n → slice_index after k ≡ slice_index bytes k = λ k lt. ap (λ l. slice_index l k) is ∙ get_or_append_left bytes (byte ∷ []) 0 k lt in
-    let new : slice_index after n ≡ byte = ap (λ l. slice_index l n) is ∙ get_or_push bytes byte 0 n refl in (
-      λ at.
-          let f = (begins w i j within).0 at in
-          let h = (link.1 w (i + n) j).0 f.1 in
-          let there : slice_index w (i + n) ≡ byte = get_or_from_slice_get w (i + n) h.0.0 0 h.0.1 ∙ sole h.0.0 h.0.2 in
-          let inside = slice_get_within w (i + n) h.0.0 h.0.1 in (
-            record {
-              fits = omega (arith, inside, long);
-              reads = λ k lt.
-                  ⊎_elim
-                  (λ (less : k < n). f.0.reads k less ∙ sym (old k less))
-                  (λ (last : n ≤ k). subst (λ v. slice_index w (i + v) ≡ slice_index after v) (let e : n ≡ k = omega (arith, lt, last, long) in e) (there ∙ sym new))
-                  (cases_lt k n);
-            },
-            subst (λ v. GoesOnAs nodes w v j rest) (sym next) h.1,
-          ),
-      λ h.
-          let fits = h.0.fits in
-          let inside : i + n < length w = omega (arith, fits, long) in
-          let there : slice_index w (i + n) ≡ byte = h.0.reads n (omega (arith, long)) ∙ new in
-          (begins w i j within).1 (
-            record { fits = omega (arith, inside); reads = λ k lt. h.0.reads k (omega (arith, lt, long)) ∙ old k lt },
-            (link.1 w (i + n) j).1 ((byte, slice_get-get_or w (i + n) 0 inside ∙ ap Some there, member), subst (λ v. GoesOnAs nodes w v j rest) next h.1),
+    let new : slice_index after n ≡ byte = ap (λ l. slice_index l n) is ∙ get_or_push bytes byte 0 n refl in
+    let rest : drop (q + length after) links ≡ drop (suc (q + n)) links = ap (λ v. drop v links) (let e : q + length after ≡ suc (q + n) = omega (arith, long) in e) in (
+      omega (arith, long, inside),
+      λ nodes w i j within. (
+        λ at.
+            let f = (literal.1 nodes w i j within).0 at in
+            let h = subst (λ v. ChainLeads nodes w v (i + n) j) opened f.1 in
+            let there : slice_index w (i + n) ≡ byte = get_or_from_slice_get w (i + n) h.1.0.0 0 h.1.0.1 ∙ alone.1 h.1.0.0 h.1.0.2 in
+            let lies = slice_get_within w (i + n) h.1.0.0 h.1.0.1 in (
+              record {
+                fits = omega (arith, lies, long);
+                reads = λ k lt.
+                    ⊎_elim
+                    (λ (less : k < n). f.0.reads k less ∙ sym (old k less))
+                    (λ (last : n ≤ k). subst (λ v. slice_index w (i + v) ≡ slice_index after v) (let e : n ≡ k = omega (arith, lt, last, long) in e) (there ∙ sym new))
+                    (cases_lt k n);
+              },
+              subst (λ v. ChainLeads nodes w v (i + length after) j) (sym rest) (subst (λ v. ChainLeads nodes w (drop (suc (q + n)) links) v j) (let e : h.0 ≡ i + length after = omega (arith, h.1.1, long) in e) h.2),
+            ),
+        λ h.
+            let fits = h.0.fits in
+            let lies : i + n < length w = omega (arith, fits, long) in
+            let there : slice_index w (i + n) ≡ byte = h.0.reads n (omega (arith, long)) ∙ new in
+            let on : ChainLeads nodes w (drop (suc (q + n)) links) (i + n + 1) j =
+            subst (λ v. ChainLeads nodes w (drop (suc (q + n)) links) v j) (let e : i + length after ≡ i + n + 1 = omega (arith, long) in e) (subst (λ v. ChainLeads nodes w v (i + length after) j) rest h.1) in
+            (literal.1 nodes w i j within).1 (
+              record { fits = omega (arith, lies); reads = λ k lt. h.0.reads k (omega (arith, lt, long)) ∙ old k lt },
+              subst (λ v. ChainLeads nodes w v (i + n) j) (sym opened) (i + n + 1, ((byte, slice_get-get_or w (i + n) 0 lies ∙ ap Some there, member), refl), on),
+            ),
+      ),
+    )
+one_longer links q byte bytes after other literal inside here alone fits is = absurd alone
+
+-- no byte is a literal
+pub no_literal : (links : List Link) (q : ℕ) (bytes : List ℕ) → bytes ≡ [] → q ≤ length links → IsLiteral links q bytes
+no_literal links q bytes none inside =
+    let short : length bytes ≡ 0 = ap length none in
+    let from : q ≡ q + length bytes = omega (arith, short) in (
+      omega (arith, short, inside),
+      λ nodes w i j within.
+          let here : i ≡ i + length bytes = omega (arith, short) in (
+            λ at. (
+              record { fits = omega (arith, short, within); reads = λ k lt. absurd (omega (arith, short, lt)) },
+              subst (λ v. ChainLeads nodes w (drop v links) (i + length bytes) j) from (subst (λ v. ChainLeads nodes w (drop q links) v j) here at),
+            ),
+            λ h. subst (λ v. ChainLeads nodes w (drop q links) v j) (sym here) (subst (λ v. ChainLeads nodes w (drop v links) (i + length bytes) j) (sym from) h.1),
           ),
     )
 
-module _ (nodes : List Node) (x : ℕ) where
-  -- the second part of a concatenation
-  pub second_ends : (a y : ℕ) → HasForm nodes x (Both a y) → AllEndWith nodes x y
-  second_ends a y both w i j within at =
-      let f = (both.2 w i j).0 at in
-      (f.0, Matches-forward (tree_at nodes a) w i f.0 f.1, Matches-within (tree_at nodes a) w i f.0 within f.1, f.2)
-
-  -- the longer of what it holds and what a part at its end begins with
-  pub hold_longer : (y : ℕ) (l : Literal) (these result : List ℕ) → AllEndWith nodes x y → IsLiteral nodes y l → AllHold nodes x these →
-      (result ≡ these) ⊎ (result ≡ l.bytes.items) → AllHold nodes x result
-  hold_longer y l these result ends literal first which =
-      ⊎_elim
-      (λ (e : result ≡ these). subst (AllHold nodes x) (sym e) first)
-      (λ (e : result ≡ l.bytes.items).
-      subst (AllHold nodes x) (sym e) (λ w i j within at. let f = ends w i j within at in (f.0, f.1, ((literal w f.0 j f.2).0 f.3).0)))
-      which
-
-  -- a part of the rest after a literal
-  pub ends_behind : (y r z : ℕ) (l : Literal) → l.rest ≡ Some r → AllEndWith nodes x y → IsLiteral nodes y l → AllEndWith nodes r z → AllEndWith nodes x z
-  ends_behind y r z l rest ends literal second w i j within at =
-      let f = ends w i j within at in
-      let h = (literal w f.0 j f.2).0 f.3 in
-      let there : HasSpan nodes w r (f.0 + length l.bytes.items) j = subst (GoesOnAs nodes w (f.0 + length l.bytes.items) j) rest h.1 in
-      let g = second w (f.0 + length l.bytes.items) j h.0.fits there in
-      (g.0, omega (arith, f.1, g.1), g.2, g.3)
-
-pub up_to_some : (x r : ℕ) (o : Option ℕ) → o ≡ Some r → IfSome o (λ y. y ≤ x) → r ≤ x
-up_to_some x r o e h = subst (λ p. IfSome p (λ y. y ≤ x)) e h
+-- a literal of the chain, where it is the longer one
+pub hold_longer : (links : List Link) (q : ℕ) (these those result : List ℕ) → IsLiteral links q those → AllHold links these → (result ≡ these) ⊎ (result ≡ those) → AllHold links result
+hold_longer links q these those result literal first which =
+    ⊎_elim
+    (λ (e : result ≡ these). subst (AllHold links) (sym e) first)
+    (λ (e : result ≡ those).
+    subst (AllHold links) (sym e) (λ nodes w i j within at.
+    let f = chain_on nodes w q links i j within at in (f.0, f.1, ((literal.1 nodes w f.0 j f.2).0 f.3).0)))
+    which
 
 module _ (w rest : List ℕ) (p : ℕ) (from : p ≤ length w) (e : rest ≡ take (length w - p) (drop p w)) (literal : List ℕ) where
   -- where the literal occurs in the text from p on, it does in the rest
@@ -125,12 +126,11 @@ module _ (e : Tree) (w : List ℕ) (p : ℕ) (n : RequiredLiteral) (holds : IsRe
             first.2 i low lt (subst (OccursAt w n.finder) (h.2 is_prefix) h.3),
       )
 
--- a literal with which all spans of the root begin is a prefix that each match has
-pub prefix_required : (nodes : List Node) (root last : ℕ) (l : Literal) → last ≡ root → IsLiteral nodes root l → Requires (tree_at nodes last) l.bytes.items true
-prefix_required nodes root last l same is =
-    subst (λ (n : ℕ). Requires (tree_at nodes n) l.bytes.items true) (sym same) (λ w i j within at. (i, omega arith, (λ _. refl), ((is w i j within).0 at).0))
+module _ (nodes : List Node) (e : Tree) (links : List Link) (chain : IsChain nodes e links) (literal : List ℕ) where
+  -- a literal with which the chain begins is a prefix that each match has
+  pub prefix_required : IsLiteral links 0 literal → Requires e literal true
+  prefix_required is w i j within at = (i, omega arith, (λ _. refl), ((is.1 nodes w i j within).0 ((chain w i j).0 at)).0)
 
--- and one that all its spans contain occurs in each match, or behind its beginning
-pub part_required : (nodes : List Node) (root last : ℕ) (literal : List ℕ) → last ≡ root → AllHold nodes root literal → Requires (tree_at nodes last) literal false
-part_required nodes root last literal same hold =
-    subst (λ (n : ℕ). Requires (tree_at nodes n) literal false) (sym same) (λ w i j within at. let f = hold w i j within at in (f.0, f.1, (λ no. absurd (true≢false (sym no))), f.2))
+  -- and one that it holds occurs in each match, or behind its beginning
+  pub part_required : AllHold links literal → Requires e literal false
+  part_required hold w i j within at = let f = hold nodes w i j within ((chain w i j).0 at) in (f.0, f.1, (λ no. absurd (true≢false (sym no))), f.2)

@@ -4,13 +4,9 @@ use Rattle.std.specs.Prelude.{slice_get, slice_index_or}
 use Rattle.std.proofs.lemmas.Bool.{cases_lt}
 use Rattle.std.proofs.lemmas.Option.{slice_get_within}
 use Rattle.sedre.specs.Tree.{byte_of}
-use Rattle.sedre.specs.declared.types.Node.{Node}
 use Rattle.sedtext.specs.Spans.{Matches, CopiesLead, no_copy, one_more}
-use Rattle.sedtext.specs.Reach.{HasSpan}
 use Rattle.sedtext.specs.Bytes.{MemberAt}
-use Rattle.sedtext.specs.Forms.{HasForm, IsOfSet}
-use Rattle.sedtext.specs.declared.forms.Form.TheVariants.{Copies}
-use Rattle.sedtext.specs.Runs.{SetRepeats, AllRepeat, IsRun}
+use Rattle.sedtext.specs.Runs.{SetRepeats, IsRun}
 use Rattle.sedtext.proofs.SpanLemmas.{CopiesLead-forward, CopiesLead-append}
 
 -- copies end in the run
@@ -42,13 +38,6 @@ pub run_longest : (members : List Bool) (w : List ℕ) (i k : ℕ) → IsRun mem
 run_longest members w i k run = (run.0, run.1, λ j copies. in_run members w k j i (run_forward members w i k run) run.2 copies)
 
 -- copies of relations of which one has what the other has
-copies_alike : (R S : ℕ → ℕ → Type 0) → ((p q : ℕ) → R p q → S p q) → (j i : ℕ) → CopiesLead R j i → CopiesLead S j i
+pub copies_alike : (R S : ℕ → ℕ → Type 0) → ((p q : ℕ) → R p q → S p q) → (j i : ℕ) → CopiesLead R j i → CopiesLead S j i
 copies_alike R S each j i no_copy = no_copy
 copies_alike R S each j i (one_more _ k lt r rest) = one_more i k lt (each i k r) (copies_alike R S each j k rest)
-
--- a repetition of a set
-pub star_repeats : (nodes : List Node) (x y : ℕ) (members : List Bool) → HasForm nodes x (Copies y) → IsOfSet nodes y members → AllRepeat nodes x members
-star_repeats nodes x y members star inner w i j = (
-  λ at. copies_alike (HasSpan nodes w y) (Matches (byte_of members) w) (λ p q at. let f = (inner w p q).0 at in (f.0.0, f.0.1, f.0.2, f.1)) j i ((star.1 w i j).0 at),
-  λ copies. (star.1 w i j).1 (copies_alike (Matches (byte_of members) w) (HasSpan nodes w y) (λ p q r. (inner w p q).1 ((r.0, r.1, r.2), r.3)) j i copies),
-)

@@ -2,13 +2,11 @@
 -- From which places a match can begin.
 use Rattle.std.specs.Prelude.{◌≡◌, ℕ, ◌+◌, ◌<◌, ◌≤◌, List, length, slice_get, Option, Some, None}
 use Rattle.sedre.specs.Tree.{Tree}
-use Rattle.sedre.specs.declared.types.Node.{Node}
 use Rattle.sedtext.specs.Spans.{Matches}
 use Rattle.sedtext.specs.Bytes.{MemberAt}
 use Rattle.sedtext.specs.Sieve.{PassesSieve}
 use Rattle.sedtext.specs.declared.beginnings.Begins.{Begins}
 use Rattle.sedtext.specs.declared.beginnings.Begins.TheVariants.{Anyhow, AtStart, WithByte, WithSet, Before}
-use Rattle.sedtext.specs.Reach.{HasSpan}
 
 -- a span that begins so can begin at the place
 abbrev pub CanBegin : Begins → List ℕ → ℕ → Type 0
@@ -31,10 +29,6 @@ NextStart begins w p (Some start) = (p ≤ start) × (start ≤ length w) × ((i
 abbrev pub skip_cost : ℕ → Option ℕ → ℕ
 skip_cost n None = n + 1
 skip_cost n (Some start) = start + 1
-
--- each span of the node x begins with a span of the node y
-abbrev pub LeadsWith : List Node → ℕ → ℕ → Type 0
-LeadsWith nodes x y = (w : List ℕ) (i j : ℕ) → HasSpan nodes w x i j → (k : ℕ) × HasSpan nodes w y i k
 
 -- no place from p up to but not including q begins a match
 abbrev pub NoneIn : Tree → List ℕ → ℕ → ℕ → Type 0

@@ -1,22 +1,18 @@
 -- Private to the proofs: no contract that `sedmatch` makes public cites what is here.
 -- A set repeated a fixed number of times: bytes of it one after another, always as many.
-use Rattle.std.specs.Prelude.{◌≡◌, ℕ, ◌+◌, ◌<◌, ◌≤◌, ◌↔◌, Bool, List, length, slice_index, Option, Some, None}
+use Rattle.std.specs.Prelude.{◌≡◌, ℕ, ◌+◌, ◌<◌, ◌≤◌, ◌↔◌, Bool, List, length, Option, Some, None}
 use Rattle.sedre.specs.declared.types.Node.{Node}
-use Rattle.sedtext.specs.Reach.{HasSpan}
-use Rattle.sedtext.specs.Bytes.{AreBytes}
+use Rattle.sedtext.specs.Links.{ChainLeads}
 use Rattle.sedtext.specs.Runs.{SetRepeats}
+use Rattle.sedtext.specs.declared.links.Link.{Link}
 
 -- `count` bytes of the set lead from i to j
 abbrev pub IsFixedRun : List Bool → ℕ → List ℕ → ℕ → ℕ → Type 0
 IsFixedRun members count w i j = SetRepeats members w i j × (j ≡ i + count)
 
--- in a text of bytes the spans of the node x are those of `count` bytes of the set
-abbrev pub AllFixedRuns : List Node → ℕ → List Bool → ℕ → Type 0
-AllFixedRuns nodes x members count = (w : List ℕ) → AreBytes w → (i j : ℕ) → HasSpan nodes w x i j ↔ IsFixedRun members count w i j
-
--- the spans of each node that has a width are those of as many bytes of the set
-abbrev pub AreWidths : List Node → List Bool → List ℕ → Type 0
-AreWidths nodes members widths = (x : ℕ) → x < length widths → AllFixedRuns nodes x members (slice_index widths x)
+-- the chain leads over `count` bytes of the set, and over nothing else
+abbrev pub AllFixedRuns : List Link → List Bool → ℕ → Type 0
+AllFixedRuns links members count = (nodes : List Node) (w : List ℕ) (i j : ℕ) → ChainLeads nodes w links i j ↔ IsFixedRun members count w i j
 
 -- the end of the `count` bytes found, or the end n of the text
 abbrev pub passed_run : ℕ → ℕ → Option ℕ → ℕ

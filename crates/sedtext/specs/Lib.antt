@@ -1,5 +1,6 @@
 pub mod Spans
 pub mod Groups
+pub mod Links
 pub mod Caps
 pub mod Answer
 pub mod Matching
@@ -13,11 +14,10 @@ pub mod PartMarks
 pub mod Reach
 pub mod Places
 pub mod Beginnings
-pub mod Forms
 pub mod Runs
 pub mod Following
 pub mod Required
-pub mod Prefix
+pub mod Branches
 pub mod FixedRuns
 pub mod Few
 pub mod Sieve

@@ -1,36 +1,31 @@
 -- Private to the proofs: no contract that `sedmatch` makes public cites what is here.
 -- Literals that the spans of an expression contain.
-use Rattle.std.specs.Prelude.{◌≡◌, ℕ, ◌+◌, ◌-◌, ◌≤◌, ◌↔◌, List, Bool, length, Option, Some, None, IsTrue}
+use Rattle.std.specs.Prelude.{◌≡◌, ℕ, ◌+◌, ◌-◌, ◌≤◌, ◌↔◌, List, Bool, drop, length, Option, Some, None, IsTrue}
 use Rattle.memchr.specs.Find.{OccursAt}
+use Rattle.sedre.specs.Sets.{only}
 use Rattle.sedre.specs.Tree.{Tree}
 use Rattle.sedre.specs.declared.types.Node.{Node}
 use Rattle.sedtext.specs.Bytes.{FirstFrom}
-use Rattle.sedtext.specs.Spans.{Matches, NotFound}
-use Rattle.sedtext.specs.Reach.{HasSpan}
+use Rattle.sedtext.specs.Spans.{IsIn, Matches, NotFound}
+use Rattle.sedtext.specs.Links.{ChainLeads}
 use Rattle.sedtext.specs.Beginnings.{NoneIn}
-use Rattle.sedtext.specs.declared.required.Literal.{Literal}
+use Rattle.sedtext.specs.declared.links.Link.{Link}
+use Rattle.sedtext.specs.declared.links.Link.TheVariants.{Byte}
 use Rattle.sedtext.specs.declared.required.RequiredLiteral.{RequiredLiteral}
 
--- the node y is spanned from i to j, or i is j if there is no such node
-abbrev pub GoesOnAs : List Node → List ℕ → ℕ → ℕ → Option ℕ → Type 0
-GoesOnAs nodes w i j None = i ≡ j
-GoesOnAs nodes w i j (Some y) = HasSpan nodes w y i j
+-- the link is the one byte
+abbrev pub IsThisByte : Link → ℕ → Type 0
+IsThisByte (Byte s) b = (s ≡ only b) × ((c : ℕ) → IsIn c s → c ≡ b)
+IsThisByte other b = ⊥
 
--- the spans of the node x are those that begin with the bytes, and go on after them as those of the rest
-abbrev pub BeginsAs : List Node → ℕ → List ℕ → Option ℕ → Type 0
-BeginsAs nodes x bytes rest = (w : List ℕ) (i j : ℕ) → i ≤ length w → HasSpan nodes w x i j ↔ (OccursAt w bytes i × GoesOnAs nodes w (i + length bytes) j rest)
+-- from the link q on the chain leads over the bytes, and then on as its links do that follow after as many
+abbrev pub IsLiteral : List Link → ℕ → List ℕ → Type 0
+IsLiteral links q bytes = (q + length bytes ≤ length links) × ((nodes : List Node) (w : List ℕ) (i j : ℕ) → i ≤ length w →
+    ChainLeads nodes w (drop q links) i j ↔ (OccursAt w bytes i × ChainLeads nodes w (drop (q + length bytes) links) (i + length bytes) j))
 
--- the spans of the node x are those that begin with the literal, and go on after it as the spans of the rest
-abbrev pub IsLiteral : List Node → ℕ → Literal → Type 0
-IsLiteral nodes x l = BeginsAs nodes x l.bytes.items l.rest
-
--- where the node x has a span in a text, the literal occurs at its beginning or later
-abbrev pub AllHold : List Node → ℕ → List ℕ → Type 0
-AllHold nodes x literal = (w : List ℕ) (i j : ℕ) → i ≤ length w → HasSpan nodes w x i j → (k : ℕ) × (i ≤ k) × OccursAt w literal k
-
--- each span of the node x ends with one of the node y
-abbrev pub AllEndWith : List Node → ℕ → ℕ → Type 0
-AllEndWith nodes x y = (w : List ℕ) (i j : ℕ) → i ≤ length w → HasSpan nodes w x i j → (k : ℕ) × (i ≤ k) × (k ≤ length w) × HasSpan nodes w y k j
+-- where the chain leads from a place of a text, the literal occurs there or later
+abbrev pub AllHold : List Link → List ℕ → Type 0
+AllHold links literal = (nodes : List Node) (w : List ℕ) (i j : ℕ) → i ≤ length w → ChainLeads nodes w links i j → (k : ℕ) × (i ≤ k) × OccursAt w literal k
 
 -- where the expression has a match, these bytes occur at its beginning or later; at it, if they are a prefix
 abbrev pub Requires : Tree → List ℕ → Bool → Type 0

@@ -1,19 +1,13 @@
 -- Private to the proofs: no contract that `sedmatch` makes public cites what is here.
 -- Bytes of a set, any number of them one after another.
-use Rattle.std.specs.Prelude.{◌<◌, ℕ, ◌≤◌, ◌↔◌, Bool, List, length}
+use Rattle.std.specs.Prelude.{◌<◌, ℕ, ◌≤◌, Bool, List, length}
 use Rattle.sedre.specs.Tree.{byte_of}
-use Rattle.sedre.specs.declared.types.Node.{Node}
 use Rattle.sedtext.specs.Spans.{Matches, CopiesLead}
-use Rattle.sedtext.specs.Reach.{HasSpan}
 use Rattle.sedtext.specs.Bytes.{MemberAt}
 
 -- any number of bytes of the set lead from i to j
 abbrev pub SetRepeats : List Bool → List ℕ → ℕ → ℕ → Type 0
 SetRepeats members w i j = CopiesLead (Matches (byte_of members) w) j i
-
--- the spans of the node x are those of a repetition of the set
-abbrev pub AllRepeat : List Node → ℕ → List Bool → Type 0
-AllRepeat nodes x members = (w : List ℕ) (i j : ℕ) → HasSpan nodes w x i j ↔ SetRepeats members w i j
 
 -- the bytes from place i up to k are in the set, and no more that follow
 abbrev pub IsRun : List Bool → List ℕ → ℕ → ℕ → Type 0

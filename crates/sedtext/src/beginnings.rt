@@ -1,30 +1,28 @@
 //! From which places a match can begin at all, so that the others are passed over.
-ghost use Rattle.std.specs.Prelude.{ℕ, List, ◌-◌, ◌*◌, ◌≤◌, length, IfSome, Some};
-ghost use Rattle.sedre.specs.Arena.{IsArena};
+ghost use Rattle.std.specs.Prelude.{ℕ, List, ◌-◌, ◌*◌, ◌≤◌, length, IfOk, IfSome, Some};
+ghost use Rattle.std.specs.List.{All};
 ghost use Rattle.sedre.specs.Tree.{expression_tree, Tree};
+ghost use Rattle.sedre.specs.declared.types.Node.{Node};
 ghost use Rattle.sedtext.specs.Beginnings.{AllBegin, CanBegin, NextStart, skip_cost};
+ghost use Rattle.sedtext.specs.Branches.{AllHave, AreBranches};
 ghost use Rattle.sedtext.specs.Bytes.{MemberAt};
 ghost use Rattle.sedtext.specs.Costs.{CostsWithin};
-ghost use Rattle.sedtext.specs.Prefix.{AllHave};
+ghost use Rattle.sedtext.specs.Links.{IsChain, IsWithin};
 ghost use Rattle.sedtext.specs.Sieve.{AllPass, AllFixed};
-ghost use Rattle.sedre.specs.Steps.{Takes, TakesAtLeast};
+ghost use Rattle.sedre.specs.Steps.{TakesAtLeast};
 
+use crate::branches::{MAX_OFFSET, branches_of, set_at};
 use crate::counted::Text;
 use crate::counted::lookups::sift;
 use crate::counted::members::find_member;
 use crate::counted::nibbles::Nibbles;
 use crate::counted::sieve::{Fixed, Sieve};
-use crate::prefix::{is_anchored, set_at};
+use crate::links::Link;
 use sedre::{ByteSet, Expr, Steps};
+use std::alloc::{AllocError, Global};
 
 /// How often bytes occur in a thousand that aren't worth seeking.
 const FREQUENT: usize = 500;
-
-/// How many bytes after its beginning a match is followed.
-const MAX_OFFSET: usize = 32;
-
-/// How many alternatives after the first are followed.
-const MORE_ALTERNATIVES: usize = 7;
 
 /// How often each letter occurs in a thousand bytes of ordinary text, that is prose, logs and programs.
 const LETTERS: [u8; 26] = [
@@ -135,13 +133,12 @@ fn with_set(sieve: Option<Sieve>, offset: usize, set: &ByteSet) -> Sieve
 }
 
 /// The three rarest sets of which a byte is at a fixed distance after the beginning of every match, if there is such a set.
-fn rarest_of(expr: &Expr, steps: &mut Steps) -> Option<Sieve>
-    ensures pass { AllPass (expression_tree expr.now) result }
-    ensures cost { Takes steps.old steps.new (768 * length expr.now.nodes) }
+fn rarest_of(branches: &[Vec<Link>]) -> Option<Sieve>
+    ensures pass { (nodes : List Node) (e : Tree) → AreBranches nodes e branches.now → AllPass e result }
 {
     let mut sieve = None;
     for offset in 0..MAX_OFFSET {
-        let Some(set) = set_at(expr, offset, MORE_ALTERNATIVES, steps) else {
+        let Some(set) = set_at(branches, offset) else {
             return sieve;
         };
         sieve = Some(with_set(sieve, offset, &set));
@@ -159,24 +156,37 @@ fn begins_with(set: ByteSet) -> Begins
     }
 }
 
-/// How every span of the expression begins, as far as the nodes show that come first in one.
-pub fn how_begins(expr: &Expr, steps: &mut Steps) -> Begins
-    ensures begins { AllBegin (expression_tree expr.now) result }
-    ensures cost { Takes steps.old steps.new (793 * length expr.now.nodes) }
-    ensures arena { IsArena expr.now.nodes }
+/// How every span of an expression begins, as far as the chains show of which one leads on where one begins.
+fn begins_by(branches: &[Vec<Link>]) -> Begins
+    ensures { (nodes : List Node) (e : Tree) → AreBranches nodes e branches.now → AllBegin e result }
 {
-    if is_anchored(expr, steps) {
-        return Begins::AtStart;
-    }
-    if let Some(sieve) = rarest_of(expr, steps) {
+    if let Some(sieve) = rarest_of(branches) {
         if sieve.first.weight <= FREQUENT && sieve.second.weight < usize::MAX {
             return Begins::Before(sieve);
         }
     }
-    match set_at(expr, 0, MORE_ALTERNATIVES, steps) {
+    match set_at(branches, 0) {
         Some(set) => begins_with(set),
         None => Begins::Anyhow,
     }
+}
+
+/// How every span of the expression begins, whose chain this is.
+pub fn how_begins(
+    alloc: Global,
+    expr: &Expr,
+    chain: &[Link],
+    steps: &mut Steps,
+) -> Result<Begins, AllocError>
+    requires chain { IsChain expr.now.nodes (expression_tree expr.now) chain.now }
+    requires within { All (IsWithin (length expr.now.nodes)) chain.now }
+    ensures begins { IfOk result (AllBegin (expression_tree expr.now)) }
+{
+    if let Some(Link::Start) = chain.first() {
+        return Ok(Begins::AtStart);
+    }
+    let branches = branches_of(alloc, expr, chain, steps)?;
+    Ok(begins_by(&branches))
 }
 
 /// A place from `from` on before which no match begins, as far as `begins` shows, if one may begin there or later.

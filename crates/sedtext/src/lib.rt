@@ -5,22 +5,20 @@
 //! what is looked for in a text's bytes: bytes of a set, a few bytes, a literal. No bytes of a text are
 //! seen without a count outside of that module and those below it.
 //!
-//! [`forms`] shows by one look what the spans of a node are made of, and what follows asks nodes by it alone. [`beginnings`] shows
-//! from which places a match can begin at all, [`repeats`] which set of bytes a node repeats. [`required`] and
-//! [`fixed_runs`] find out once what an expression shows of all its matches. How a match begins is followed by [`prefix`] alone, in
-//! alternatives too. No search for a match of any expression is here.
+//! [`links`] takes an expression apart into a chain, and what follows asks chains alone. [`beginnings`] shows from which places a
+//! match can begin at all, by the chains of its first alternatives, which [`branches`] has. [`required`] and [`fixed_runs`] find out
+//! once what an expression shows of all its matches. No search for a match of any expression is here.
 //!
 //! The public modules are for the two crates above; `sedmatch` passes on what a program calls, and decides what a matcher uses.
 #![tactic(auto)]
 
 pub mod beginnings;
+mod branches;
 pub mod counted;
 pub mod fixed_runs;
-pub mod forms;
 mod found;
 mod laws;
-mod prefix;
-pub mod repeats;
+pub mod links;
 pub mod required;
 pub mod starts;
 

@@ -1,32 +1,22 @@
-//! A literal that every match of an expression contains: a text without it has no match.
-//!
-//! A concatenation is followed from part to part, and single bytes that come one after another in it are a literal.
-ghost use Rattle.std.specs.Prelude.{◌≡◌, ℕ, ◌-◌, ◌<◌, ◌≤◌, ◌⊎◌, length, IfOk, IfSome};
-ghost use Rattle.sedre.specs.Tree.{expression_tree, Tree};
-ghost use Rattle.sedtext.specs.Required.{IsLiteral, AllHold, AllEndWith, IsRequired, Requires, Narrowed};
-ghost use Rattle.sedtext.specs.Nodes.{IsNode};
+//! A literal that every match of an expression contains: a text without it has no match. Links that are one byte alone, one after
+//! another, are a literal.
+ghost use Rattle.std.specs.Prelude.{◌≡◌, ℕ, List, ◌-◌, ◌≤◌, ◌⊎◌, length, IfOk, IfSome};
+ghost use Rattle.sedre.specs.Tree.{Tree};
+ghost use Rattle.sedre.specs.declared.types.Node.{Node};
 ghost use Rattle.sedtext.specs.Costs.{CostsWithin};
-ghost use Rattle.sedre.specs.Steps.{Takes, TakesAtLeast};
+ghost use Rattle.sedtext.specs.Links.{IsChain};
+ghost use Rattle.sedtext.specs.Required.{AllHold, IsThisByte, IsLiteral, IsRequired, Requires, Narrowed};
+ghost use Rattle.sedre.specs.Steps.{TakesAtLeast};
 
 use crate::counted::Text;
 use crate::counted::lookups::find_literal;
-use crate::forms::{Form, form_of};
-use crate::prefix::{Link, link_of};
+use crate::links::Link;
 use memchr::memmem::Finder;
-use sedre::{ByteSet, Expr, Steps};
+use sedre::Steps;
 use std::alloc::{AllocError, Global};
 
 /// The most bytes of a literal.
 const MAX_LITERAL: usize = 32;
-
-/// The bytes with which the spans of a node begin.
-#[derive(Drop)]
-pub struct Literal {
-    /// The bytes.
-    pub bytes: Vec<u8>,
-    /// The node whose spans follow these bytes. None where the spans end with the bytes.
-    pub rest: Option<usize>,
-}
 
 /// A literal that every match contains.
 #[derive(Drop)]
@@ -37,40 +27,29 @@ pub struct RequiredLiteral {
     pub is_prefix: bool,
 }
 
-/// The literal with which the spans of the node begin, and the node as whose spans they go on after it.
-pub fn literal_from(
-    alloc: Global,
-    expr: &Expr,
-    from: usize,
-    steps: &mut Steps,
-) -> Result<Literal, AllocError>
-    requires inside { IsNode expr.now.nodes from }
-    ensures literal { IfOk result (λ l. IsLiteral expr.now.nodes from l) }
-    ensures up_to { IfOk result (λ l. IfSome l.rest (λ y. y ≤ from)) }
-    ensures cost { Takes steps.old steps.new 196611 }
+/// The byte that the link is, if it is one alone.
+fn sole_byte(link: &Link) -> Option<u8>
+    ensures { IfSome result (IsThisByte link.now) }
+{
+    match link {
+        Link::Byte(set) => set.sole(),
+        _ => None,
+    }
+}
+
+/// The bytes that the chain's links are from a place on, as far as each is one alone.
+pub fn literal_at(alloc: Global, chain: &[Link], from: usize) -> Result<Vec<u8>, AllocError>
+    requires from { from ≤ length chain.now }
+    ensures literal { IfOk result (λ v. IsLiteral chain.now from v.items) }
 {
     let mut bytes = Vec::new(alloc);
-    let mut index = from;
-    while bytes.len() < MAX_LITERAL {
-        match link_of(expr, index, steps) {
-            Link::OneOf(set, rest) => {
-                let Some(byte) = set.sole() else {
-                    break;
-                };
-                bytes.push(byte)?;
-                let Some(next) = rest else {
-                    return Ok(Literal { bytes, rest });
-                };
-                index = next;
-            }
-            Link::Inner(part) => index = part,
-            _ => break,
-        }
+    while bytes.len() < MAX_LITERAL && from + bytes.len() < chain.len() {
+        let Some(byte) = sole_byte(&chain[from + bytes.len()]) else {
+            break;
+        };
+        bytes.push(byte)?;
     }
-    Ok(Literal {
-        bytes,
-        rest: Some(index),
-    })
+    Ok(bytes)
 }
 
 /// The longer of two literals.
@@ -84,29 +63,18 @@ fn longer(first: Vec<u8>, second: Vec<u8>) -> Vec<u8>
     }
 }
 
-/// The longest of the literals that the spans of the node contain one after another; empty where none is found.
-fn longest_literal(
-    alloc: Global,
-    expr: &Expr,
-    from: usize,
-    steps: &mut Steps,
-) -> Result<Vec<u8>, AllocError>
-    requires inside { IsNode expr.now.nodes from }
-    ensures holds { IfOk result (λ v. AllHold expr.now.nodes from v.items) }
+/// The longest of the literals of the chain; empty where there is none.
+fn longest_literal(alloc: Global, chain: &[Link]) -> Result<Vec<u8>, AllocError>
+    ensures holds { IfOk result (λ v. AllHold chain.now v.items) }
 {
     let mut best = Vec::new(alloc);
-    let mut index = from;
-    loop {
-        let Literal { bytes, rest } = literal_from(alloc, expr, index, steps)?;
+    let mut from = 0;
+    while from < chain.len() {
+        let bytes = literal_at(alloc, chain, from)?;
+        from += bytes.len().max(1);
         best = longer(best, bytes);
-        let Some(rest) = rest else {
-            return Ok(best);
-        };
-        let Form::Both(_, next) = form_of(expr, rest, steps) else {
-            return Ok(best);
-        };
-        index = next;
     }
+    Ok(best)
 }
 
 /// A search for a literal that every match contains, if there is one: an empty one is none.
@@ -120,30 +88,20 @@ fn search_for(
     if literal.is_empty() {
         return Ok(None);
     }
-    match Finder::new(&literal).into_owned(alloc) {
-        Ok(finder) => Ok(Some(RequiredLiteral { finder, is_prefix })),
-        Err(AllocError) => Err(AllocError),
-    }
+    let finder = Finder::new(&literal).into_owned(alloc)?;
+    Ok(Some(RequiredLiteral { finder, is_prefix }))
 }
 
-/// A literal that every match of the expression contains, if one is found: one of two bytes or more with which all begin,
-/// or else the longest that is found.
-pub fn find_required(
-    alloc: Global,
-    expr: &Expr,
-    steps: &mut Steps,
-) -> Result<Option<RequiredLiteral>, AllocError>
-    ensures required { IfOk result (λ n. IsRequired (expression_tree expr.now) n) }
+/// A literal that every match of the expression contains whose chain this is, if one is found: one of two bytes or more with
+/// which all begin, or else the longest that is found.
+pub fn find_required(alloc: Global, chain: &[Link]) -> Result<Option<RequiredLiteral>, AllocError>
+    ensures required { (nodes : List Node) (e : Tree) → IsChain nodes e chain.now → IfOk result (λ n. IsRequired e n) }
 {
-    let root = expr.root().index();
-    let first = literal_from(alloc, expr, root, steps)?;
-    if first.bytes.len() >= 2 {
-        return search_for(alloc, first.bytes, true);
+    let first = literal_at(alloc, chain, 0)?;
+    if first.len() >= 2 {
+        return search_for(alloc, first, true);
     }
-    match longest_literal(alloc, expr, root, steps) {
-        Ok(best) => search_for(alloc, best, false),
-        Err(AllocError) => Err(AllocError),
-    }
+    search_for(alloc, longest_literal(alloc, chain)?, false)
 }
 
 /// The first place from `from` on at which a match can begin, if there is one, as far as the literal shows that each

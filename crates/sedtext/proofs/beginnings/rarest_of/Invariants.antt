@@ -1,11 +1,11 @@
-use Rattle.std.proofs.Common.{◌+◌, ◌*◌, ◌≤◌, length}
-use Rattle.sedre.specs.Tree.{expression_tree}
+use Rattle.std.proofs.Common.{List}
+use Rattle.sedre.specs.Tree.{Tree}
+use Rattle.sedre.specs.declared.types.Node.{Node}
+use Rattle.sedtext.specs.Branches.{AreBranches}
 use Rattle.sedtext.specs.Sieve.{AllPass}
 use Rattle.sedtext.proofs.beginnings.rarest_of.Given as goal
 
 abbrev pub invariant-loop-offset : goal.invariant-loop-offset
 invariant-loop-offset l = record {
-  grows : l.initial.steps ≤ l.steps;
-  cost : l.steps ≤ l.initial.steps + 24 * length l.expr.nodes * l.offset;
-  pass : AllPass (expression_tree l.expr) l.sieve;
+  pass : (nodes : List Node) (e : Tree) → AreBranches nodes e l.branches → AllPass e l.sieve;
 }

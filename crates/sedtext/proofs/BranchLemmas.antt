@@ -1,0 +1,91 @@
+-- The alternatives with which an expression begins, as chains.
+use Rattle.std.proofs.Common.{◌≡◌, ℕ, zero, suc, ◌+◌, ◌<◌, ◌⊎◌, Bool, List, [], ◌∷◌, ◌++◌, take, drop, drop-cons, length, Option, Some, None, refl, sym, ap, ◌∙◌, subst, inl, inr, ⊎_elim, arith}
+use Rattle.std.specs.Prelude.{Vec, IfSome, slice_get, slice_index_or}
+use Rattle.std.specs.List.{All}
+use Rattle.std.proofs.lemmas.Option.{get_or_from_slice_get, slice_get_within}
+use Rattle.std.proofs.lemmas.List.Elements.{All-head, All-tail}
+use Rattle.sedre.specs.declared.types.Node.{Node}
+use Rattle.sedtext.specs.Spans.{Matches}
+use Rattle.sedre.specs.Tree.{Tree}
+use Rattle.sedtext.specs.Branches.{AnyLeads, AllLeadTo, AreBranches, HasOne, IsOneByte, LeadsFrom}
+use Rattle.sedtext.specs.Bytes.{MemberAt}
+use Rattle.sedtext.specs.Links.{ChainLeads, FollowedBy, LinkLeads}
+use Rattle.sedtext.specs.declared.links.Link.{Link}
+use Rattle.sedtext.specs.declared.links.Link.TheVariants.{Byte, Either}
+
+after_set : (nodes : List Node) (w : List ℕ) (l : Link) (i j : ℕ) → IsOneByte l → LinkLeads nodes w l i j → j ≡ i + 1
+after_set nodes w (Byte s) i j is at = at.1
+after_set nodes w other i j is at = absurd is
+
+module _ {A : Type 0} (nodes : List Node) (w : List ℕ) where
+  -- one chain more
+  pub any_more : (cs : List (Vec Link A)) (c : Vec Link A) (i : ℕ) → AnyLeads nodes w cs i ⊎ LeadsFrom nodes w c.items i → AnyLeads nodes w (cs ++ (c ∷ [])) i
+  any_more [] c i which = ⊎_elim (λ no. absurd no) (λ h. inl h) which
+  any_more (d ∷ ds) c i which =
+      ⊎_elim
+      (λ some. ⊎_elim (λ here. inl here) (λ there. inr (any_more ds c i (inl there))) some)
+      (λ last. inr (any_more ds c i (inr last)))
+      which
+
+-- where a chain leads, the links before one, it, and those behind it do
+cut_at : (nodes : List Node) (w : List ℕ) (q : ℕ) (links : List Link) (l : Link) → slice_get links q ≡ Some l → (i j : ℕ) → ChainLeads nodes w links i j →
+    (a : ℕ) × (b : ℕ) × ChainLeads nodes w (take q links) i a × LinkLeads nodes w l a b
+cut_at nodes w q [] l is i j at = let inside = slice_get_within [] q l is in absurd (omega (arith, inside))
+cut_at nodes w zero (m ∷ ms) l is i j at = (i, at.0, refl, subst (λ v. LinkLeads nodes w v i at.0) (get_or_from_slice_get (m ∷ ms) zero l l is) at.1)
+cut_at nodes w (suc q) (m ∷ ms) l is i j at = let f = cut_at nodes w q ms l is at.0 j at.2 in (f.0, f.1, (at.0, at.1, f.2), f.3)
+
+-- a chain with alternatives leads on as one or the other
+pub either_leads : (nodes : List Node) (links left right : List Link) (fixed x y : ℕ) → slice_get links fixed ≡ Some (Either x y) →
+    FollowedBy nodes (take fixed links) x left → FollowedBy nodes (take fixed links) y right → (w : List ℕ) (i : ℕ) → LeadsFrom nodes w links i → LeadsFrom nodes w left i ⊎ LeadsFrom nodes w right i
+either_leads nodes links left right fixed x y there first second w i at =
+    let f = cut_at nodes w fixed links (Either x y) there i at.0 at.1 in
+    ⊎_elim
+    (λ h. inl (f.1, (first w i f.1).0 (f.0, f.2, h)))
+    (λ h. inr (f.1, (second w i f.1).0 (f.0, f.2, h)))
+    f.3
+
+-- behind bytes alone the chain leads over one of the set
+pub member_behind : (nodes : List Node) (w : List ℕ) (offset n : ℕ) (links : List Link) (s : List Bool) → All IsOneByte (take n links) → offset < n → slice_get links offset ≡ Some (Byte s) →
+    (i j : ℕ) → ChainLeads nodes w links i j → MemberAt s w (i + offset)
+member_behind nodes w offset n [] s all inside is i j at = let lies = slice_get_within [] offset (Byte s) is in absurd (omega (arith, lies))
+member_behind nodes w zero n (m ∷ ms) s all inside is i j at =
+    let here = subst (λ v. LinkLeads nodes w v i at.0) (get_or_from_slice_get (m ∷ ms) zero (Byte s) (Byte s) is) at.1 in
+    subst (MemberAt s w) (let e : i ≡ i + 0 = omega arith in e) here.0
+member_behind nodes w (suc offset) (suc n) (m ∷ ms) s all inside is i j at =
+    let next = after_set nodes w m i at.0 (All-head IsOneByte m (take n ms) all) at.1 in
+    let there = member_behind nodes w offset n ms s (All-tail IsOneByte m (take n ms) all) (omega arith) is at.0 j at.2 in
+    subst (MemberAt s w) (let e : at.0 + offset ≡ i + suc offset = omega (arith, next) in e) there
+member_behind nodes w (suc offset) zero (m ∷ ms) s all inside is i j at = absurd (omega arith)
+
+-- one chain more, from the last on
+pub lead_more : {A : Type 0} (cs : List (Vec Link A)) (x offset : ℕ) (c : Vec Link A) (s : List Bool) (old : Option (List Bool)) (new : List Bool) → x < length cs → c ≡ slice_index_or cs x c →
+    ((nodes : List Node) (w : List ℕ) (i : ℕ) → LeadsFrom nodes w c.items i → MemberAt s w (i + offset)) → AllLeadTo (drop (suc x) cs) offset old →
+    ((w : List ℕ) (q : ℕ) → HasOne old w q → MemberAt new w q) → ((w : List ℕ) (q : ℕ) → MemberAt s w q → MemberAt new w q) → AllLeadTo (drop x cs) offset (Some new)
+lead_more cs x offset c s old new inside here first rest keeps adds =
+    let opened : drop x cs ≡ c ∷ drop (suc x) cs = drop-cons cs x c inside ∙ ap (λ v. v ∷ drop (suc x) cs) (sym here) in
+    λ nodes w i at.
+    ⊎_elim
+    (λ h. adds w (i + offset) (first nodes w i h))
+    (λ h. keeps w (i + offset) (rest nodes w i h))
+    (subst (λ v. AnyLeads nodes w v i) opened at)
+
+pub led_to : {A : Type 0} (cs : List (Vec Link A)) (offset x : ℕ) (members : Option (List Bool)) → x ≡ 0 → AllLeadTo (drop x cs) offset members → IfSome members (λ s. AllLeadTo cs offset (Some s))
+led_to cs offset x None first lead = tt
+led_to cs offset x (Some s) first lead = subst (λ v. AllLeadTo (drop v cs) offset (Some s)) first lead
+
+-- where a match begins one of the chains found leads on, or the one that is left
+pub branches_more : {A : Type 0} (nodes : List Node) (e : Tree) (cs all : List (Vec Link A)) (chain : List Link) (left : Vec Link A) (right : List Link) (fixed x y : ℕ) →
+    ((w : List ℕ) (i j : ℕ) → Matches e w i j → AnyLeads nodes w cs i ⊎ LeadsFrom nodes w chain i) → all ≡ cs ++ (left ∷ []) → slice_get chain fixed ≡ Some (Either x y) →
+    FollowedBy nodes (take fixed chain) x left.items → FollowedBy nodes (take fixed chain) y right →
+    (w : List ℕ) (i j : ℕ) → Matches e w i j → AnyLeads nodes w all i ⊎ LeadsFrom nodes w right i
+branches_more nodes e cs all chain left right fixed x y old is there first second w i j at =
+    subst (λ v. AnyLeads nodes w v i ⊎ LeadsFrom nodes w right i) (sym is) (
+    ⊎_elim
+    (λ some. inl (any_more nodes w cs left i (inl some)))
+    (λ here. ⊎_elim (λ l. inl (any_more nodes w cs left i (inr l))) (λ r. inr r) (either_leads nodes chain left.items right fixed x y there first second w i here))
+    (old w i j at)
+    )
+
+pub branches_last : {A : Type 0} (nodes : List Node) (e : Tree) (cs all : List (Vec Link A)) (chain : Vec Link A) →
+    ((w : List ℕ) (i j : ℕ) → Matches e w i j → AnyLeads nodes w cs i ⊎ LeadsFrom nodes w chain.items i) → all ≡ cs ++ (chain ∷ []) → AreBranches nodes e all
+branches_last nodes e cs all chain old is w i j at = subst (λ v. AnyLeads nodes w v i) (sym is) (any_more nodes w cs chain i (old w i j at))

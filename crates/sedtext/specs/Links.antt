@@ -1,0 +1,43 @@
+-- Private to the proofs: no contract that `sedmatch` makes public cites what is here.
+-- An expression as a chain of links: what its spans are made of, one after another.
+use Rattle.std.specs.Prelude.{◌≡◌, ℕ, ◌+◌, ◌<◌, ◌⊎◌, ◌↔◌, List, [], ◌∷◌, length}
+use Rattle.sedre.specs.Tree.{Tree}
+use Rattle.sedre.specs.declared.types.Node.{Node}
+use Rattle.sedtext.specs.Bytes.{MemberAt}
+use Rattle.sedtext.specs.Reach.{HasSpan}
+use Rattle.sedtext.specs.Runs.{SetRepeats}
+use Rattle.sedtext.specs.Spans.{Matches}
+use Rattle.sedtext.specs.declared.links.Link.{Link}
+use Rattle.sedtext.specs.declared.links.Link.TheVariants.{Byte, Run, Start, End, Either, Other}
+
+-- the link leads from i to j
+abbrev pub LinkLeads : List Node → List ℕ → Link → ℕ → ℕ → Type 0
+LinkLeads nodes w (Byte s) i j = MemberAt s w i × (j ≡ i + 1)
+LinkLeads nodes w (Run s) i j = SetRepeats s w i j
+LinkLeads nodes w Start i j = (i ≡ 0) × (j ≡ 0)
+LinkLeads nodes w End i j = (i ≡ length w) × (j ≡ length w)
+LinkLeads nodes w (Either x y) i j = HasSpan nodes w x i j ⊎ HasSpan nodes w y i j
+LinkLeads nodes w (Other x) i j = HasSpan nodes w x i j
+
+-- the links lead from i to j, one after another
+abbrev pub ChainLeads : List Node → List ℕ → List Link → ℕ → ℕ → Type 0
+ChainLeads nodes w [] i j = i ≡ j
+ChainLeads nodes w (l ∷ ls) i j = (k : ℕ) × LinkLeads nodes w l i k × ChainLeads nodes w ls k j
+
+-- the nodes have spans from i to j, one after another, the last one first
+abbrev pub StackLeads : List Node → List ℕ → List ℕ → ℕ → ℕ → Type 0
+StackLeads nodes w [] i j = i ≡ j
+StackLeads nodes w (x ∷ xs) i j = (k : ℕ) × StackLeads nodes w xs i k × HasSpan nodes w x k j
+
+-- the spans of the expression are those of the chain
+abbrev pub IsChain : List Node → Tree → List Link → Type 0
+IsChain nodes e links = (w : List ℕ) (i j : ℕ) → Matches e w i j ↔ ChainLeads nodes w links i j
+
+-- the chain goes on as the node does where the one before it ends
+abbrev pub FollowedBy : List Node → List Link → ℕ → List Link → Type 0
+FollowedBy nodes before x links = (w : List ℕ) (i j : ℕ) → ((k : ℕ) × ChainLeads nodes w before i k × HasSpan nodes w x k j) ↔ ChainLeads nodes w links i j
+
+-- the alternatives of a link are nodes
+abbrev pub IsWithin : ℕ → Link → Type 0
+IsWithin n (Either x y) = (x < n) × (y < n)
+IsWithin n other = Unit {0}

@@ -1,0 +1,111 @@
+//! The alternatives with which an expression begins, as chains, and which bytes are at a fixed distance after the beginning of every
+//! match: the sets of alternatives are joined.
+ghost use Rattle.std.specs.Prelude.{◌≡◌, ℕ, List, ◌+◌, ◌≤◌, length, slice_get, take, IfOk, IfSome, IsTrue, Some};
+ghost use Rattle.std.specs.List.{All};
+ghost use Rattle.sedre.specs.Tree.{expression_tree};
+ghost use Rattle.sedre.specs.declared.types.Node.{Node};
+ghost use Rattle.sedtext.specs.Bytes.{MemberAt};
+ghost use Rattle.sedtext.specs.Branches.{AllLeadTo, AreBranches, HasOne, IsOneByte, LeadsFrom};
+ghost use Rattle.sedtext.specs.Links.{IsChain, IsWithin};
+ghost use Rattle.sedtext.specs.declared.links.Link.TheVariants.{Either};
+
+use crate::links::{Link, links_after};
+use sedre::{ByteSet, Expr, Steps};
+use std::alloc::{AllocError, Global};
+
+/// How many bytes after its beginning a match is followed.
+pub const MAX_OFFSET: usize = 32;
+
+/// How many alternatives after the first are followed.
+const MORE_ALTERNATIVES: usize = 7;
+
+/// Whether the link is a byte.
+fn is_one_byte(link: &Link) -> bool
+    ensures { IsTrue result → IsOneByte link.now }
+{
+    matches!(link, Link::Byte(_))
+}
+
+/// How many of the chain's links are bytes before one that isn't, as far as a match is followed.
+fn lead(chain: &[Link]) -> usize
+    ensures within { result ≤ length chain.now }
+    ensures sets { All IsOneByte (take result chain.now) }
+{
+    let mut count = 0;
+    while count < chain.len() && count < MAX_OFFSET && is_one_byte(&chain[count]) {
+        count += 1;
+    }
+    count
+}
+
+/// The alternatives at a place of the chain, if there are some.
+fn alternatives_at(chain: &[Link], at: usize) -> Option<(usize, usize)>
+    ensures { IfSome result (λ p. slice_get chain.now at ≡ Some (Either p.0 p.1)) }
+{
+    match chain.get(at) {
+        Some(Link::Either(left, right)) => Some((*left, *right)),
+        _ => None,
+    }
+}
+
+/// The chains of which one leads on where a match of the expression begins, whose chain this is: alternatives behind the bytes with
+/// which it begins are chains of their own.
+pub fn branches_of(
+    alloc: Global,
+    expr: &Expr,
+    chain: &[Link],
+    steps: &mut Steps,
+) -> Result<Vec<Vec<Link>>, AllocError>
+    requires chain { IsChain expr.now.nodes (expression_tree expr.now) chain.now }
+    requires within { All (IsWithin (length expr.now.nodes)) chain.now }
+    ensures branches { IfOk result (λ v. AreBranches expr.now.nodes (expression_tree expr.now) v.items) }
+{
+    let mut branches = Vec::new(alloc);
+    let mut chain = chain.to_vec(alloc)?;
+    for _turn in 0..MORE_ALTERNATIVES {
+        let fixed = lead(&chain);
+        let Some((left, right)) = alternatives_at(&chain, fixed) else {
+            break;
+        };
+        branches.push(links_after(alloc, &chain[..fixed], expr, left, steps)?)?;
+        chain = links_after(alloc, &chain[..fixed], expr, right, steps)?;
+    }
+    branches.push(chain)?;
+    Ok(branches)
+}
+
+/// The set of the byte over which the chain leads `offset` bytes after its beginning, if it leads over bytes alone up to there.
+fn set_of(chain: &[Link], offset: usize) -> Option<ByteSet>
+    ensures { IfSome result (λ s. (nodes : List Node) (w : List ℕ) (i : ℕ) → LeadsFrom nodes w chain.now i → MemberAt s w (i + offset)) }
+{
+    if offset >= lead(chain) {
+        return None;
+    }
+    match &chain[offset] {
+        Link::Byte(set) => Some(*set),
+        _ => None,
+    }
+}
+
+/// The members of the set, if there is one, and of one more.
+fn joined(members: Option<ByteSet>, more: &ByteSet) -> ByteSet
+    ensures members { (w : List ℕ) (q : ℕ) → HasOne members w q → MemberAt result w q }
+    ensures more { (w : List ℕ) (q : ℕ) → MemberAt more.now w q → MemberAt result w q }
+{
+    match members {
+        Some(members) => members.union(more),
+        None => *more,
+    }
+}
+
+/// The set of the bytes over which the chains lead `offset` bytes after their beginnings, if each leads over bytes alone up to there.
+pub fn set_at(branches: &[Vec<Link>], offset: usize) -> Option<ByteSet>
+    ensures { IfSome result (λ s. AllLeadTo branches.now offset (Some s)) }
+{
+    let mut members = None;
+    for x in (0..branches.len()).rev() {
+        let set = set_of(&branches[x], offset)?;
+        members = Some(joined(members, &set));
+    }
+    members
+}

@@ -1,0 +1,87 @@
+//! An expression as a chain of links: what its spans are made of, one after another. What follows asks chains alone for what an
+//! expression shows of its matches.
+ghost use Rattle.std.specs.Prelude.{◌≡◌, ℕ, List, [], ◌<◌, ◌↔◌, length, slice_get, IfOk, Some};
+ghost use Rattle.std.specs.List.{All};
+ghost use Rattle.sedre.specs.Arena.{IsArena};
+ghost use Rattle.sedre.specs.Tree.{expression_tree};
+ghost use Rattle.sedtext.specs.Links.{FollowedBy, IsChain, IsWithin, LinkLeads};
+ghost use Rattle.sedtext.specs.Reach.{HasSpan};
+
+use sedre::{ByteSet, Expr, Node, Steps};
+use std::alloc::{AllocError, Global};
+
+/// A link: what comes next in a span.
+#[derive(Clone, Copy)]
+pub enum Link {
+    /// A byte of this set.
+    Byte(ByteSet),
+    /// Any number of bytes of this set.
+    Run(ByteSet),
+    /// No byte, at the beginning of the text.
+    Start,
+    /// No byte, at the end of the text.
+    End,
+    /// A span of either node.
+    Either(usize, usize),
+    /// A span of this node.
+    Other(usize),
+}
+
+/// The link that a node is which is neither a concatenation nor a group.
+fn link_of(expr: &Expr, index: usize, node: &Node, steps: &mut Steps) -> Link
+    requires node { slice_get expr.now.nodes index ≡ Some node.now }
+    requires arena { IsArena expr.now.nodes }
+    ensures leads { (w : List ℕ) (i j : ℕ) → HasSpan expr.now.nodes w index i j ↔ LinkLeads expr.now.nodes w result i j }
+    ensures within { IsWithin (length expr.now.nodes) result }
+{
+    match node {
+        Node::Set(set) => Link::Byte(*set),
+        Node::Begin => Link::Start,
+        Node::End => Link::End,
+        Node::Alt(left, right) => Link::Either(left.index(), right.index()),
+        Node::Star(part, _) => match expr.look(*part, steps) {
+            Node::Set(set) => Link::Run(set),
+            _ => Link::Other(index),
+        },
+        _ => Link::Other(index),
+    }
+}
+
+/// These links, and after them those of the node.
+pub fn links_after(
+    alloc: Global,
+    before: &[Link],
+    expr: &Expr,
+    node: usize,
+    steps: &mut Steps,
+) -> Result<Vec<Link>, AllocError>
+    requires inside { node < length expr.now.nodes }
+    requires within { All (IsWithin (length expr.now.nodes)) before.now }
+    ensures leads { IfOk result (λ v. FollowedBy expr.now.nodes before.now node v.items) }
+    ensures within { IfOk result (λ v. All (IsWithin (length expr.now.nodes)) v.items) }
+{
+    let mut links = before.to_vec(alloc)?;
+    let mut rest = Vec::new(alloc);
+    rest.push(node)?;
+    while let Some(index) = rest.pop() {
+        let node = expr.look(expr.id(index), steps);
+        match node {
+            Node::Seq(left, right) => {
+                rest.push(right.index())?;
+                rest.push(left.index())?;
+            }
+            Node::Group(_, part) => rest.push(part.index())?,
+            _ => links.push(link_of(expr, index, &node, steps))?,
+        }
+    }
+    Ok(links)
+}
+
+/// The chain of the whole expression.
+pub fn chain_of(alloc: Global, expr: &Expr, steps: &mut Steps) -> Result<Vec<Link>, AllocError>
+    ensures chain { IfOk result (λ v. IsChain expr.now.nodes (expression_tree expr.now) v.items) }
+    ensures within { IfOk result (λ v. All (IsWithin (length expr.now.nodes)) v.items) }
+{
+    let root = expr.root().index();
+    links_after(alloc, &[], expr, root, steps)
+}
