@@ -32,28 +32,11 @@ impl Parts {
         requires { script.now.max_nodes ≤ limits.now.nodes }
         ensures { IfOk result (AreEngineParts script.now limits.now) }
     {
-        // What was made is let go of by calls: in place it is proved field by field.
-        let ranges = vec![in alloc; false; script.len()]?;
-        let Ok(idle) = idle_of(alloc, script) else {
-            drop(ranges);
-            return Err(AllocError);
-        };
-        let Ok(store) = Store::new(alloc, script, limits) else {
-            drop(ranges);
-            drop(idle);
-            return Err(AllocError);
-        };
-        let Ok(seekers) = Seekers::new(alloc, script, limits) else {
-            drop(ranges);
-            drop(idle);
-            drop(store);
-            return Err(AllocError);
-        };
         Ok(Parts {
-            ranges,
-            idle,
-            store,
-            seekers,
+            ranges: vec![in alloc; false; script.len()]?,
+            idle: idle_of(alloc, script)?,
+            store: Store::new(alloc, script, limits)?,
+            seekers: Seekers::new(alloc, script, limits)?,
         })
     }
 }
@@ -76,27 +59,11 @@ impl Store {
     fn new(alloc: Global, script: &Script, limits: &Limits) -> Result<Store, AllocError>
         ensures { IfOk result (IsStore script.now limits.now) }
     {
-        let pattern = Space::new(alloc, limits.space())?;
-        let Ok(hold) = Space::new(alloc, hold_room(script, limits)) else {
-            drop(pattern);
-            return Err(AllocError);
-        };
-        let Ok(build) = Space::new(alloc, build_room(script, limits)) else {
-            drop(pattern);
-            drop(hold);
-            return Err(AllocError);
-        };
-        let Ok(queue) = Queue::new(alloc, limits.queue()) else {
-            drop(pattern);
-            drop(hold);
-            drop(build);
-            return Err(AllocError);
-        };
         Ok(Store {
-            pattern,
-            hold,
-            build,
-            queue,
+            pattern: Space::new(alloc, limits.space())?,
+            hold: Space::new(alloc, hold_room(script, limits))?,
+            build: Space::new(alloc, build_room(script, limits))?,
+            queue: Queue::new(alloc, limits.queue())?,
         })
     }
 }

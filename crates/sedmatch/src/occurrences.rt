@@ -118,15 +118,8 @@ impl Occurrences {
     {
         let width = width_for(max_text);
         let kept = Kept::new(alloc, max_text, max_text / width + 1, max_nodes)?;
-        let Ok(shared) = Table::with_room(alloc, REVERSE_ANY, width + 1, max_nodes) else {
-            drop(kept);
-            return Err(AllocError);
-        };
-        let Ok(own) = own_tables(alloc, matchers) else {
-            drop(kept);
-            drop(shared);
-            return Err(AllocError);
-        };
+        let shared = Table::with_room(alloc, REVERSE_ANY, width + 1, max_nodes)?;
+        let own = own_tables(alloc, matchers)?;
         Ok(Occurrences {
             seeking: Seeking {
                 kept,

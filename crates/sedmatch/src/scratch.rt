@@ -57,38 +57,15 @@ impl Scratch {
         ensures { IfOk result (λ s. (s.text ≡ max_text) × (s.nodes ≡ max_nodes)) }
     {
         let block = width_for(max_text);
-        // What was made is let go of by calls: in place it is proved field by field.
-        let room = GroupRoom::new(alloc, max_text, max_text / block + 1, max_nodes)?;
-        let Ok(forward_any) = Table::with_room(alloc, FORWARD_ANY, block + 1, max_nodes) else {
-            drop(room);
-            return Err(AllocError);
-        };
-        let Ok(shared) = GroupTables::with_room(alloc, block + 1, max_nodes) else {
-            drop(room);
-            drop(forward_any);
-            return Err(AllocError);
-        };
-        let Ok(prepared) = Prepared::with_room(alloc, max_nodes) else {
-            drop(room);
-            drop(forward_any);
-            drop(shared);
-            return Err(AllocError);
-        };
-        let Ok(reverse_any) = Table::with_room(alloc, REVERSE_ANY, block + 1, max_nodes) else {
-            drop(room);
-            drop(forward_any);
-            drop(shared);
-            drop(prepared);
-            return Err(AllocError);
-        };
         let desk = Desk {
-            room,
-            forward_any,
-            reverse_any,
-            shared,
+            room: GroupRoom::new(alloc, max_text, max_text / block + 1, max_nodes)?,
+            forward_any: Table::with_room(alloc, FORWARD_ANY, block + 1, max_nodes)?,
+            reverse_any: Table::with_room(alloc, REVERSE_ANY, block + 1, max_nodes)?,
+            shared: GroupTables::with_room(alloc, block + 1, max_nodes)?,
             max_text,
             max_nodes,
         };
+        let prepared = Prepared::with_room(alloc, max_nodes)?;
         Ok(Scratch { desk, prepared })
     }
 

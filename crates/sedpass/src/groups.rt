@@ -111,15 +111,9 @@ impl GroupTables {
         ensures tables { IfOk result (λ t. AreRoomy nodes t) }
         ensures room { IfOk result (λ t. (t.reverse_one.room ≡ room) × (t.forward_one.room ≡ room)) }
     {
-        let forward_one = Table::with_room(alloc, FORWARD_ONE, room, nodes)?;
-        // What was made is let go of by a call: in place it is proved field by field.
-        let Ok(reverse_one) = Table::with_room(alloc, REVERSE_ONE, room, nodes) else {
-            drop(forward_one);
-            return Err(AllocError);
-        };
         Ok(GroupTables {
-            forward_one,
-            reverse_one,
+            forward_one: Table::with_room(alloc, FORWARD_ONE, room, nodes)?,
+            reverse_one: Table::with_room(alloc, REVERSE_ONE, room, nodes)?,
         })
     }
 

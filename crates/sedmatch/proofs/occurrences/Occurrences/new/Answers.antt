@@ -7,8 +7,8 @@ pub returns : goal.returns
 returns c =
     let kept = c.in_ok-kept.kept in
     let of = c.in_ok-kept.ensures in
-    let table = c.in-Ok.ensures.table in
+    let table = c.in_ok-shared.ensures.table in
     let least = c.width_for-width.ensures.least in
-    let new : Occurrences = record { seeking = record { kept = kept; begun = false; tried = 0 }; shared = c.in-Ok.shared; own = c.in-Ok-own_tables.own; number = 0; by_own = false; is_fresh = true } in
+    let new : Occurrences = record { seeking = record { kept = kept; begun = false; tried = 0 }; shared = c.in_ok-shared.shared; own = c.in_ok-own.own; number = 0; by_own = false; is_fresh = true } in
     room_made c.args.max_text c.args.max_nodes c.width_for-width.result c.args.matchers.now new of.places of.edges of.marks (omega (arith, least)) (c.width_for-width.ensures.blocks c.requires.text)
-    (table.0, table.1) table.2 c.in-Ok-own_tables.ensures c.requires.fit
+    (table.0, table.1) table.2 c.in_ok-own.ensures c.requires.fit
