@@ -1,21 +1,25 @@
 //! The count of steps: of looks at nodes, and of what the matcher counts besides.
-ghost use Rattle.std.specs.Prelude.{◌≡◌};
+ghost use Rattle.std.specs.Prelude.{◌≡◌, ◌+◌, ◌*◌, ◌-◌, ◌^◌, ◌≤◌, min};
 ghost use Rattle.sedre.specs.Steps.{Takes, TakesExactly};
 
 use std::marker::Model;
 
 /// How many steps were taken. A count that reaches the largest `u128` stays there.
+// In two halves, a step is one addition, and a branch that is hardly ever taken.
 #[derive(Drop)]
 pub struct Steps {
-    count: u128,
+    low: u64,
+    high: u64,
 }
 
 impl Model for Steps {
-    ghost use Rattle.std.specs.Prelude.{ℕ};
+    ghost use Rattle.std.specs.Prelude.{ℕ, ◌+◌, ◌*◌, ◌<◌, ◌^◌};
 
     ghost Value = { ℕ };
 
-    ghost view = { λ s. s.count };
+    ghost view = { λ s. s.low + 2 ^ 64 * s.high };
+
+    ghost invariant = { λ s. s.high < 2 ^ 64 };
 }
 
 impl Steps {
@@ -23,14 +27,14 @@ impl Steps {
     pub fn new() -> Self
         ensures { result ≡ 0 }
     {
-        Steps { count: 0 }
+        Steps { low: 0, high: 0 }
     }
 
     /// The steps taken so far.
     pub fn count(&self) -> u128
         ensures { result ≡ self.now }
     {
-        self.count
+        self.low as u128 + ((self.high as u128) << 64)
     }
 
     /// Counts `n` more steps.
@@ -38,6 +42,22 @@ impl Steps {
         ensures cost { Takes self.old self.new n }
         ensures counts { TakesExactly self.old self.new n }
     {
-        self.count = self.count.saturating_add(n as u128);
+        match self.low.checked_add(n as u64) {
+            Some(low) => self.low = low,
+            None => (self.low, self.high) = carried(self.low, self.high, n as u64),
+        }
+    }
+}
+
+/// The halves of a count and `n` more, where the low one has no room for these.
+#[inline(never)]
+fn carried(low: u64, high: u64, n: u64) -> (u64, u64)
+    requires { 2 ^ 64 ≤ low + n }
+    ensures { result.0 + 2 ^ 64 * result.1 ≡ min (low + 2 ^ 64 * high + n) (2 ^ 128 - 1) }
+{
+    if high < u64::MAX {
+        (low.wrapping_add(n), high + 1)
+    } else {
+        (u64::MAX, u64::MAX)
     }
 }

@@ -50,29 +50,13 @@ impl SinkDevices {
         ensures bound { WritesAtMost result bytes.now }
         ensures progress { IfOk result (λ n. 0 < length bytes.now → 0 < n) }
     {
-        self.prepare_to_write(sink, bytes);
         let Ok(mut all) = self.all.try_borrow_mut() else {
             return Err(Broken);
         };
+        prepare_to_write(&mut all, sink, bytes);
         match all.get_mut(sink) {
             Some(device) => device.write(bytes),
             None => Err(Broken),
-        }
-    }
-
-    // Writes out what is gathered for the other sinks where a write to this one may wait: who reads both may need it first.
-    fn prepare_to_write(&self, sink: usize, bytes: &[u8]) {
-        let Ok(mut all) = self.all.try_borrow_mut() else {
-            return;
-        };
-        match all.get(sink) {
-            Some(device) if device.may_wait_to_take(bytes) => {}
-            _ => return,
-        }
-        for (number, device) in all.iter_mut().enumerate() {
-            if number != sink {
-                let _ = device.flush();
-            }
         }
     }
 
@@ -109,6 +93,19 @@ impl SinkDevices {
             for device in all.iter_mut().skip(first) {
                 let _ = device.flush();
             }
+        }
+    }
+}
+
+// Writes out what is gathered for the other sinks where a write to this one may wait: who reads both may need it first.
+fn prepare_to_write(all: &mut Vec<BufferedDevice>, sink: usize, bytes: &[u8]) {
+    match all.get(sink) {
+        Some(device) if device.may_wait_to_take(bytes) => {}
+        _ => return,
+    }
+    for (number, device) in all.iter_mut().enumerate() {
+        if number != sink {
+            let _ = device.flush();
         }
     }
 }
