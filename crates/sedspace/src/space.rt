@@ -156,35 +156,34 @@ impl Space {
     }
 
     /// Appends the bytes. Answers `Full`, and changes nothing, exactly where they would pass the limit.
+    #[inline(always)]
     pub fn append(&mut self, bytes: &[u8]) -> Result<(), Full>
         ensures ok { OnOk result (self.new ≡ record self.old { bytes = self.old.bytes ++ bytes.now }) }
         ensures fits { OnOk result (length self.old.bytes + length bytes.now ≤ self.old.limit) }
         ensures full { OnErr result (self.old.limit < length self.old.bytes + length bytes.now) }
         ensures err { OnErr result (self.new ≡ self.old) }
     {
-        self.append_first(bytes, bytes.len())
-    }
-
-    /// Appends the first `count` bytes of the text. Where the text contains more than these, a short copy is faster.
-    fn append_first(&mut self, text: &[u8], count: usize) -> Result<(), Full>
-        requires { count ≤ length text.now }
-        ensures ok { OnOk result (self.new ≡ record self.old { bytes = self.old.bytes ++ take count text.now }) }
-        ensures fits { OnOk result (length self.old.bytes + count ≤ self.old.limit) }
-        ensures full { OnErr result (self.old.limit < length self.old.bytes + count) }
-        ensures err { OnErr result (self.new ≡ self.old) }
-    {
-        if self.most - self.len() < count {
+        if self.most - self.len() < bytes.len() {
             return Err(Full);
         }
         // Before a match at a line's beginning, as after one at its end, comes nothing.
-        if count == 0 {
-            return Ok(());
+        if !bytes.is_empty() {
+            self.append_fitting(bytes);
         }
-        let (front, end) = append_to(&mut self.held, self.front, self.end, self.most, text, count);
+        Ok(())
+    }
+
+    /// Appends bytes for which there is room.
+    #[inline(never)]
+    fn append_fitting(&mut self, bytes: &[u8])
+        requires { length self.old.bytes + length bytes.now ≤ self.old.limit }
+        ensures { self.new ≡ record self.old { bytes = self.old.bytes ++ bytes.now } }
+    {
+        let count = bytes.len();
+        let (front, end) = append_to(&mut self.held, self.front, self.end, self.most, bytes, count);
         self.front = front;
         self.end = end;
         self.clear_last = 0;
-        Ok(())
     }
 
     /// Appends the first `count` bytes of a text, which contain no newline.
