@@ -14,7 +14,7 @@ use crate::nodes::{Prepared, kind_of};
 use crate::rows::Work;
 use crate::table::Table;
 use sedre::Steps;
-use sedtext::counted::{Tally, Text};
+use sedtext::counted::Text;
 
 /// Where a pass is.
 #[derive(Clone, Copy)]
@@ -97,21 +97,16 @@ impl Table {
         ensures cost { CostsWithin steps.old steps.new (2 * min (result.place + 1) to) (2 * from.place) }
         ensures counts { TakesAtLeast steps.old steps.new (2 * (result.place - from.place)) }
     {
-        let mut bytes = Tally::new();
         let mut at = from;
-        for place in from.place..to {
-            let byte = text.tallied(place, &mut bytes);
+        while !at.over && at.place < to {
+            let byte = text.byte(at.place, steps);
+            steps.add(1);
             let cell = self.known(prepared, at.offset, byte, false);
             if cell == 0 {
                 break;
             }
-            at = self.arrive(prepared, text, cell, place + 1, at.end);
-            if at.over {
-                break;
-            }
+            at = self.arrive(prepared, text, cell, at.place + 1, at.end);
         }
-        steps.add(bytes.count());
-        steps.add(bytes.count());
         at
     }
 

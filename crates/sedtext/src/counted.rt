@@ -76,17 +76,6 @@ impl<'a> Text<'a> {
         self.bytes[i]
     }
 
-    /// The byte at a place. Counts one look in the tally.
-    pub fn tallied(&self, i: usize, tally: &mut Tally) -> u8
-        requires inside { i < length self.now }
-        requires fits { tally.old + 1 < 2 ^ 64 }
-        ensures byte { slice_get self.now i ≡ Some result }
-        ensures cost { tally.new ≡ tally.old + 1 }
-    {
-        tally.add();
-        self.bytes[i]
-    }
-
     /// The first place from `from` on that has the byte.
     /// Counts a look for each byte from `from` to that place, or to the end where there is none.
     pub fn find_byte(&self, value: u8, from: usize, steps: &mut Steps) -> Option<usize>
@@ -126,43 +115,6 @@ fn all_bytes(bytes: &[u8])
     ensures { AreBytes bytes.now }
 {
     let _count = bytes.len();
-}
-
-/// The bytes that one loop looks at, counted apart from the steps, to which they are added at its end: so the count
-/// stays in a register.
-#[derive(Drop)]
-pub struct Tally {
-    count: usize,
-}
-
-impl Model for Tally {
-    ghost Value = { ℕ };
-
-    ghost view = { λ t. t.count };
-}
-
-impl Tally {
-    /// A count of no bytes yet.
-    pub fn new() -> Tally
-        ensures { result ≡ 0 }
-    {
-        Tally { count: 0 }
-    }
-
-    /// Counts a byte. Condition: one more fits.
-    pub fn add(&mut self)
-        requires { self.old + 1 < 2 ^ 64 }
-        ensures { self.new ≡ self.old + 1 }
-    {
-        self.count += 1;
-    }
-
-    /// How many bytes there were.
-    pub fn count(&self) -> usize
-        ensures { result ≡ self.now }
-    {
-        self.count
-    }
 }
 
 /// A list of marks, each set or not. A word contains 64 of them.

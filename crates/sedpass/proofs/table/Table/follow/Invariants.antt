@@ -1,14 +1,19 @@
-use Rattle.std.proofs.Common.{◌≡◌, ℕ, ◌+◌, false}
+use Rattle.std.proofs.Common.{ℕ, ◌-◌, ◌*◌, ◌<◌, ◌≤◌, IsTrue}
 use Rattle.sedpass.specs.Table.{IsOffset}
 use Rattle.sedpass.specs.Forwards.{PassIs}
+use Rattle.sedpass.proofs.Words.{CostsWithin, TakesAtLeast}
 use Rattle.sedpass.proofs.table.Table.follow.Given as goal
 
-abbrev pub invariant-loop-place : goal.invariant-loop-place
-invariant-loop-place l = record {
-  place : l.at.place ≡ l.place;
+abbrev pub invariant-loop-at : goal.invariant-loop-at
+invariant-loop-at l = record {
   offset : IsOffset l.self l.at.offset;
-  over : l.at.over ≡ false;
-  steps : l.steps ≡ l.initial.steps;
-  bytes : l.bytes + l.fn.from.place ≡ l.place;
+  after : l.fn.from.place ≤ l.at.place;
+  within : l.at.place ≤ l.to;
+  moved : IsTrue l.at.over → l.fn.from.place < l.at.place;
   passes : (start : ℕ) → PassIs l.prepared l.self l.text start l.fn.from → PassIs l.prepared l.self l.text start l.at;
+  cost : CostsWithin l.initial.steps l.steps (2 * l.at.place) (2 * l.fn.from.place);
+  counts : TakesAtLeast l.initial.steps l.steps (2 * (l.at.place - l.fn.from.place));
 }
+
+abbrev pub decreases-loop-at : goal.decreases-loop-at
+decreases-loop-at l = l.to - l.at.place
