@@ -1,17 +1,19 @@
 -- The alternatives with which an expression begins, as chains.
-use Rattle.std.proofs.Common.{◌≡◌, ℕ, zero, suc, ◌+◌, ◌<◌, ◌⊎◌, Bool, List, [], ◌∷◌, ◌++◌, take, drop, drop-cons, length, Option, Some, None, refl, sym, ap, ◌∙◌, subst, inl, inr, ⊎_elim, arith}
+use Rattle.std.proofs.Common.{◌≡◌, ℕ, zero, suc, ◌+◌, ◌<◌, ◌⊎◌, Bool, List, [], ◌∷◌, ◌++◌, take, drop, drop-cons, length, Option, Some, None, sym, ap, ◌∙◌, subst, inl, inr, ⊎_elim, arith}
 use Rattle.std.specs.Prelude.{Vec, IfSome, slice_get, slice_index_or}
 use Rattle.std.specs.List.{All}
+use Rattle.std.proofs.lemmas.List.{take-append-drop}
 use Rattle.std.proofs.lemmas.Option.{get_or_from_slice_get, slice_get_within}
 use Rattle.std.proofs.lemmas.List.Elements.{All-head, All-tail}
 use Rattle.sedre.specs.declared.types.Node.{Node}
 use Rattle.sedtext.specs.Spans.{Matches}
 use Rattle.sedre.specs.Tree.{Tree}
-use Rattle.sedtext.specs.Branches.{AnyLeads, AllLeadTo, AreBranches, HasOne, IsOneByte, LeadsFrom}
+use Rattle.sedtext.specs.Branches.{AllHave, AnyLeads, AreBranches, HasOne, IsOneByte, LeadsFrom}
 use Rattle.sedtext.specs.Bytes.{MemberAt}
-use Rattle.sedtext.specs.Links.{ChainLeads, FollowedBy, LinkLeads}
+use Rattle.sedtext.specs.Links.{AreAlternatives, ChainLeads, LinkLeads}
 use Rattle.sedtext.specs.declared.links.Link.{Link}
-use Rattle.sedtext.specs.declared.links.Link.TheVariants.{Byte, Either}
+use Rattle.sedtext.specs.declared.links.Link.TheVariants.{Byte}
+use Rattle.sedtext.proofs.LinkLemmas.{chain_split}
 
 after_set : (nodes : List Node) (w : List ℕ) (l : Link) (i j : ℕ) → IsOneByte l → LinkLeads nodes w l i j → j ≡ i + 1
 after_set nodes w (Byte s) i j is at = at.1
@@ -27,23 +29,6 @@ module _ {A : Type 0} (nodes : List Node) (w : List ℕ) where
       (λ last. inr (any_more ds c i (inr last)))
       which
 
--- where a chain leads, the links before one, it, and those behind it do
-cut_at : (nodes : List Node) (w : List ℕ) (q : ℕ) (links : List Link) (l : Link) → slice_get links q ≡ Some l → (i j : ℕ) → ChainLeads nodes w links i j →
-    (a : ℕ) × (b : ℕ) × ChainLeads nodes w (take q links) i a × LinkLeads nodes w l a b
-cut_at nodes w q [] l is i j at = let inside = slice_get_within [] q l is in absurd (omega (arith, inside))
-cut_at nodes w zero (m ∷ ms) l is i j at = (i, at.0, refl, subst (λ v. LinkLeads nodes w v i at.0) (get_or_from_slice_get (m ∷ ms) zero l l is) at.1)
-cut_at nodes w (suc q) (m ∷ ms) l is i j at = let f = cut_at nodes w q ms l is at.0 j at.2 in (f.0, f.1, (at.0, at.1, f.2), f.3)
-
--- a chain with alternatives leads on as one or the other
-pub either_leads : (nodes : List Node) (links left right : List Link) (fixed x y : ℕ) → slice_get links fixed ≡ Some (Either x y) →
-    FollowedBy nodes (take fixed links) x left → FollowedBy nodes (take fixed links) y right → (w : List ℕ) (i : ℕ) → LeadsFrom nodes w links i → LeadsFrom nodes w left i ⊎ LeadsFrom nodes w right i
-either_leads nodes links left right fixed x y there first second w i at =
-    let f = cut_at nodes w fixed links (Either x y) there i at.0 at.1 in
-    ⊎_elim
-    (λ h. inl (f.1, (first w i f.1).0 (f.0, f.2, h)))
-    (λ h. inr (f.1, (second w i f.1).0 (f.0, f.2, h)))
-    f.3
-
 -- behind bytes alone the chain leads over one of the set
 pub member_behind : (nodes : List Node) (w : List ℕ) (offset n : ℕ) (links : List Link) (s : List Bool) → All IsOneByte (take n links) → offset < n → slice_get links offset ≡ Some (Byte s) →
     (i j : ℕ) → ChainLeads nodes w links i j → MemberAt s w (i + offset)
@@ -57,6 +42,10 @@ member_behind nodes w (suc offset) (suc n) (m ∷ ms) s all inside is i j at =
     subst (MemberAt s w) (let e : at.0 + offset ≡ i + suc offset = omega (arith, next) in e) there
 member_behind nodes w (suc offset) zero (m ∷ ms) s all inside is i j at = absurd (omega arith)
 
+-- a byte of the set, if there is one, is `offset` bytes after the place from which one of the chains leads on
+abbrev pub AllLeadTo : {A : Type 0} → List (Vec Link A) → ℕ → Option (List Bool) → Type 0
+AllLeadTo chains offset s = (nodes : List Node) (w : List ℕ) (i : ℕ) → AnyLeads nodes w chains i → HasOne s w (i + offset)
+
 -- one chain more, from the last on
 pub lead_more : {A : Type 0} (cs : List (Vec Link A)) (x offset : ℕ) (c : Vec Link A) (s : List Bool) (old : Option (List Bool)) (new : List Bool) → x < length cs → c ≡ slice_index_or cs x c →
     ((nodes : List Node) (w : List ℕ) (i : ℕ) → LeadsFrom nodes w c.items i → MemberAt s w (i + offset)) → AllLeadTo (drop (suc x) cs) offset old →
@@ -69,20 +58,22 @@ lead_more cs x offset c s old new inside here first rest keeps adds =
     (λ h. keeps w (i + offset) (rest nodes w i h))
     (subst (λ v. AnyLeads nodes w v i) opened at)
 
-pub led_to : {A : Type 0} (cs : List (Vec Link A)) (offset x : ℕ) (members : Option (List Bool)) → x ≡ 0 → AllLeadTo (drop x cs) offset members → IfSome members (λ s. AllLeadTo cs offset (Some s))
+pub led_to : {A : Type 0} (cs : List (Vec Link A)) (offset x : ℕ) (members : Option (List Bool)) → x ≡ 0 → AllLeadTo (drop x cs) offset members →
+    IfSome members (λ s. (nodes : List Node) (e : Tree) → AreBranches nodes e cs → AllHave e offset s)
 led_to cs offset x None first lead = tt
-led_to cs offset x (Some s) first lead = subst (λ v. AllLeadTo (drop v cs) offset (Some s)) first lead
+led_to cs offset x (Some s) first lead = λ nodes e are w i j at. subst (λ v. AllLeadTo (drop v cs) offset (Some s)) first lead nodes w i (are w i j at)
 
 -- where a match begins one of the chains found leads on, or the one that is left
-pub branches_more : {A : Type 0} (nodes : List Node) (e : Tree) (cs all : List (Vec Link A)) (chain : List Link) (left : Vec Link A) (right : List Link) (fixed x y : ℕ) →
-    ((w : List ℕ) (i j : ℕ) → Matches e w i j → AnyLeads nodes w cs i ⊎ LeadsFrom nodes w chain i) → all ≡ cs ++ (left ∷ []) → slice_get chain fixed ≡ Some (Either x y) →
-    FollowedBy nodes (take fixed chain) x left.items → FollowedBy nodes (take fixed chain) y right →
+pub branches_more : {A : Type 0} (nodes : List Node) (e : Tree) (cs all : List (Vec Link A)) (chain : List Link) (left : Vec Link A) (right : List Link) (n : ℕ) →
+    ((w : List ℕ) (i j : ℕ) → Matches e w i j → AnyLeads nodes w cs i ⊎ LeadsFrom nodes w chain i) → all ≡ cs ++ (left ∷ []) → AreAlternatives nodes (take n chain) left.items right →
     (w : List ℕ) (i j : ℕ) → Matches e w i j → AnyLeads nodes w all i ⊎ LeadsFrom nodes w right i
-branches_more nodes e cs all chain left right fixed x y old is there first second w i j at =
+branches_more nodes e cs all chain left right n old is ways w i j at =
     subst (λ v. AnyLeads nodes w v i ⊎ LeadsFrom nodes w right i) (sym is) (
     ⊎_elim
     (λ some. inl (any_more nodes w cs left i (inl some)))
-    (λ here. ⊎_elim (λ l. inl (any_more nodes w cs left i (inr l))) (λ r. inr r) (either_leads nodes chain left.items right fixed x y there first second w i here))
+    (λ here.
+    let f = chain_split nodes w (take n chain) (drop n chain) i here.0 (subst (λ v. ChainLeads nodes w v i here.0) (sym (take-append-drop n chain)) here.1) in
+    ⊎_elim (λ l. inl (any_more nodes w cs left i (inr (f.0, l)))) (λ r. inr (f.0, r)) ((ways.spans w i f.0).0 f.1))
     (old w i j at)
     )
 

@@ -1,7 +1,8 @@
 -- Chains of links, cut and joined, and how a node is taken apart into one.
-use Rattle.std.proofs.Common.{◌≡◌, ℕ, zero, suc, ◌+◌, ◌<◌, ◌≤◌, ◌↔◌, Bool, false, List, [], ◌∷◌, ◌++◌, append_assoc, drop, length, Some, refl, sym, ap, ◌∙◌, subst, inl, inr, ⊎_elim, arith}
-use Rattle.std.specs.Prelude.{slice_get}
+use Rattle.std.proofs.Common.{◌≡◌, ℕ, zero, suc, ◌+◌, ◌<◌, ◌≤◌, ◌↔◌, Bool, false, List, [], ◌∷◌, ◌++◌, append_assoc, drop, length, take, Some, refl, sym, ap, ◌∙◌, subst, inl, inr, ⊎_elim, arith}
+use Rattle.std.specs.Prelude.{slice_get, slice_index_or}
 use Rattle.std.specs.List.{All}
+use Rattle.std.proofs.lemmas.List.{append-nil, take_more}
 use Rattle.std.proofs.lemmas.List.Elements.{All-append, All-nil, All-pop, All-push}
 use Rattle.std.proofs.lemmas.Option.{slice_get_within}
 use Rattle.sedre.specs.Arena.{IsArena, IsPart}
@@ -9,7 +10,7 @@ use Rattle.sedre.specs.Tree.{any_copies, byte_of, size, tree_at}
 use Rattle.sedre.specs.declared.types.Node.{Node}
 use Rattle.sedre.specs.declared.types.Node.TheVariants.{Set, Seq, Group, Star}
 use Rattle.sedre.specs.declared.types.NodeId.{NodeId}
-use Rattle.sedtext.specs.Links.{ChainLeads, FollowedBy, IsChain, LinkLeads, StackLeads}
+use Rattle.sedtext.specs.Links.{AreAlternatives, ChainLeads, IsContinuation, IsChain, IsWithin, LinkLeads}
 use Rattle.sedtext.specs.Nodes.{total_size}
 use Rattle.sedtext.specs.Bytes.{MemberAt}
 use Rattle.sedtext.specs.Reach.{HasSpan}
@@ -27,20 +28,34 @@ module _ (nodes : List Node) (w : List ℕ) where
   chain_split [] ms i j at = (i, refl, at)
   chain_split (l ∷ ls) ms i j at = let f = chain_split ls ms at.0 j at.2 in (f.0, (at.0, at.1, f.1), f.2)
 
-  pub chain_join : (ls ms : List Link) (i k j : ℕ) → ChainLeads nodes w ls i k → ChainLeads nodes w ms k j → ChainLeads nodes w (ls ++ ms) i j
+  chain_join : (ls ms : List Link) (i k j : ℕ) → ChainLeads nodes w ls i k → ChainLeads nodes w ms k j → ChainLeads nodes w (ls ++ ms) i j
   chain_join [] ms i k j same rest = subst (λ v. ChainLeads nodes w ms v j) (sym same) rest
   chain_join (l ∷ ls) ms i k j at rest = (at.0, at.1, chain_join ls ms at.0 k j at.2 rest)
 
-  stack_split : (xs ys : List ℕ) (i j : ℕ) → StackLeads nodes w (xs ++ ys) i j → (k : ℕ) × StackLeads nodes w ys i k × StackLeads nodes w xs k j
-  stack_split [] ys i j at = (j, at, refl)
-  stack_split (y ∷ xs) ys i j at = let f = stack_split xs ys i at.0 at.1 in (f.0, f.1, (at.0, f.2, at.2))
+-- the two lead alike
+abbrev pub LeadAlike : List Node → List Link → List Link → Type 0
+LeadAlike nodes links others = (w : List ℕ) (i j : ℕ) → ChainLeads nodes w links i j ↔ ChainLeads nodes w others i j
 
-  stack_join : (xs ys : List ℕ) (i k j : ℕ) → StackLeads nodes w ys i k → StackLeads nodes w xs k j → StackLeads nodes w (xs ++ ys) i j
-  stack_join [] ys i k j at same = subst (StackLeads nodes w ys i) same at
-  stack_join (y ∷ xs) ys i k j at rest = (rest.0, stack_join xs ys i k rest.0 at rest.1, rest.2)
+-- links in place of others that lead alike
+module _ (nodes : List Node) (ls ms : List Link) where
+  lead_through : (here there : List Link) (w : List ℕ) → ((i j : ℕ) → ChainLeads nodes w here i j → ChainLeads nodes w there i j) → (i j : ℕ) →
+      ChainLeads nodes w (ls ++ (here ++ ms)) i j → ChainLeads nodes w (ls ++ (there ++ ms)) i j
+  lead_through here there w to i j at =
+      let f = chain_split nodes w ls (here ++ ms) i j at in
+      let g = chain_split nodes w here ms f.0 j f.2 in
+      chain_join nodes w ls (there ++ ms) i f.0 j f.1 (chain_join nodes w there ms f.0 g.0 j (to f.0 g.0 g.1) g.2)
 
-  one_stack : (x i j : ℕ) → StackLeads nodes w (x ∷ []) i j ↔ HasSpan nodes w x i j
-  one_stack x i j = ((λ h. subst (λ v. HasSpan nodes w x v j) (sym h.1) h.2), (λ at. (i, refl, at)))
+  alike_through : (here there : List Link) → LeadAlike nodes here there → LeadAlike nodes (ls ++ (here ++ ms)) (ls ++ (there ++ ms))
+  alike_through here there alike w i j = (lead_through here there w (λ a b. (alike w a b).0) i j, lead_through there here w (λ a b. (alike w a b).1) i j)
+
+-- the nodes as links, the last one first
+abbrev pub others : List ℕ → List Link
+others [] = []
+others (x ∷ xs) = others xs ++ (Other x ∷ [])
+
+others_join : (xs ys : List ℕ) → others (xs ++ ys) ≡ others ys ++ others xs
+others_join [] ys = sym (append-nil (others ys))
+others_join (x ∷ xs) ys = ap (λ v. v ++ (Other x ∷ [])) (others_join xs ys) ∙ append_assoc (others ys) (others xs) (Other x ∷ [])
 
 total_join : (nodes : List Node) (xs ys : List ℕ) → total_size nodes (xs ++ ys) ≡ total_size nodes xs + total_size nodes ys
 total_join nodes [] ys = omega arith
@@ -94,109 +109,105 @@ run_leads nodes arena x a first s star set w i j = (
   λ copies. close_at nodes w x (Star a first) arena star i j (copies_alike (Matches (byte_of s) w) (HasSpan nodes w a.index) (close_at nodes w a.index (Set s) arena set) j i copies),
 )
 
--- the node's spans, after those of the links before it, are those of the links, and of the nodes that are left
+-- The links, and after them the nodes that are left, lead as the links before do, and the node after them.
 pub record IsLeft (nodes : List Node) (before : List Link) (x : ℕ) (links : List Link) (rest : List ℕ) : Type 0 where
-  pub leads : (w : List ℕ) (i j : ℕ) → ((k : ℕ) × ChainLeads nodes w before i k × HasSpan nodes w x k j) ↔ ((k : ℕ) × ChainLeads nodes w links i k × StackLeads nodes w rest k j)
+  pub spans : LeadAlike nodes (before ++ (Other x ∷ [])) (links ++ others rest)
   pub inside : All (λ v. v < length nodes) rest
 
 module _ (nodes : List Node) (before : List Link) (x : ℕ) where
   pub all_left : (links : List Link) (none rest : List ℕ) → links ≡ before → none ≡ [] → rest ≡ none ++ (x ∷ []) → x < length nodes → IsLeft nodes before x links rest
   all_left links none rest same empty is inside = subst (λ v. IsLeft nodes before x v rest) (sym same) (subst (IsLeft nodes before x before) (sym (is ∙ ap (λ v. v ++ (x ∷ [])) empty)) (record {
-    leads = λ w i j. (λ f. (f.0, f.1, (one_stack nodes w x f.0 j).1 f.2), λ f. (f.0, f.1, (one_stack nodes w x f.0 j).0 f.2));
+    spans = λ w i j. ((λ h. h), (λ h. h));
     inside = All-push (λ v. v < length nodes) [] x (All-nil (λ v. v < length nodes)) inside;
   }))
 
-  pub none_left : (links : List Link) (rest : List ℕ) → rest ≡ [] → IsLeft nodes before x links rest → FollowedBy nodes before x links
-  none_left links rest none left w i j =
-      let these = (subst (IsLeft nodes before x links) none left).leads w i j in (
-        λ f. let h = these.0 f in subst (ChainLeads nodes w links i) h.2 h.1,
-        λ at. these.1 (j, at, refl),
-      )
+  pub none_left : (links : List Link) (rest : List ℕ) → rest ≡ [] → IsLeft nodes before x links rest → All (IsWithin (length nodes)) links → IsContinuation nodes before x links
+  none_left links rest none left within = record {
+    spans = subst (LeadAlike nodes (before ++ (Other x ∷ []))) (ap (λ v. links ++ others v) none ∙ append-nil links) left.spans;
+    within = within;
+  }
 
   module _ (links : List Link) (stack rest : List ℕ) (y : ℕ) (popped : stack ≡ rest ++ (y ∷ [])) (left : IsLeft nodes before x links stack) where
-    size_before : total_size nodes stack ≡ total_size nodes rest + size (tree_at nodes y)
-    size_before = let whole = ap (total_size nodes) popped ∙ total_join nodes rest (y ∷ []) in omega (arith, whole)
-
-    rest_inside : All (λ v. v < length nodes) rest
-    rest_inside = (All-pop (λ v. v < length nodes) stack rest (Some y) popped left.inside).0
-
-    -- parts in place of the last node: they lead as it does, and the stack is smaller for it
-    left_with : (more new : List ℕ) → new ≡ rest ++ more → ((w : List ℕ) (i j : ℕ) → StackLeads nodes w more i j ↔ HasSpan nodes w y i j) → All (λ v. v < length nodes) more →
-        total_size nodes more < size (tree_at nodes y) → IsLeft nodes before x links new × (total_size nodes new < total_size nodes stack)
-    left_with more new is same inside less =
-        let these = (subst (IsLeft nodes before x links) popped left).leads in
+    -- links in place of the last node, to those found or to those that are left: they lead as it does, and the stack is smaller for it
+    left_with : (these longer : List Link) (more new : List ℕ) → LeadAlike nodes (Other y ∷ []) these → new ≡ rest ++ more → longer ++ others more ≡ links ++ these →
+        All (λ v. v < length nodes) more → total_size nodes more < size (tree_at nodes y) → IsLeft nodes before x longer new × (total_size nodes new < total_size nodes stack)
+    left_with these longer more new alike is same inside less =
+        let size_before = ap (total_size nodes) popped ∙ total_join nodes rest (y ∷ []) in
         let size_after = ap (total_size nodes) is ∙ total_join nodes rest more in
-        let whole = size_before in (
-          subst (IsLeft nodes before x links) (sym is) (record {
-            leads = λ w i j. (
-              λ f.
-                  let h = (these w i j).0 f in
-                  let g = stack_split nodes w rest (y ∷ []) h.0 j h.2 in
-                  (h.0, h.1, stack_join nodes w rest more h.0 g.0 j ((same w h.0 g.0).1 ((one_stack nodes w y h.0 g.0).0 g.1)) g.2),
-              λ h.
-                  let g = stack_split nodes w rest more h.0 j h.2 in
-                  (these w i j).1 (h.0, h.1, stack_join nodes w rest (y ∷ []) h.0 g.0 j ((one_stack nodes w y h.0 g.0).1 ((same w h.0 g.0).0 g.1)) g.2),
-            );
-            inside = All-append (λ v. v < length nodes) rest more rest_inside inside;
-          }),
-          omega (arith, size_after, whole, less),
+        let old : links ++ others stack ≡ links ++ ((Other y ∷ []) ++ others rest) = ap (λ v. links ++ v) (ap others popped ∙ others_join rest (y ∷ [])) in
+        let now : longer ++ others new ≡ links ++ (these ++ others rest) =
+        ap (λ v. longer ++ v) (ap others is ∙ others_join rest more) ∙ sym (append_assoc longer (others more) (others rest)) ∙ ap (λ v. v ++ others rest) same ∙ append_assoc links these (others rest) in
+        let through = alike_through nodes links (others rest) (Other y ∷ []) these alike in
+        let leads = subst (LeadAlike nodes (before ++ (Other x ∷ []))) old left.spans in (
+          record {
+            spans = subst (LeadAlike nodes (before ++ (Other x ∷ []))) (sym now) (λ w i j. ((λ at. (through w i j).0 ((leads w i j).0 at)), (λ at. (leads w i j).1 ((through w i j).1 at))));
+            inside = subst (All (λ v. v < length nodes)) (sym is) (All-append (λ v. v < length nodes) rest more (All-pop (λ v. v < length nodes) stack rest (Some y) popped left.inside).0 inside);
+          },
+          omega (arith, size_before, size_after, less),
         )
-
-    pub left_parts : (arena : IsArena nodes) (a b : NodeId) (c d : ℕ) (one both : List ℕ) → slice_get nodes y ≡ Some (Seq a b) → c ≡ a.index → d ≡ b.index → one ≡ rest ++ (d ∷ []) → both ≡ one ++ (c ∷ []) →
-        IsLeft nodes before x links both × (total_size nodes both < total_size nodes stack)
-    left_parts arena a b c d one both is first second with_second with_first =
-        let whole = size-parts nodes arena y (Seq a b) is in
-        let whole_is : size (tree_at nodes y) ≡ 1 + (size (tree_at nodes c) + (size (tree_at nodes d) + 0)) = rw (first, second) whole in
-        let left_in = part_inside nodes arena y (Seq a b) a.index is (inl refl) in
-        let right_in = part_inside nodes arena y (Seq a b) b.index is (inr refl) in
-        left_with (d ∷ c ∷ []) both (with_first ∙ ap (λ v. v ++ (c ∷ [])) with_second ∙ append_assoc rest (d ∷ []) (c ∷ [])) (λ w i j. (
-          λ h. close_at nodes w y (Seq a b) arena is i j (h.0, subst (λ v. HasSpan nodes w v i h.0) first ((one_stack nodes w c i h.0).0 h.1), subst (λ v. HasSpan nodes w v h.0 j) second h.2),
-          λ at.
-              let f = open_at nodes w y (Seq a b) arena is i j at in
-              (f.0, (one_stack nodes w c i f.0).1 (subst (λ v. HasSpan nodes w v i f.0) (sym first) f.1), subst (λ v. HasSpan nodes w v f.0 j) (sym second) f.2),
-        )) (All-push (λ v. v < length nodes) (d ∷ []) c (All-push (λ v. v < length nodes) [] d (All-nil (λ v. v < length nodes)) (omega (arith, right_in, second))) (omega (arith, left_in, first)))
-        (omega (arith, whole_is))
-
-    pub left_inner : (arena : IsArena nodes) (number : ℕ) (a : NodeId) (c : ℕ) (one : List ℕ) → slice_get nodes y ≡ Some (Group number a) → c ≡ a.index → one ≡ rest ++ (c ∷ []) →
-        IsLeft nodes before x links one × (total_size nodes one < total_size nodes stack)
-    left_inner arena number a c one is part inner =
-        let whole = size-parts nodes arena y (Group number a) is in
-        let whole_is : size (tree_at nodes y) ≡ 1 + (size (tree_at nodes c) + 0) = rw part whole in
-        let part_in = part_inside nodes arena y (Group number a) a.index is refl in
-        left_with (c ∷ []) one inner (λ w i j. (
-          λ h. close_at nodes w y (Group number a) arena is i j (subst (λ v. HasSpan nodes w v i j) part ((one_stack nodes w c i j).0 h)),
-          λ at. (one_stack nodes w c i j).1 (subst (λ v. HasSpan nodes w v i j) (sym part) (open_at nodes w y (Group number a) arena is i j at)),
-        )) (All-push (λ v. v < length nodes) [] c (All-nil (λ v. v < length nodes)) (omega (arith, part_in, part)))
-        (omega (arith, whole_is))
 
     -- a link in place of it
     pub left_behind : (l : Link) (longer : List Link) → ((w : List ℕ) (i j : ℕ) → HasSpan nodes w y i j ↔ LinkLeads nodes w l i j) → longer ≡ links ++ (l ∷ []) →
         IsLeft nodes before x longer rest × (total_size nodes rest < total_size nodes stack)
     left_behind l longer as_link more =
-        let these = (subst (IsLeft nodes before x links) popped left).leads in
-        let some = size-pos (tree_at nodes y) in
-        let whole = size_before in (
-          subst (λ v. IsLeft nodes before x v rest) (sym more) (record {
-            leads = λ w i j. (
-              λ f.
-                  let h = (these w i j).0 f in
-                  let g = stack_split nodes w rest (y ∷ []) h.0 j h.2 in
-                  (g.0, chain_join nodes w links (l ∷ []) i h.0 g.0 h.1 (g.0, (as_link w h.0 g.0).0 ((one_stack nodes w y h.0 g.0).0 g.1), refl), g.2),
-              λ h.
-                  let g = chain_split nodes w links (l ∷ []) i h.0 h.1 in
-                  let at : LinkLeads nodes w l g.0 h.0 = subst (LinkLeads nodes w l g.0) g.2.2 g.2.1 in
-                  (these w i j).1 (g.0, g.1, stack_join nodes w rest (y ∷ []) g.0 h.0 j ((one_stack nodes w y g.0 h.0).1 ((as_link w g.0 h.0).1 at)) h.2),
-            );
-            inside = rest_inside;
-          }),
-          omega (arith, some, whole),
-        )
+        left_with (l ∷ []) longer [] rest (λ w i j. ((λ h. (h.0, (as_link w i h.0).0 h.1, h.2)), (λ h. (h.0, (as_link w i h.0).1 h.1, h.2)))) (sym (append-nil rest)) (append-nil longer ∙ more)
+        (All-nil (λ v. v < length nodes)) (size-pos (tree_at nodes y))
+
+    module _ (arena : IsArena nodes) where
+      pub left_parts : (a b : NodeId) (one both : List ℕ) → slice_get nodes y ≡ Some (Seq a b) → one ≡ rest ++ (b.index ∷ []) → both ≡ one ++ (a.index ∷ []) →
+          IsLeft nodes before x links both × (total_size nodes both < total_size nodes stack)
+      left_parts a b one both is with_second with_first =
+          let whole = size-parts nodes arena y (Seq a b) is in
+          let left_in = part_inside nodes arena y (Seq a b) a.index is (inl refl) in
+          let right_in = part_inside nodes arena y (Seq a b) b.index is (inr refl) in
+          left_with (Other a.index ∷ Other b.index ∷ []) links (b.index ∷ a.index ∷ []) both (λ w i j. (
+            (λ h. let f = open_at nodes w y (Seq a b) arena is i h.0 h.1 in (f.0, f.1, (h.0, f.2, h.2))),
+            (λ h. (h.2.0, close_at nodes w y (Seq a b) arena is i h.2.0 (h.0, h.1, h.2.1), h.2.2)),
+          )) (with_first ∙ ap (λ v. v ++ (a.index ∷ [])) with_second ∙ append_assoc rest (b.index ∷ []) (a.index ∷ [])) refl
+          (All-push (λ v. v < length nodes) (b.index ∷ []) a.index (All-push (λ v. v < length nodes) [] b.index (All-nil (λ v. v < length nodes)) right_in) left_in) (omega (arith, whole))
+
+      pub left_inner : (number : ℕ) (a : NodeId) (one : List ℕ) → slice_get nodes y ≡ Some (Group number a) → one ≡ rest ++ (a.index ∷ []) →
+          IsLeft nodes before x links one × (total_size nodes one < total_size nodes stack)
+      left_inner number a one is inner =
+          let whole = size-parts nodes arena y (Group number a) is in
+          let part_in = part_inside nodes arena y (Group number a) a.index is refl in
+          left_with (Other a.index ∷ []) links (a.index ∷ []) one (λ w i j. (
+            (λ h. (h.0, open_at nodes w y (Group number a) arena is i h.0 h.1, h.2)),
+            (λ h. (h.0, close_at nodes w y (Group number a) arena is i h.0 h.1, h.2)),
+          )) inner refl (All-push (λ v. v < length nodes) [] a.index (All-nil (λ v. v < length nodes)) part_in) (omega (arith, whole))
 
 -- a chain that begins with the node
-pub whole_chain : (nodes : List Node) (before links : List Link) (x last : ℕ) → before ≡ [] → x ≡ last → FollowedBy nodes before x links → IsChain nodes (tree_at nodes last) links
-whole_chain nodes before links x last none same goes =
-    let from_root = subst (λ v. FollowedBy nodes [] v links) same (subst (λ v. FollowedBy nodes v x links) none goes) in
-    λ w i j. (
-      λ at. (from_root w i j).0 (i, refl, at),
-      λ at. let f = (from_root w i j).1 at in subst (λ k. HasSpan nodes w last k j) (sym f.1) f.2,
-    )
+pub whole_chain : (nodes : List Node) (x last : ℕ) (links : List Link) → x ≡ last → IsContinuation nodes [] x links → IsChain nodes (tree_at nodes last) links
+whole_chain nodes x last links same goes =
+    let leads = (subst (λ v. IsContinuation nodes [] v links) same goes).spans in
+    record {
+      spans = λ w i j. (
+        (λ at. (leads w i j).0 (j, at, refl)),
+        (λ at. let f = (leads w i j).1 at in subst (HasSpan nodes w last i) f.2 f.1),
+      );
+      within = goes.within;
+    }
+
+-- behind the links before both alternatives are what a link is that is either
+pub both_ways : (nodes : List Node) (links left right : List Link) (q x y : ℕ) → q < length links → Either x y ≡ slice_index_or links q (Either x y) →
+    IsContinuation nodes (take q links) x left → IsContinuation nodes (take q links) y right → AreAlternatives nodes (take (q + 1) links) left right
+both_ways nodes links left right q x y inside is first second =
+    let before = take q links in
+    let opened : take (q + 1) links ≡ before ++ (Either x y ∷ []) = take_more links q (Either x y) inside ∙ ap (λ v. before ++ (v ∷ [])) (sym is) in
+    record {
+      spans = λ w i j. (
+        (λ at.
+            let f = chain_split nodes w before (Either x y ∷ []) i j (subst (λ v. ChainLeads nodes w v i j) opened at) in
+            ⊎_elim
+            (λ h. inl ((first.spans w i j).0 (chain_join nodes w before (Other x ∷ []) i f.0 j f.1 (f.2.0, h, f.2.2))))
+            (λ h. inr ((second.spans w i j).0 (chain_join nodes w before (Other y ∷ []) i f.0 j f.1 (f.2.0, h, f.2.2))))
+            f.2.1),
+        (λ which. subst (λ v. ChainLeads nodes w v i j) (sym opened) (
+            ⊎_elim
+            (λ h. lead_through nodes before [] (Other x ∷ []) (Either x y ∷ []) w (λ a b s. (s.0, inl s.1, s.2)) i j ((first.spans w i j).1 h))
+            (λ h. lead_through nodes before [] (Other y ∷ []) (Either x y ∷ []) w (λ a b s. (s.0, inr s.1, s.2)) i j ((second.spans w i j).1 h))
+            which
+            )),
+      );
+      within = (first.within, second.within);
+    }

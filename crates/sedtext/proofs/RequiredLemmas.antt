@@ -129,8 +129,8 @@ module _ (e : Tree) (w : List ℕ) (p : ℕ) (n : RequiredLiteral) (holds : IsRe
 module _ (nodes : List Node) (e : Tree) (links : List Link) (chain : IsChain nodes e links) (literal : List ℕ) where
   -- a literal with which the chain begins is a prefix that each match has
   pub prefix_required : IsLiteral links 0 literal → Requires e literal true
-  prefix_required is w i j within at = (i, omega arith, (λ _. refl), ((is.1 nodes w i j within).0 ((chain w i j).0 at)).0)
+  prefix_required is w i j within at = (i, omega arith, (λ _. refl), ((is.1 nodes w i j within).0 ((chain.spans w i j).0 at)).0)
 
   -- and one that it holds occurs in each match, or behind its beginning
   pub part_required : AllHold links literal → Requires e literal false
-  part_required hold w i j within at = let f = hold nodes w i j within ((chain w i j).0 at) in (f.0, f.1, (λ no. absurd (true≢false (sym no))), f.2)
+  part_required hold w i j within at = let f = hold nodes w i j within ((chain.spans w i j).0 at) in (f.0, f.1, (λ no. absurd (true≢false (sym no))), f.2)

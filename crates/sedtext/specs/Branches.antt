@@ -32,10 +32,6 @@ abbrev pub HasOne : Option (List Bool) → List ℕ → ℕ → Type 0
 HasOne None w q = ⊥
 HasOne (Some s) w q = MemberAt s w q
 
--- a byte of the set, if there is one, is `offset` bytes after the place from which one of the chains leads on
-abbrev pub AllLeadTo : {A : Type 0} → List (Vec Link A) → ℕ → Option (List Bool) → Type 0
-AllLeadTo chains offset s = (nodes : List Node) (w : List ℕ) (i : ℕ) → AnyLeads nodes w chains i → HasOne s w (i + offset)
-
 -- a byte of the set is `offset` bytes after the beginning of each span of the expression
 abbrev pub AllHave : Tree → ℕ → List Bool → Type 0
 AllHave e offset s = (w : List ℕ) (i j : ℕ) → Matches e w i j → MemberAt s w (i + offset)

@@ -1,6 +1,7 @@
 -- Private to the proofs: no contract that `sedmatch` makes public cites what is here.
 -- An expression as a chain of links: what its spans are made of, one after another.
-use Rattle.std.specs.Prelude.{◌≡◌, ℕ, ◌+◌, ◌<◌, ◌⊎◌, ◌↔◌, List, [], ◌∷◌, length}
+use Rattle.std.specs.Prelude.{◌≡◌, ℕ, ◌+◌, ◌<◌, ◌⊎◌, ◌↔◌, List, [], ◌∷◌, ◌++◌, length}
+use Rattle.std.specs.List.{All}
 use Rattle.sedre.specs.Tree.{Tree}
 use Rattle.sedre.specs.declared.types.Node.{Node}
 use Rattle.sedtext.specs.Bytes.{MemberAt}
@@ -24,20 +25,22 @@ abbrev pub ChainLeads : List Node → List ℕ → List Link → ℕ → ℕ →
 ChainLeads nodes w [] i j = i ≡ j
 ChainLeads nodes w (l ∷ ls) i j = (k : ℕ) × LinkLeads nodes w l i k × ChainLeads nodes w ls k j
 
--- the nodes have spans from i to j, one after another, the last one first
-abbrev pub StackLeads : List Node → List ℕ → List ℕ → ℕ → ℕ → Type 0
-StackLeads nodes w [] i j = i ≡ j
-StackLeads nodes w (x ∷ xs) i j = (k : ℕ) × StackLeads nodes w xs i k × HasSpan nodes w x k j
-
--- the spans of the expression are those of the chain
-abbrev pub IsChain : List Node → Tree → List Link → Type 0
-IsChain nodes e links = (w : List ℕ) (i j : ℕ) → Matches e w i j ↔ ChainLeads nodes w links i j
-
--- the chain goes on as the node does where the one before it ends
-abbrev pub FollowedBy : List Node → List Link → ℕ → List Link → Type 0
-FollowedBy nodes before x links = (w : List ℕ) (i j : ℕ) → ((k : ℕ) × ChainLeads nodes w before i k × HasSpan nodes w x k j) ↔ ChainLeads nodes w links i j
-
 -- the alternatives of a link are nodes
 abbrev pub IsWithin : ℕ → Link → Type 0
 IsWithin n (Either x y) = (x < n) × (y < n)
 IsWithin n other = Unit {0}
+
+-- the expression's chain: its spans are those of the links, of which alternatives are nodes
+pub record IsChain (nodes : List Node) (e : Tree) (links : List Link) : Type 0 where
+  pub spans : (w : List ℕ) (i j : ℕ) → Matches e w i j ↔ ChainLeads nodes w links i j
+  pub within : All (IsWithin (length nodes)) links
+
+-- the links lead as those before do, and the node after them
+pub record IsContinuation (nodes : List Node) (before : List Link) (x : ℕ) (links : List Link) : Type 0 where
+  pub spans : (w : List ℕ) (i j : ℕ) → ChainLeads nodes w (before ++ (Other x ∷ [])) i j ↔ ChainLeads nodes w links i j
+  pub within : All (IsWithin (length nodes)) links
+
+-- where the links lead one of the two chains does
+pub record AreAlternatives (nodes : List Node) (links left right : List Link) : Type 0 where
+  pub spans : (w : List ℕ) (i j : ℕ) → ChainLeads nodes w links i j ↔ (ChainLeads nodes w left i j ⊎ ChainLeads nodes w right i j)
+  pub within : All (IsWithin (length nodes)) left × All (IsWithin (length nodes)) right

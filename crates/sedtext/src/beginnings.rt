@@ -1,13 +1,12 @@
 //! From which places a match can begin at all, so that the others are passed over.
 ghost use Rattle.std.specs.Prelude.{ℕ, List, ◌-◌, ◌*◌, ◌≤◌, length, IfOk, IfSome, Some};
-ghost use Rattle.std.specs.List.{All};
 ghost use Rattle.sedre.specs.Tree.{expression_tree, Tree};
 ghost use Rattle.sedre.specs.declared.types.Node.{Node};
 ghost use Rattle.sedtext.specs.Beginnings.{AllBegin, CanBegin, NextStart, skip_cost};
 ghost use Rattle.sedtext.specs.Branches.{AllHave, AreBranches};
 ghost use Rattle.sedtext.specs.Bytes.{MemberAt};
 ghost use Rattle.sedtext.specs.Costs.{CostsWithin};
-ghost use Rattle.sedtext.specs.Links.{IsChain, IsWithin};
+ghost use Rattle.sedtext.specs.Links.{IsChain};
 ghost use Rattle.sedtext.specs.Sieve.{AllPass, AllFixed};
 ghost use Rattle.sedre.specs.Steps.{TakesAtLeast};
 
@@ -179,7 +178,6 @@ pub fn how_begins(
     steps: &mut Steps,
 ) -> Result<Begins, AllocError>
     requires chain { IsChain expr.now.nodes (expression_tree expr.now) chain.now }
-    requires within { All (IsWithin (length expr.now.nodes)) chain.now }
     ensures begins { IfOk result (AllBegin (expression_tree expr.now)) }
 {
     if let Some(Link::Start) = chain.first() {

@@ -1,15 +1,14 @@
 //! The alternatives with which an expression begins, as chains, and which bytes are at a fixed distance after the beginning of every
 //! match: the sets of alternatives are joined.
-ghost use Rattle.std.specs.Prelude.{◌≡◌, ℕ, List, ◌+◌, ◌≤◌, length, slice_get, take, IfOk, IfSome, IsTrue, Some};
+ghost use Rattle.std.specs.Prelude.{ℕ, List, ◌+◌, ◌≤◌, length, take, IfOk, IfSome, IsTrue};
 ghost use Rattle.std.specs.List.{All};
-ghost use Rattle.sedre.specs.Tree.{expression_tree};
+ghost use Rattle.sedre.specs.Tree.{Tree, expression_tree};
 ghost use Rattle.sedre.specs.declared.types.Node.{Node};
 ghost use Rattle.sedtext.specs.Bytes.{MemberAt};
-ghost use Rattle.sedtext.specs.Branches.{AllLeadTo, AreBranches, HasOne, IsOneByte, LeadsFrom};
-ghost use Rattle.sedtext.specs.Links.{IsChain, IsWithin};
-ghost use Rattle.sedtext.specs.declared.links.Link.TheVariants.{Either};
+ghost use Rattle.sedtext.specs.Branches.{AllHave, AreBranches, HasOne, IsOneByte, LeadsFrom};
+ghost use Rattle.sedtext.specs.Links.{IsChain};
 
-use crate::links::{Link, links_after};
+use crate::links::{Link, alternatives_at};
 use sedre::{ByteSet, Expr, Steps};
 use std::alloc::{AllocError, Global};
 
@@ -38,16 +37,6 @@ fn lead(chain: &[Link]) -> usize
     count
 }
 
-/// The alternatives at a place of the chain, if there are some.
-fn alternatives_at(chain: &[Link], at: usize) -> Option<(usize, usize)>
-    ensures { IfSome result (λ p. slice_get chain.now at ≡ Some (Either p.0 p.1)) }
-{
-    match chain.get(at) {
-        Some(Link::Either(left, right)) => Some((*left, *right)),
-        _ => None,
-    }
-}
-
 /// The chains of which one leads on where a match of the expression begins, whose chain this is: alternatives behind the bytes with
 /// which it begins are chains of their own.
 pub fn branches_of(
@@ -57,18 +46,17 @@ pub fn branches_of(
     steps: &mut Steps,
 ) -> Result<Vec<Vec<Link>>, AllocError>
     requires chain { IsChain expr.now.nodes (expression_tree expr.now) chain.now }
-    requires within { All (IsWithin (length expr.now.nodes)) chain.now }
     ensures branches { IfOk result (λ v. AreBranches expr.now.nodes (expression_tree expr.now) v.items) }
 {
     let mut branches = Vec::new(alloc);
     let mut chain = chain.to_vec(alloc)?;
     for _turn in 0..MORE_ALTERNATIVES {
         let fixed = lead(&chain);
-        let Some((left, right)) = alternatives_at(&chain, fixed) else {
+        let Some((left, right)) = alternatives_at(alloc, expr, &chain, fixed, steps)? else {
             break;
         };
-        branches.push(links_after(alloc, &chain[..fixed], expr, left, steps)?)?;
-        chain = links_after(alloc, &chain[..fixed], expr, right, steps)?;
+        branches.push(left)?;
+        chain = right;
     }
     branches.push(chain)?;
     Ok(branches)
@@ -100,7 +88,7 @@ fn joined(members: Option<ByteSet>, more: &ByteSet) -> ByteSet
 
 /// The set of the bytes over which the chains lead `offset` bytes after their beginnings, if each leads over bytes alone up to there.
 pub fn set_at(branches: &[Vec<Link>], offset: usize) -> Option<ByteSet>
-    ensures { IfSome result (λ s. AllLeadTo branches.now offset (Some s)) }
+    ensures { IfSome result (λ s. (nodes : List Node) (e : Tree) → AreBranches nodes e branches.now → AllHave e offset s) }
 {
     let mut members = None;
     for x in (0..branches.len()).rev() {

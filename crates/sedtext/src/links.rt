@@ -1,10 +1,10 @@
 //! An expression as a chain of links: what its spans are made of, one after another. What follows asks chains alone for what an
 //! expression shows of its matches.
-ghost use Rattle.std.specs.Prelude.{◌≡◌, ℕ, List, [], ◌<◌, ◌↔◌, length, slice_get, IfOk, Some};
+ghost use Rattle.std.specs.Prelude.{◌≡◌, ℕ, List, [], ◌+◌, ◌<◌, ◌↔◌, length, slice_get, take, IfOk, IfSome, Some};
 ghost use Rattle.std.specs.List.{All};
 ghost use Rattle.sedre.specs.Arena.{IsArena};
 ghost use Rattle.sedre.specs.Tree.{expression_tree};
-ghost use Rattle.sedtext.specs.Links.{FollowedBy, IsChain, IsWithin, LinkLeads};
+ghost use Rattle.sedtext.specs.Links.{AreAlternatives, IsContinuation, IsChain, IsWithin, LinkLeads};
 ghost use Rattle.sedtext.specs.Reach.{HasSpan};
 
 use sedre::{ByteSet, Expr, Node, Steps};
@@ -47,8 +47,8 @@ fn link_of(expr: &Expr, index: usize, node: &Node, steps: &mut Steps) -> Link
     }
 }
 
-/// These links, and after them those of the node.
-pub fn links_after(
+/// The links before, and after them those of the node.
+fn continued(
     alloc: Global,
     before: &[Link],
     expr: &Expr,
@@ -57,8 +57,7 @@ pub fn links_after(
 ) -> Result<Vec<Link>, AllocError>
     requires inside { node < length expr.now.nodes }
     requires within { All (IsWithin (length expr.now.nodes)) before.now }
-    ensures leads { IfOk result (λ v. FollowedBy expr.now.nodes before.now node v.items) }
-    ensures within { IfOk result (λ v. All (IsWithin (length expr.now.nodes)) v.items) }
+    ensures { IfOk result (λ v. IsContinuation expr.now.nodes before.now node v.items) }
 {
     let mut links = before.to_vec(alloc)?;
     let mut rest = Vec::new(alloc);
@@ -77,11 +76,30 @@ pub fn links_after(
     Ok(links)
 }
 
+/// The chains of both alternatives at a place of the chain, if there are some, each of them after the links before.
+pub fn alternatives_at(
+    alloc: Global,
+    expr: &Expr,
+    chain: &[Link],
+    at: usize,
+    steps: &mut Steps,
+) -> Result<Option<(Vec<Link>, Vec<Link>)>, AllocError>
+    requires within { All (IsWithin (length expr.now.nodes)) chain.now }
+    ensures { IfOk result (λ r. IfSome r (λ p. AreAlternatives expr.now.nodes (take (at + 1) chain.now) p.0.items p.1.items)) }
+{
+    let Some(Link::Either(left, right)) = chain.get(at) else {
+        return Ok(None);
+    };
+    let before = &chain[..at];
+    let left = continued(alloc, before, expr, *left, steps)?;
+    let right = continued(alloc, before, expr, *right, steps)?;
+    Ok(Some((left, right)))
+}
+
 /// The chain of the whole expression.
 pub fn chain_of(alloc: Global, expr: &Expr, steps: &mut Steps) -> Result<Vec<Link>, AllocError>
-    ensures chain { IfOk result (λ v. IsChain expr.now.nodes (expression_tree expr.now) v.items) }
-    ensures within { IfOk result (λ v. All (IsWithin (length expr.now.nodes)) v.items) }
+    ensures { IfOk result (λ v. IsChain expr.now.nodes (expression_tree expr.now) v.items) }
 {
     let root = expr.root().index();
-    links_after(alloc, &[], expr, root, steps)
+    continued(alloc, &[], expr, root, steps)
 }

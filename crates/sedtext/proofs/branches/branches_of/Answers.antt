@@ -1,19 +1,18 @@
-use Rattle.std.proofs.Common.{◌≡◌, Some}
-use Rattle.std.specs.Prelude.{slice_get}
+use Rattle.std.proofs.Common.{◌+◌, take}
 use Rattle.sedre.specs.Tree.{expression_tree}
-use Rattle.sedtext.specs.declared.links.Link.TheVariants.{Either}
+use Rattle.sedtext.specs.Links.{AreAlternatives}
 use Rattle.sedtext.proofs.BranchLemmas.{branches_last, branches_more}
 use Rattle.sedtext.proofs.branches.branches_of.Goals as goal
 
 pub loop-turn-preserved : goal.loop-turn-preserved
 loop-turn-preserved c =
     let chain = c.loop-turn.chain.items in
-    let there : slice_get chain c.lead-fixed.result ≡ Some (Either c.in-Some.left c.in-Some.right) = rw (← c.deref-in-loop-turn.ensures.value) c.in-Some.ensures in
+    let nodes = c.args.expr.now.nodes in
+    let ways : AreAlternatives nodes (take (c.lead-fixed.result + 1) chain) c.in-Some.left.items c.in-Some.right.items = rw (c.in-Some.is, c.deref-in-loop-turn.ensures.value) at c.in_ok-left.ensures in
     record {
-      left = branches_more c.args.expr.now.nodes (expression_tree c.args.expr.now) c.loop-turn.branches.items c.push.new.self.items chain c.in_ok-links_after.field-0 c.in_ok-chain-2.chain.items
-          c.lead-fixed.result c.in-Some.left c.in-Some.right c.loop-turn.invariant.left c.in_ok-push.ensures.items there
-          (rw (← c.deref-in-loop-turn-2.ensures.value) c.in_ok-links_after.ensures.leads) (rw (← c.deref-in-loop-turn-3.ensures.value) c.in_ok-chain-2.ensures.leads);
-      within = c.in_ok-chain-2.ensures.within;
+      left = branches_more nodes (expression_tree c.args.expr.now) c.loop-turn.branches.items c.push.new.self.items chain c.in-Some.left c.in-Some.right.items
+          (c.lead-fixed.result + 1) c.loop-turn.invariant.left c.in_ok-push.ensures.items ways;
+      within = ways.within.1;
     }
 
 pub returns : goal.returns

@@ -1,8 +1,8 @@
 use Rattle.std.proofs.Common.{◌≡◌, ℕ, List, ◌+◌, ◌-◌, suc, drop, subst, arith}
-use Rattle.sedtext.specs.Branches.{AllLeadTo, LeadsFrom}
+use Rattle.sedtext.specs.Branches.{LeadsFrom}
 use Rattle.sedtext.specs.Bytes.{MemberAt}
 use Rattle.sedre.specs.declared.types.Node.{Node}
-use Rattle.sedtext.proofs.BranchLemmas.{lead_more, led_to}
+use Rattle.sedtext.proofs.BranchLemmas.{AllLeadTo, lead_more, led_to}
 use Rattle.sedtext.proofs.branches.set_at.Goals as goal
 
 pub loop-x-preserved : goal.loop-x-preserved

@@ -1,5 +1,5 @@
 use Rattle.std.proofs.Common.{◌≤◌, length, drop}
-use Rattle.sedtext.specs.Branches.{AllLeadTo}
+use Rattle.sedtext.proofs.BranchLemmas.{AllLeadTo}
 use Rattle.sedtext.proofs.branches.set_at.Given as goal
 
 abbrev pub invariant-loop-x : goal.invariant-loop-x

@@ -3,7 +3,7 @@ use Rattle.std.specs.List.{All}
 use Rattle.sedtext.specs.Links.{IsWithin}
 use Rattle.sedtext.specs.Nodes.{total_size}
 use Rattle.sedtext.proofs.LinkLemmas.{IsLeft}
-use Rattle.sedtext.proofs.links.links_after.Given as goal
+use Rattle.sedtext.proofs.links.continued.Given as goal
 
 abbrev pub invariant-loop-index : goal.invariant-loop-index
 invariant-loop-index l = record {

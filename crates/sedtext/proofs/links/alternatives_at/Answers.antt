@@ -1,0 +1,10 @@
+use Rattle.std.proofs.Common.{◌∙◌, sym}
+use Rattle.sedtext.specs.declared.links.Link.TheVariants.{Either}
+use Rattle.sedtext.proofs.LinkLemmas.{both_ways}
+use Rattle.sedtext.proofs.links.alternatives_at.Goals as goal
+
+pub returns : goal.returns
+returns c =
+    let either = Either c.in-Some-Either.left c.in-Some-Either.right in
+    let read = c.in-Some-Either.ensures.lookup.3 in
+    both_ways c.args.expr.now.nodes c.args.chain.now c.in_ok-left.left.items c.in_ok-right.right.items c.args.at c.in-Some-Either.left c.in-Some-Either.right read.0 (sym c.in-Some-Either.field-0-is ∙ read.1 either) c.in_ok-left.ensures c.in_ok-right.ensures
