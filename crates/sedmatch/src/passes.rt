@@ -8,12 +8,10 @@ ghost use Rattle.sedtext.specs.Beginnings.{AllBegin};
 ghost use Rattle.sedtext.specs.Following.{LooksPast};
 ghost use Rattle.sedtext.specs.Links.{IsChain, IsWithin};
 ghost use Rattle.sedtext.specs.Required.{IsRequired};
-ghost use Rattle.sedpass.specs.Table.{IsForwardOne, IsForwardAny, SameShape};
 ghost use Rattle.sedtext.specs.Spans.{SomeFound, Matches};
-ghost use Rattle.sedpass.specs.Decide.{HasDesk, SameTables};
-ghost use Rattle.sedpass.specs.Kept.{SameSpace};
+ghost use Rattle.sedpass.specs.Decide.{HasDesk, KeepsGroupRoom};
 ghost use Rattle.sedmatch.specs.Candidates.{NoMatchBefore};
-ghost use Rattle.sedmatch.specs.Passes.{AreOwn, ArePasses, IsDesk, KeepsDesk, KeepsPasses, AnswersGroups, AnswersMatch};
+ghost use Rattle.sedmatch.specs.Passes.{ArePasses, ArePassTables, HavePassRoom, SamePassRoom, IsDesk, KeepsDesk, KeepsPasses, AnswersGroups, AnswersMatch};
 
 use crate::Span;
 use crate::scratch::Desk;
@@ -42,9 +40,9 @@ pub struct Sought {
     pub required: Option<RequiredLiteral>,
 }
 
-/// The tables of one expression.
+/// The tables by which an expression is searched.
 #[derive(Drop)]
-pub struct OwnTables {
+pub struct PassTables {
     /// Forwards, every place a start.
     pub forward_any: Table,
     /// Forwards from one start, and those for groups.
@@ -57,11 +55,11 @@ pub struct Passes {
     /// What is found out of it once.
     pub sought: Sought,
     /// Its own tables, if there is room for them.
-    pub own: Option<OwnTables>,
+    pub own: Option<PassTables>,
 }
 
 /// The way of passes forwards in which every place is a start.
-pub const FORWARD_ANY: Way = Way {
+const FORWARD_ANY: Way = Way {
     mirrored: false,
     all_starts: true,
 };
@@ -82,27 +80,49 @@ fn size_of(nodes: usize, states: usize) -> usize {
     state.saturating_mul(TABLES).saturating_mul(states)
 }
 
+impl PassTables {
+    /// Empty tables with room for so many states each of any expression of at most so many nodes, which serve none yet. Fails
+    /// only where a request for memory was refused.
+    pub fn with_room(alloc: Global, room: usize, nodes: usize) -> Result<PassTables, AllocError>
+        requires some { 2 ≤ room }
+        requires few { room ≤ 65535 }
+        requires nodes { 1 ≤ nodes }
+        requires short { nodes ≤ 65536 }
+        ensures tables { IfOk result (HavePassRoom nodes) }
+        ensures room { IfOk result (λ t. t.groups.reverse_one.room ≡ room) }
+    {
+        Ok(PassTables {
+            forward_any: Table::with_room(alloc, FORWARD_ANY, room, nodes)?,
+            groups: GroupTables::with_room(alloc, room, nodes)?,
+        })
+    }
+
+    /// Begins to serve an expression, and forgets what was of another one.
+    pub fn fit(&mut self, prepared: &Prepared)
+        requires { HavePassRoom (length prepared.now.arena.expr.nodes) self.old }
+        ensures tables { ArePassTables prepared.now self.new }
+        ensures room { SamePassRoom self.old self.new }
+    {
+        self.forward_any.fit(prepared);
+        self.groups.fit(prepared);
+    }
+}
+
 /// Tables for an expression, if they don't take more room than there is.
 fn own_tables(
     alloc: Global,
     prepared: &Prepared,
     room: TableRoom,
-) -> Result<Option<OwnTables>, AllocError>
-    ensures { IfOk result (AreOwn prepared.now) }
+) -> Result<Option<PassTables>, AllocError>
+    ensures { IfOk result (λ own. IfSome own (ArePassTables prepared.now)) }
 {
-    let states = room.states.clamp(2, 513);
-    if size_of(prepared.nodes(), states) > room.bytes {
+    let (states, nodes) = (room.states.clamp(2, 513), prepared.nodes());
+    if size_of(nodes, states) > room.bytes {
         return Ok(None);
     }
-    let nodes = prepared.nodes();
-    let mut forward_any = Table::with_room(alloc, FORWARD_ANY, states, nodes)?;
-    let mut groups = GroupTables::with_room(alloc, states, nodes)?;
-    forward_any.fit(prepared);
-    groups.fit(prepared);
-    Ok(Some(OwnTables {
-        forward_any,
-        groups,
-    }))
+    let mut own = PassTables::with_room(alloc, states, nodes)?;
+    own.fit(prepared);
+    Ok(Some(own))
 }
 
 /// An expression that is searched by passes, whose chain this is, with its own tables if there is room for them.
@@ -159,20 +179,16 @@ pub fn candidate_by(sought: &Sought, text: &Text, steps: &mut Steps) -> Option<u
 fn matches_with(
     sought: &Sought,
     text: &Text,
-    forward_any: &mut Table,
-    forward_one: &mut Table,
+    tables: &mut PassTables,
     from: usize,
     work: &mut Work,
     steps: &mut Steps,
 ) -> bool
     requires begins { AllBegin (expression_tree sought.now.prepared.arena.expr) sought.now.begins }
-    requires forward_any { IsForwardAny sought.now.prepared forward_any.old }
-    requires forward_one { IsForwardOne sought.now.prepared forward_one.old }
+    requires tables { ArePassTables sought.now.prepared tables.old }
     requires from { from ≤ length text.now }
-    ensures forward_any { IsForwardAny sought.now.prepared forward_any.new }
-    ensures forward_any_shape { SameShape forward_any.old forward_any.new }
-    ensures forward_one { IsForwardOne sought.now.prepared forward_one.new }
-    ensures forward_one_shape { SameShape forward_one.old forward_one.new }
+    ensures tables { ArePassTables sought.now.prepared tables.new }
+    ensures room { SamePassRoom tables.old tables.new }
     ensures matches { IsTrue result ↔ SomeFound (expression_tree sought.now.prepared.arena.expr) text.now from }
     ensures passes { IsTrue result → LooksPast (expression_tree sought.now.prepared.arena.expr) text.now from steps.old steps.new }
     ensures cost { Takes steps.old steps.new (43 * length sought.now.prepared.arena.expr.nodes * (length text.now + 1)) }
@@ -183,11 +199,14 @@ fn matches_with(
     };
     match &sought.begins {
         // The first place alone is a start, and a pass from it can end early.
-        Begins::AtStart => forward_one
+        Begins::AtStart => tables
+            .groups
+            .forward_one
             .run(prepared, text, start, work, steps)
             .end
             .is_some(),
-        _ => forward_any
+        _ => tables
+            .forward_any
             .run(prepared, text, start, work, steps)
             .end
             .is_some(),
@@ -216,13 +235,10 @@ pub fn matches_by(
     };
     let work = &mut desk.room.kept.work;
     if let Some(own) = &mut passes.own {
-        let (forward_any, forward_one) = (&mut own.forward_any, &mut own.groups.forward_one);
-        return matches_with(sought, text, forward_any, forward_one, start, work, steps);
+        return matches_with(sought, text, own, start, work, steps);
     }
-    desk.forward_any.fit(&sought.prepared);
-    desk.shared.forward_one.fit(&sought.prepared);
-    let (forward_any, forward_one) = (&mut desk.forward_any, &mut desk.shared.forward_one);
-    matches_with(sought, text, forward_any, forward_one, start, work, steps)
+    desk.shared.fit(&sought.prepared);
+    matches_with(sought, text, &mut desk.shared, start, work, steps)
 }
 
 /// The groups of a match of an expression without groups.
@@ -259,11 +275,8 @@ fn groups_with(
     requires desk { HasDesk subject tables.old room.old.kept }
     requires none { room.old.tasks.items ≡ [] }
     requires tasks { 2 * length subject.prepared.now.arena.expr.nodes ≤ vec_capacity room.old.tasks }
-    ensures desk { HasDesk subject.entry tables.new room.new.kept }
-    ensures shape { SameTables tables.old tables.new }
-    ensures space { SameSpace room.old.kept room.new.kept }
+    ensures room { KeepsGroupRoom subject.entry tables.old tables.new room.old room.new }
     ensures none { room.new.tasks.items ≡ [] }
-    ensures tasks { vec_capacity room.old.tasks ≤ vec_capacity room.new.tasks }
     ensures answered { AnswersGroups subject.entry.prepared.now.arena.expr subject.entry.text.now span steps.old steps.new result }
 {
     if subject.prepared.arena.groups() == 0 {
@@ -284,8 +297,9 @@ pub fn shared_groups(subject: Subject, span: Span, desk: &mut Desk, steps: &mut 
     ensures desk { KeepsDesk desk.old desk.new }
     ensures answered { AnswersGroups subject.entry.prepared.now.arena.expr subject.entry.text.now span steps.old steps.new result }
 {
-    desk.shared.fit(subject.prepared);
-    groups_with(subject, &mut desk.shared, span, &mut desk.room, steps)
+    let tables = &mut desk.shared.groups;
+    tables.fit(subject.prepared);
+    groups_with(subject, tables, span, &mut desk.room, steps)
 }
 
 /// The groups of a match that begins and ends at these places.

@@ -127,7 +127,7 @@ fn next_by_passes(
         let forward_one = &mut own.groups.forward_one;
         return next_by(sought, text, forward_one, occurrences, last, steps);
     }
-    let forward_one = &mut desk.shared.forward_one;
+    let forward_one = &mut desk.shared.groups.forward_one;
     forward_one.fit(&sought.prepared);
     next_by(sought, text, forward_one, occurrences, last, steps)
 }

@@ -27,9 +27,10 @@ fn first_span(subject: Subject, from: usize, desk: &mut Desk, steps: &mut Steps)
         Takes steps.old steps.new (142 * m * length subject.entry.text.now + 42 * m) }
     ensures counts { IfSome result (λ f. TakesAtLeast steps.old steps.new (f.1 - f.0)) }
 {
-    desk.shared.forward_one.fit(subject.prepared);
-    desk.reverse_any.fit(subject.prepared);
-    let (forward_one, reverse_any) = (&mut desk.shared.forward_one, &mut desk.reverse_any);
+    let forward_one = &mut desk.shared.groups.forward_one;
+    let reverse_any = &mut desk.reverse_any;
+    forward_one.fit(subject.prepared);
+    reverse_any.fit(subject.prepared);
     let kept = &mut desk.room.kept;
     kept.begin(
         subject,
