@@ -24,6 +24,7 @@ use Rattle.sedpass.specs.declared.groups.GroupTables.{GroupTables}
 use Rattle.sedpass.specs.declared.kept.Kept.{Kept}
 use Rattle.sedpass.specs.declared.kept.Subject.{Subject}
 use Rattle.sedpass.specs.declared.nodes.Prepared.{Prepared}
+use Rattle.sedpass.specs.declared.rows.Way.{Way}
 use Rattle.sedpass.specs.declared.rows.Work.{Work}
 use Rattle.sedpass.specs.declared.table.Table.{Table}
 use Rattle.sedpass.proofs.DecideLemmas.{has_desk, space_again}
@@ -84,6 +85,9 @@ whole_shown e w span s expr none spans =
 
 pub shape_room : (t t' : Table) → SameShape t t' → SameRoom t t'
 shape_room t t' same = (same.0, same.1, same.3, same.4)
+
+pub rooms_of : (t t' : GroupTables) → SameTables t t' → SameRooms t t'
+rooms_of t t' same = record { reverse_one = shape_room t.reverse_one t'.reverse_one same.reverse_one; forward_one = shape_room t.forward_one t'.forward_one same.forward_one }
 
 -- the one of passes forwards from one start
 pub one_of : (p : Prepared) (t : GroupTables) → AreGroupTables p t → IsForwardOne p t.forward_one
@@ -184,55 +188,29 @@ shared_decides s fitted d tables fit is short few =
     let enough = desk_enough d fitted.reverse_one.room is fit.reverse_one.1 tables.reverse_one.room.rows.some in
     own_decides s fitted d (length s.text.now) tables is short few refl (omega (arith, enough, short))
 
--- the table goes the same way, and has as much room for expressions of at most m nodes
-pub record IsAgain (m : ℕ) (old new : Table) : Type 0 where
-  pub roomy : IsRoomy m new
-  pub way : new.way ≡ old.way
-  pub room : new.room ≡ old.room
+-- a table that was fitted to an expression and served it goes the same way, and has all its room
+used : (way : Way) (m : ℕ) (p : Prepared) (t fitted after : Table) → IsRoomyWay way m t → SameRoom t fitted → SameRoom fitted after → IsTable p after → IsRoomyWay way m after
+used way m p t fitted after roomy fit same table = (roomy_still m p t after roomy.0 (same.0 ∙ fit.0, same.1 ∙ fit.1, same.2 ∙ fit.2, same.3 ∙ fit.3) table, same.0 ∙ fit.0 ∙ roomy.1)
 
-pub untouched : (m : ℕ) (t : Table) → IsRoomy m t → IsAgain m t t
-untouched m t roomy = record { roomy = roomy; way = refl; room = refl }
+pub kept_used : (m : ℕ) (p : Prepared) (t fitted after : Table) → IsRoomyWay reverse_any_way m t → SameRoom t fitted → SameShape fitted after → IsTable p after → IsRoomyWay reverse_any_way m after
+kept_used m p t fitted after roomy fit same table = used reverse_any_way m p t fitted after roomy fit (shape_room fitted after same) table
 
--- after it was fitted to an expression and served it
-pub used_again : (m : ℕ) (p : Prepared) (t fitted after : Table) → IsRoomy m t → SameRoom t fitted → SameRoom fitted after → IsTable p after → IsAgain m t after
-used_again m p t fitted after roomy fit same table = record {
-  roomy = roomy_still m p t after roomy (same.0 ∙ fit.0, same.1 ∙ fit.1, same.2 ∙ fit.2, same.3 ∙ fit.3) table;
-  way = same.0 ∙ fit.0;
-  room = same.1 ∙ fit.1;
-}
+-- so do those for groups, where both were, or the one of passes forwards alone
+pub groups_used : (m : ℕ) (p : Prepared) (t fitted after : GroupTables) → AreRoomy m t → SameRooms t fitted → SameRooms fitted after → IsTable p after.reverse_one → IsTable p after.forward_one → AreRoomy m after
+groups_used m p t fitted after roomy fit same reverse_one forward_one =
+    let back = used _ m p t.reverse_one fitted.reverse_one after.reverse_one (roomy.reverse_one, roomy.ways.reverse_one) fit.reverse_one same.reverse_one reverse_one in
+    let on = used _ m p t.forward_one fitted.forward_one after.forward_one (roomy.forward_one, roomy.ways.forward_one) fit.forward_one same.forward_one forward_one in
+    record { ways = record { reverse_one = back.1; forward_one = on.1 }; reverse_one = back.0; forward_one = on.0 }
 
--- so are those of an expression
-pub record AreAgain (m : ℕ) (old new : PassTables) : Type 0 where
-  pub forward_any : IsAgain m old.forward_any new.forward_any
-  pub reverse_one : IsAgain m old.groups.reverse_one new.groups.reverse_one
-  pub forward_one : IsAgain m old.groups.forward_one new.groups.forward_one
+pub one_used : (m : ℕ) (p : Prepared) (t : GroupTables) (fitted after : Table) → AreRoomy m t → SameRoom t.forward_one fitted → SameShape fitted after → IsTable p after → AreRoomy m (record t { forward_one = after })
+one_used m p t fitted after roomy fit same table =
+    let on = used _ m p t.forward_one fitted after (roomy.forward_one, roomy.ways.forward_one) fit (shape_room fitted after same) table in
+    record { ways = record { reverse_one = roomy.ways.reverse_one; forward_one = on.1 }; reverse_one = roomy.reverse_one; forward_one = on.0 }
 
-module _ (m : ℕ) (t : PassTables) (roomy : HavePassRoom m t) where
-  pub all_untouched : AreAgain m t t
-  all_untouched = record { forward_any = untouched m t.forward_any roomy.0.0; reverse_one = untouched m t.groups.reverse_one roomy.1.reverse_one; forward_one = untouched m t.groups.forward_one roomy.1.forward_one }
-
-  pub all_used : (p : Prepared) (fitted after : PassTables) → SamePassRoom t fitted → SamePassRoom fitted after → ArePassTables p after → AreAgain m t after
-  all_used p fitted after fit same are = record {
-    forward_any = used_again m p t.forward_any fitted.forward_any after.forward_any roomy.0.0 fit.0 same.0 are.0.table;
-    reverse_one = used_again m p t.groups.reverse_one fitted.groups.reverse_one after.groups.reverse_one roomy.1.reverse_one fit.1.reverse_one same.1.reverse_one are.1.reverse_one;
-    forward_one = used_again m p t.groups.forward_one fitted.groups.forward_one after.groups.forward_one roomy.1.forward_one fit.1.forward_one same.1.forward_one are.1.forward_one;
-  }
-
-  -- where groups were decided
-  pub groups_used : (p : Prepared) (fitted after : GroupTables) → SameRooms t.groups fitted → SameTables fitted after → IsTable p after.reverse_one → IsTable p after.forward_one → AreAgain m t (record t { groups = after })
-  groups_used p fitted after fit same reverse_one forward_one = record {
-    forward_any = untouched m t.forward_any roomy.0.0;
-    reverse_one = used_again m p t.groups.reverse_one fitted.reverse_one after.reverse_one roomy.1.reverse_one fit.reverse_one (shape_room fitted.reverse_one after.reverse_one same.reverse_one) reverse_one;
-    forward_one = used_again m p t.groups.forward_one fitted.forward_one after.forward_one roomy.1.forward_one fit.forward_one (shape_room fitted.forward_one after.forward_one same.forward_one) forward_one;
-  }
-
-  -- and where the one of passes forwards searched
-  pub one_used : (p : Prepared) (fitted after : Table) → SameRoom t.groups.forward_one fitted → SameShape fitted after → IsTable p after → AreAgain m t (record t { groups = record t.groups { forward_one = after } })
-  one_used p fitted after fit same table = record {
-    forward_any = untouched m t.forward_any roomy.0.0;
-    reverse_one = untouched m t.groups.reverse_one roomy.1.reverse_one;
-    forward_one = used_again m p t.groups.forward_one fitted after roomy.1.forward_one fit (shape_room fitted after same) table;
-  }
+-- and all tables
+pub all_used : (m : ℕ) (p : Prepared) (t fitted after : PassTables) → HavePassRoom m t → SamePassRoom t fitted → SamePassRoom fitted after → ArePassTables p after → HavePassRoom m after
+all_used m p t fitted after roomy fit same are =
+    (used _ m p t.forward_any fitted.forward_any after.forward_any roomy.0 fit.0 same.0 are.0, groups_used m p t.groups fitted.groups after.groups roomy.1 fit.1 same.1 are.2.reverse_one are.2.forward_one)
 
 -- other marks take none of the room
 pub worked : (kept : Kept) (work : Work) → SameSpace kept (record kept { work = work })
@@ -240,21 +218,15 @@ worked kept work = record { places = refl; edges = refl; marks = λ q. refl }
 
 -- the desk after a search, or after groups were decided
 pub desk_again : (d : Desk) (room : GroupRoom) (reverse_any : Table) (shared : PassTables) → IsDesk d → SameSpace d.room.kept room.kept → room.tasks.items ≡ [] → vec_capacity d.room.tasks ≤ vec_capacity room.tasks →
-    IsAgain d.max_nodes d.reverse_any reverse_any → AreAgain d.max_nodes d.shared shared → KeepsDesk d (record d { room = room; reverse_any = reverse_any; shared = shared })
-desk_again d room reverse_any shared is same none grows kept_again again = (
+    IsRoomyWay reverse_any_way d.max_nodes reverse_any → HavePassRoom d.max_nodes shared → reverse_any.room ≡ d.reverse_any.room → shared.groups.reverse_one.room ≡ d.shared.groups.reverse_one.room →
+    KeepsDesk d (record d { room = room; reverse_any = reverse_any; shared = shared })
+desk_again d room reverse_any shared is same none grows keeps roomy rows states = (
   record {
-    space = subst (λ v. HasSpace d.max_text (d.max_text / (v - 1) + 1) d.max_nodes room) (sym again.reverse_one.room)
+    space = subst (λ v. HasSpace d.max_text (d.max_text / (v - 1) + 1) d.max_nodes room) (sym states)
         (space_again d.max_text (d.max_text / (d.shared.groups.reverse_one.room - 1) + 1) d.max_nodes d.room room is.space same none grows);
-    reverse_any = (kept_again.roomy, kept_again.way ∙ is.reverse_any.1);
-    states = kept_again.room ∙ is.states ∙ sym again.reverse_one.room;
-    shared = (
-      (again.forward_any.roomy, again.forward_any.way ∙ is.shared.0.1),
-      record {
-        ways = record { reverse_one = again.reverse_one.way ∙ is.shared.1.ways.reverse_one; forward_one = again.forward_one.way ∙ is.shared.1.ways.forward_one };
-        reverse_one = again.reverse_one.roomy;
-        forward_one = again.forward_one.roomy;
-      },
-    );
+    reverse_any = keeps;
+    states = rows ∙ is.states ∙ sym states;
+    shared = roomy;
     few = (let e = same.edges in let h = is.few in omega (arith, h, e));
   },
   refl,

@@ -10,7 +10,7 @@ use Rattle.sedtext.specs.Groups.{SpansOfGroups}
 use Rattle.sedtext.specs.Required.{IsRequired}
 use Rattle.sedtext.specs.Spans.{SomeFound}
 use Rattle.sedpass.specs.Decide.{AreGroupTables, AreRoomy, HasSpace, SameRooms, spans_in}
-use Rattle.sedpass.specs.Table.{IsForwardAny, IsRoomy, SameRoom}
+use Rattle.sedpass.specs.Table.{IsRoomy, IsTable, SameRoom}
 use Rattle.sedpass.specs.Walks.{EntersGroups}
 use Rattle.sedpass.specs.declared.nodes.Prepared.{Prepared}
 use Rattle.sedpass.specs.declared.rows.Way.{Way}
@@ -39,7 +39,7 @@ pub record IsSought (e : WrittenExpression) (s : Sought) : Type 0 where
 
 -- the tables serve the expression
 abbrev pub ArePassTables : Prepared → PassTables → Type 0
-ArePassTables p t = IsForwardAny p t.forward_any × AreGroupTables p t.groups
+ArePassTables p t = IsTable p t.forward_any × (t.forward_any.way ≡ forward_any_way) × AreGroupTables p t.groups
 
 -- the table goes this way, and has room for expressions of at most m nodes
 abbrev pub IsRoomyWay : Way → ℕ → Table → Type 0

@@ -117,9 +117,9 @@ impl Occurrences {
         ensures { IfOk result (RoomFor max_text matchers.now) }
     {
         let width = width_for(max_text);
+        let own = own_tables(alloc, matchers)?;
         let kept = Kept::new(alloc, max_text, max_text / width + 1, max_nodes)?;
         let shared = Table::with_room(alloc, REVERSE_ANY, width + 1, max_nodes)?;
-        let own = own_tables(alloc, matchers)?;
         Ok(Occurrences {
             seeking: Seeking {
                 kept,

@@ -1,24 +1,24 @@
 use Rattle.std.proofs.Common.{refl}
-use Rattle.sedmatch.proofs.PassLemmas.{all_untouched, desk_again, groups_decided, own_decides, untouched}
+use Rattle.sedmatch.proofs.PassLemmas.{desk_again, groups_decided, own_decides}
 use Rattle.sedmatch.proofs.passes.groups_by.Goals as goal
 
 pub groups_with-requires-clause-desk : goal.groups_with-requires-clause-desk
 groups_with-requires-clause-desk c =
     let own = rw c.in-Some.is at c.requires.passes.1 in
-    own_decides _ c.in-Some.own.groups c.args.desk.now c.len.result own.1 c.requires.desk c.requires.short c.requires.few c.len.ensures.is (c.has_blocks.ensures c.if-has_blocks.true)
+    own_decides _ c.in-Some.own.groups c.args.desk.now c.len.result own.2 c.requires.desk c.requires.short c.requires.few c.len.ensures.is (c.has_blocks.ensures c.if-has_blocks.true)
 
 pub returns-then-has_blocks-clause-passes : goal.returns-then-has_blocks-clause-passes
 returns-then-has_blocks-clause-passes c =
     let own = rw c.in-Some.is at c.requires.passes.1 in
     let done = c.groups_with.ensures.room in
-    (refl, (own.0, groups_decided _ c.in-Some.own.groups c.groups_with.new.tables _ own.1 done.desk done.shape))
+    (refl, (own.0, own.1, groups_decided _ c.in-Some.own.groups c.groups_with.new.tables _ own.2 done.desk done.shape))
 
 pub returns-then-has_blocks-clause-desk : goal.returns-then-has_blocks-clause-desk
 returns-then-has_blocks-clause-desk c =
     let d = c.args.desk.now in
     let is = c.requires.desk in
     let done = c.groups_with.ensures.room in
-    desk_again d c.groups_with.new.room d.reverse_any d.shared is done.space c.groups_with.ensures.none done.tasks (untouched d.max_nodes d.reverse_any is.reverse_any.0) (all_untouched d.max_nodes d.shared is.shared)
+    desk_again d c.groups_with.new.room d.reverse_any d.shared is done.space c.groups_with.ensures.none done.tasks is.reverse_any is.shared refl refl
 
 pub returns-then-has_blocks-clause-answered : goal.returns-then-has_blocks-clause-answered
 returns-then-has_blocks-clause-answered c = c.groups_with.ensures.answered

@@ -1,5 +1,5 @@
-use Rattle.std.proofs.Common.{length}
-use Rattle.sedmatch.proofs.PassLemmas.{desk_again, groups_fewer, groups_used, shared_decides, untouched}
+use Rattle.std.proofs.Common.{◌∙◌, length, refl}
+use Rattle.sedmatch.proofs.PassLemmas.{desk_again, groups_fewer, groups_used, rooms_of, shared_decides}
 use Rattle.sedmatch.proofs.passes.shared_groups.Goals as goal
 
 pub fit-requires : goal.fit-requires
@@ -12,7 +12,9 @@ pub returns-clause-desk : goal.returns-clause-desk
 returns-clause-desk c =
     let d = c.args.desk.now in
     let is = c.requires.desk in
+    let p = c.args.subject.prepared.now in
+    let fit = c.fit.ensures.room in
     let after = c.groups_with.new.tables in
     let done = c.groups_with.ensures.room in
-    desk_again d c.groups_with.new.room d.reverse_any (record d.shared { groups = after }) is done.space c.groups_with.ensures.none done.tasks (untouched d.max_nodes d.reverse_any is.reverse_any.0)
-    (groups_used d.max_nodes d.shared is.shared c.args.subject.prepared.now c.fit.new.self after c.fit.ensures.room done.shape done.desk.reverse_one done.desk.forward_one.table)
+    desk_again d c.groups_with.new.room d.reverse_any (record d.shared { groups = after }) is done.space c.groups_with.ensures.none done.tasks is.reverse_any
+    (is.shared.0, groups_used d.max_nodes p d.shared.groups c.fit.new.self after is.shared.1 fit (rooms_of c.fit.new.self after done.shape) done.desk.reverse_one done.desk.forward_one.table) refl (done.shape.reverse_one.1 ∙ fit.reverse_one.1)

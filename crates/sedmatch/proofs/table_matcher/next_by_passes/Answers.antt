@@ -1,13 +1,13 @@
 use Rattle.std.proofs.Common.{length, refl, arith}
 use Rattle.sedpass.proofs.TableLemmas.{roomy_fewer}
-use Rattle.sedmatch.proofs.PassLemmas.{desk_again, groups_after, one_used, untouched, worked}
+use Rattle.sedmatch.proofs.PassLemmas.{desk_again, groups_after, one_used, worked}
 use Rattle.sedmatch.proofs.table_matcher.next_by_passes.Goals as goal
 
 pub returns-in-Some-clause-passes : goal.returns-in-Some-clause-passes
 returns-in-Some-clause-passes c =
     let own = rw c.in-Some.is at c.requires.passes.1 in
     let done = c.next_by.ensures in
-    (refl, (own.0, groups_after _ c.in-Some.own.groups c.next_by.new.forward_one own.1 done.forward_one.table done.forward_one_shape))
+    (refl, (own.0, own.1, groups_after _ c.in-Some.own.groups c.next_by.new.forward_one own.2 done.forward_one.table done.forward_one_shape))
 
 pub returns-in-Some-clause-desk : goal.returns-in-Some-clause-desk
 returns-in-Some-clause-desk c = (c.requires.desk, refl, refl)
@@ -26,5 +26,5 @@ returns-clause-desk c =
     let is = c.requires.desk in
     let new = c.next_by-2.new.forward_one in
     let done = c.next_by-2.ensures in
-    desk_again d d.room d.reverse_any (record d.shared { groups = record d.shared.groups { forward_one = new } }) is (worked d.room.kept d.room.kept.work) is.space.none (omega arith) (untouched d.max_nodes d.reverse_any is.reverse_any.0)
-    (one_used d.max_nodes d.shared is.shared c.args.passes.now.sought.prepared c.fit.new.self new c.fit.ensures.room done.forward_one_shape done.forward_one.table)
+    desk_again d d.room d.reverse_any (record d.shared { groups = record d.shared.groups { forward_one = new } }) is (worked d.room.kept d.room.kept.work) is.space.none (omega arith) is.reverse_any
+    (is.shared.0, one_used d.max_nodes c.args.passes.now.sought.prepared d.shared.groups c.fit.new.self new is.shared.1 c.fit.ensures.room done.forward_one_shape done.forward_one.table) refl refl
