@@ -79,6 +79,10 @@ pub record IsDesk (d : Desk) : Type 0 where
   pub shared : HavePassRoom d.max_nodes d.shared
   pub few : length d.room.kept.edges ≤ 65536
 
+-- they can be made there over this text, for this expression
+abbrev pub IsDeskFor : WrittenExpression → List ℕ → Desk → Type 0
+IsDeskFor e w d = IsDesk d × (length w ≤ d.max_text) × (length e.nodes ≤ d.max_nodes)
+
 -- they still can, for the same texts and expressions
 abbrev pub KeepsDesk : Desk → Desk → Type 0
 KeepsDesk old new = IsDesk new × (new.max_text ≡ old.max_text) × (new.max_nodes ≡ old.max_nodes)

@@ -275,16 +275,8 @@ pub fn next_by(
         let reverse_any = &mut occurrences.shared;
         return next_with(sought, text, forward_one, reverse_any, seeking, last, steps);
     }
-    match &mut occurrences.own[occurrences.number] {
-        Some(reverse_any) => next_with(
-            sought,
-            text,
-            forward_one,
-            reverse_any,
-            seeking,
-            last,
-            steps,
-        ),
-        None => unreachable!(),
-    }
+    let Some(reverse_any) = &mut occurrences.own[occurrences.number] else {
+        unreachable!()
+    };
+    next_with(sought, text, forward_one, reverse_any, seeking, last, steps)
 }

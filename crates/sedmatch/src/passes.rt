@@ -7,11 +7,12 @@ ghost use Rattle.sedre.specs.Steps.{Takes, TakesAtLeast};
 ghost use Rattle.sedtext.specs.Beginnings.{AllBegin};
 ghost use Rattle.sedtext.specs.Following.{LooksPast};
 ghost use Rattle.sedtext.specs.Links.{IsChain, IsWithin};
+ghost use Rattle.sedtext.specs.Places.{Ascending};
 ghost use Rattle.sedtext.specs.Required.{IsRequired};
 ghost use Rattle.sedtext.specs.Spans.{SomeFound, Matches};
 ghost use Rattle.sedpass.specs.Decide.{HasDesk, KeepsGroupRoom};
 ghost use Rattle.sedmatch.specs.Candidates.{NoMatchBefore};
-ghost use Rattle.sedmatch.specs.Passes.{ArePasses, ArePassTables, HavePassRoom, SamePassRoom, IsDesk, KeepsDesk, KeepsPasses, AnswersGroups, AnswersMatch};
+ghost use Rattle.sedmatch.specs.Passes.{ArePasses, ArePassTables, HavePassRoom, SamePassRoom, IsDeskFor, KeepsDesk, KeepsPasses, AnswersGroups, AnswersMatch};
 
 use crate::Span;
 use crate::scratch::Desk;
@@ -197,19 +198,11 @@ fn matches_with(
     let Some(start) = next_start(&sought.begins, text, from, steps) else {
         return false;
     };
+    let (any, one) = (&mut tables.forward_any, &mut tables.groups.forward_one);
     match &sought.begins {
         // The first place alone is a start, and a pass from it can end early.
-        Begins::AtStart => tables
-            .groups
-            .forward_one
-            .run(prepared, text, start, work, steps)
-            .end
-            .is_some(),
-        _ => tables
-            .forward_any
-            .run(prepared, text, start, work, steps)
-            .end
-            .is_some(),
+        Begins::AtStart => one.run(prepared, text, start, work, steps).end.is_some(),
+        _ => any.run(prepared, text, start, work, steps).end.is_some(),
     }
 }
 
@@ -223,8 +216,7 @@ pub fn matches_by(
 ) -> bool
     requires from { from ≤ length text.now }
     requires passes { ArePasses passes.old.sought.prepared.arena.expr passes.old }
-    requires desk { IsDesk desk.old }
-    requires few { length passes.old.sought.prepared.arena.expr.nodes ≤ desk.old.max_nodes }
+    requires desk { IsDeskFor passes.old.sought.prepared.arena.expr text.now desk.old }
     ensures passes { KeepsPasses passes.old passes.new }
     ensures desk { KeepsDesk desk.old desk.new }
     ensures answered { AnswersMatch passes.old.sought.prepared.arena.expr text.now from steps.old steps.new result }
@@ -269,8 +261,7 @@ fn groups_with(
     room: &mut GroupRoom,
     steps: &mut Steps,
 ) -> GroupSpans
-    requires order { span.0 ≤ span.1 }
-    requires inside { span.1 ≤ length subject.text.now }
+    requires order { Ascending span.0 span.1 (length subject.text.now) }
     requires spans { Matches (expression_tree subject.prepared.now.arena.expr) subject.text.now span.0 span.1 }
     requires desk { HasDesk subject tables.old room.old.kept }
     requires none { room.old.tasks.items ≡ [] }
@@ -288,12 +279,9 @@ fn groups_with(
 
 /// The same by the tables that serve all.
 pub fn shared_groups(subject: Subject, span: Span, desk: &mut Desk, steps: &mut Steps) -> GroupSpans
-    requires order { span.0 ≤ span.1 }
-    requires inside { span.1 ≤ length subject.text.now }
+    requires order { Ascending span.0 span.1 (length subject.text.now) }
     requires spans { Matches (expression_tree subject.prepared.now.arena.expr) subject.text.now span.0 span.1 }
-    requires desk { IsDesk desk.old }
-    requires short { length subject.text.now ≤ desk.old.max_text }
-    requires few { length subject.prepared.now.arena.expr.nodes ≤ desk.old.max_nodes }
+    requires desk { IsDeskFor subject.prepared.now.arena.expr subject.text.now desk.old }
     ensures desk { KeepsDesk desk.old desk.new }
     ensures answered { AnswersGroups subject.entry.prepared.now.arena.expr subject.entry.text.now span steps.old steps.new result }
 {
@@ -310,13 +298,10 @@ pub fn groups_by(
     desk: &mut Desk,
     steps: &mut Steps,
 ) -> GroupSpans
-    requires order { span.0 ≤ span.1 }
-    requires inside { span.1 ≤ length text.now }
+    requires order { Ascending span.0 span.1 (length text.now) }
     requires spans { Matches (expression_tree passes.old.sought.prepared.arena.expr) text.now span.0 span.1 }
     requires passes { ArePasses passes.old.sought.prepared.arena.expr passes.old }
-    requires desk { IsDesk desk.old }
-    requires short { length text.now ≤ desk.old.max_text }
-    requires few { length passes.old.sought.prepared.arena.expr.nodes ≤ desk.old.max_nodes }
+    requires desk { IsDeskFor passes.old.sought.prepared.arena.expr text.now desk.old }
     ensures passes { KeepsPasses passes.old passes.new }
     ensures desk { KeepsDesk desk.old desk.new }
     ensures answered { AnswersGroups passes.old.sought.prepared.arena.expr text.now span steps.old steps.new result }

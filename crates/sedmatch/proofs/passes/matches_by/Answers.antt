@@ -16,7 +16,7 @@ returns-in-Some-own-clause-answered c =
     (first.narrowed (expression_tree p.arena.expr) c.requires.passes.0.required) first.cost first.counts done.matches done.passes done.cost
 
 pub fit-requires : goal.fit-requires
-fit-requires c = passes_fewer (length c.args.passes.now.sought.prepared.arena.expr.nodes) c.args.desk.now.max_nodes c.args.desk.now.shared c.requires.desk.shared c.requires.few
+fit-requires c = passes_fewer (length c.args.passes.now.sought.prepared.arena.expr.nodes) c.args.desk.now.max_nodes c.args.desk.now.shared c.requires.desk.0.shared c.requires.desk.2
 
 pub matches_with-requires-2-clause-from : goal.matches_with-requires-2-clause-from
 matches_with-requires-2-clause-from c = (c.in-Some.ensures.narrowed (expression_tree c.args.passes.now.sought.prepared.arena.expr) c.requires.passes.0.required).1
@@ -24,7 +24,7 @@ matches_with-requires-2-clause-from c = (c.in-Some.ensures.narrowed (expression_
 pub returns-clause-desk : goal.returns-clause-desk
 returns-clause-desk c =
     let d = c.args.desk.now in
-    let is = c.requires.desk in
+    let is = c.requires.desk.0 in
     let new = c.matches_with-2.new in
     let done = c.matches_with-2.ensures in
     desk_again d (record d.room { kept = record d.room.kept { work = new.work } }) d.reverse_any new.tables is (worked d.room.kept new.work) is.space.none (omega arith) is.reverse_any

@@ -3,15 +3,15 @@ use Rattle.sedmatch.proofs.PassLemmas.{desk_again, groups_fewer, groups_used, ro
 use Rattle.sedmatch.proofs.passes.shared_groups.Goals as goal
 
 pub fit-requires : goal.fit-requires
-fit-requires c = record { roomy = groups_fewer (length c.args.subject.prepared.now.arena.expr.nodes) c.args.desk.now.max_nodes c.args.desk.now.shared.groups c.requires.desk.shared.1 c.requires.few }
+fit-requires c = record { roomy = groups_fewer (length c.args.subject.prepared.now.arena.expr.nodes) c.args.desk.now.max_nodes c.args.desk.now.shared.groups c.requires.desk.0.shared.1 c.requires.desk.2 }
 
 pub groups_with-requires-clause-desk : goal.groups_with-requires-clause-desk
-groups_with-requires-clause-desk c = shared_decides c.args.subject c.fit.new.self c.args.desk.now c.fit.ensures.tables c.fit.ensures.room c.requires.desk c.requires.short c.requires.few
+groups_with-requires-clause-desk c = shared_decides c.args.subject c.fit.new.self c.args.desk.now c.fit.ensures.tables c.fit.ensures.room c.requires.desk.0 c.requires.desk.1 c.requires.desk.2
 
 pub returns-clause-desk : goal.returns-clause-desk
 returns-clause-desk c =
     let d = c.args.desk.now in
-    let is = c.requires.desk in
+    let is = c.requires.desk.0 in
     let p = c.args.subject.prepared.now in
     let fit = c.fit.ensures.room in
     let after = c.groups_with.new.tables in

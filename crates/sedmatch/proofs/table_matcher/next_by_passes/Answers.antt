@@ -10,12 +10,12 @@ returns-in-Some-clause-passes c =
     (refl, (own.0, own.1, groups_after _ c.in-Some.own.groups c.next_by.new.forward_one own.2 done.forward_one.table done.forward_one_shape))
 
 pub returns-in-Some-clause-desk : goal.returns-in-Some-clause-desk
-returns-in-Some-clause-desk c = (c.requires.desk, refl, refl)
+returns-in-Some-clause-desk c = (c.requires.desk.0, refl, refl)
 
 pub fit-requires : goal.fit-requires
 fit-requires c =
     let d = c.args.desk.now in
-    record { roomy = roomy_fewer (length c.args.passes.now.sought.prepared.arena.expr.nodes) d.max_nodes d.shared.groups.forward_one c.requires.few c.requires.desk.shared.1.forward_one }
+    record { roomy = roomy_fewer (length c.args.passes.now.sought.prepared.arena.expr.nodes) d.max_nodes d.shared.groups.forward_one c.requires.desk.2 c.requires.desk.0.shared.1.forward_one }
 
 pub returns-clause-passes : goal.returns-clause-passes
 returns-clause-passes c = (refl, c.requires.passes.1)
@@ -23,7 +23,7 @@ returns-clause-passes c = (refl, c.requires.passes.1)
 pub returns-clause-desk : goal.returns-clause-desk
 returns-clause-desk c =
     let d = c.args.desk.now in
-    let is = c.requires.desk in
+    let is = c.requires.desk.0 in
     let new = c.next_by-2.new.forward_one in
     let done = c.next_by-2.ensures in
     desk_again d d.room d.reverse_any (record d.shared { groups = record d.shared.groups { forward_one = new } }) is (worked d.room.kept d.room.kept.work) is.space.none (omega arith) is.reverse_any
