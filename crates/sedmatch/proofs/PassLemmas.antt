@@ -189,11 +189,8 @@ shared_decides s fitted d tables fit is short few =
     own_decides s fitted d (length s.text.now) tables is short few refl (omega (arith, enough, short))
 
 -- a table that was fitted to an expression and served it goes the same way, and has all its room
-used : (way : Way) (m : ℕ) (p : Prepared) (t fitted after : Table) → IsRoomyWay way m t → SameRoom t fitted → SameRoom fitted after → IsTable p after → IsRoomyWay way m after
+pub used : (way : Way) (m : ℕ) (p : Prepared) (t fitted after : Table) → IsRoomyWay way m t → SameRoom t fitted → SameRoom fitted after → IsTable p after → IsRoomyWay way m after
 used way m p t fitted after roomy fit same table = (roomy_still m p t after roomy.0 (same.0 ∙ fit.0, same.1 ∙ fit.1, same.2 ∙ fit.2, same.3 ∙ fit.3) table, same.0 ∙ fit.0 ∙ roomy.1)
-
-pub kept_used : (m : ℕ) (p : Prepared) (t fitted after : Table) → IsRoomyWay reverse_any_way m t → SameRoom t fitted → SameShape fitted after → IsTable p after → IsRoomyWay reverse_any_way m after
-kept_used m p t fitted after roomy fit same table = used reverse_any_way m p t fitted after roomy fit (shape_room fitted after same) table
 
 -- so do those for groups, where both were, or the one of passes forwards alone
 pub groups_used : (m : ℕ) (p : Prepared) (t fitted after : GroupTables) → AreRoomy m t → SameRooms t fitted → SameRooms fitted after → IsTable p after.reverse_one → IsTable p after.forward_one → AreRoomy m after

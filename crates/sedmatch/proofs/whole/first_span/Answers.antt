@@ -2,7 +2,7 @@ use Rattle.std.proofs.Common.{◌-◌, ◌*◌, ◌≤◌, length, ap, refl, ◌
 use Rattle.sedre.specs.Tree.{expression_tree}
 use Rattle.sedpass.proofs.KeptLemmas.{space_then}
 use Rattle.sedpass.proofs.TableLemmas.{roomy_fewer}
-use Rattle.sedmatch.proofs.PassLemmas.{desk_again, desk_keeps, kept_used, one_used}
+use Rattle.sedmatch.proofs.PassLemmas.{desk_again, desk_keeps, one_used, shape_room, used}
 use Rattle.sedmatch.proofs.OnceLemmas.{looks_at_span}
 use Rattle.sedmatch.proofs.whole.first_span.Goals as goal
 
@@ -48,7 +48,7 @@ returns-clause-desk c =
     let tables = c.next_kept.ensures.tables in
     let space = space_then d.room.kept c.begin.new.self new.kept c.begin.ensures.space tables.space in
     desk_again d (record d.room { kept = new.kept }) new.reverse_any (record d.shared { groups = record d.shared.groups { forward_one = new.forward_one } }) is space is.space.none (omega arith)
-    (kept_used d.max_nodes p d.reverse_any c.fit-2.new.self new.reverse_any is.reverse_any c.fit-2.ensures.room tables.reverse_any_shape c.next_kept.ensures.next.kept.region.table)
+    (used _ d.max_nodes p d.reverse_any c.fit-2.new.self new.reverse_any is.reverse_any c.fit-2.ensures.room (shape_room c.fit-2.new.self new.reverse_any tables.reverse_any_shape) c.next_kept.ensures.next.kept.region.table)
     (is.shared.0, one_used d.max_nodes p d.shared.groups c.fit.new.self new.forward_one is.shared.1 c.fit.ensures.room tables.forward_one_shape tables.forward_one.table) (tables.reverse_any_shape.1 ∙ c.fit-2.ensures.room.1) refl
 
 pub returns-clause-cost : goal.returns-clause-cost
