@@ -15,7 +15,7 @@ use Rattle.sedtext.specs.Matching.{leftmost_longest}
 use Rattle.sedtext.specs.Words.{row_of}
 use Rattle.sedpass.specs.Kept.{KeptRoom, SameSpace}
 use Rattle.sedpass.specs.Search.{Searched, SearchServes, owed_after_search, search_cost, owed_behind}
-use Rattle.sedpass.specs.Table.{IsRoomy, IsTable, SameRoom, SameShape}
+use Rattle.sedpass.specs.Table.{IsRoomy, IsTable, SameRoom}
 use Rattle.sedpass.specs.declared.search.Seeking.{Seeking}
 use Rattle.sedpass.specs.declared.kept.Kept.{Kept}
 use Rattle.sedpass.specs.declared.nodes.Prepared.{Prepared}
@@ -23,7 +23,7 @@ use Rattle.sedpass.specs.declared.table.Table.{Table}
 use Rattle.sedpass.proofs.OccurrenceLemmas.{search_falls}
 use Rattle.sedpass.proofs.SearchLemmas.{search_long, serves_for, table_for}
 use Rattle.sedpass.proofs.TableLemmas.{roomy_fewer, roomy_still}
-use Rattle.sedmatch.proofs.PassLemmas.{blocks_enough, few_looks, kept_room}
+use Rattle.sedmatch.proofs.PassLemmas.{blocks_enough, few_looks, kept_room, shape_room}
 use Rattle.sedmatch.specs.declared.occurrences.Occurrences.{Occurrences}
 use Rattle.sedmatch.specs.Passes.{IsRoomyWay, reverse_any_way}
 use Rattle.sedmatch.specs.Occurrences.{HasTable, HaveOwn, IsReverseAny, IsReady, RoomAt, RoomFor, ServesFrom, SearchTakes, ServesIn, ServesOn, AnswersNext, owed, owed_after, owed_search}
@@ -77,9 +77,6 @@ space_refl k = record { places = refl; edges = refl; marks = λ q. refl }
 
 pub space_by : (k k' : Kept) → k' ≡ k → SameSpace k k'
 space_by k k' is = subst (SameSpace k) (sym is) (space_refl k)
-
-shape_room : (t t' : Table) → SameShape t t' → SameRoom t t'
-shape_room t t' same = (same.0, same.1, same.3, same.4)
 
 -- a table for an expression is one however that was made ready
 pub reverse_any_made : (p : Prepared) (e : WrittenExpression) (t : Table) → p.arena.expr ≡ e → IsTable p t → t.way ≡ reverse_any_way → IsReverseAny e t

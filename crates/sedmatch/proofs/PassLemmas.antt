@@ -18,19 +18,20 @@ use Rattle.sedtext.specs.Reach.{IsLongestFrom}
 use Rattle.sedpass.specs.Decide.{AreGroupTables, AreRoomy, HasDesk, HasSpace, SameRooms, SameTables}
 use Rattle.sedpass.specs.Kept.{KeptRoom, SameSpace}
 use Rattle.sedtext.specs.Words.{row_of}
-use Rattle.sedpass.specs.Table.{IsForwardOne, IsRoomy, IsTable, SameRoom, SameShape}
+use Rattle.sedpass.specs.Table.{IsForwardOne, IsTable, SameRoom, SameShape}
 use Rattle.sedpass.specs.declared.groups.GroupRoom.{GroupRoom}
 use Rattle.sedpass.specs.declared.groups.GroupTables.{GroupTables}
 use Rattle.sedpass.specs.declared.kept.Kept.{Kept}
 use Rattle.sedpass.specs.declared.kept.Subject.{Subject}
 use Rattle.sedpass.specs.declared.nodes.Prepared.{Prepared}
+use Rattle.sedpass.specs.declared.rows.Way.{Way}
 use Rattle.sedpass.specs.declared.rows.Work.{Work}
 use Rattle.sedpass.specs.declared.table.Table.{Table}
 use Rattle.sedpass.proofs.DecideLemmas.{has_desk, space_again}
 use Rattle.sedpass.proofs.TableLemmas.{roomy_fewer, roomy_still}
 use Rattle.sedpass.proofs.OneGroupLemmas.{enters_nothing}
-use Rattle.sedmatch.specs.Passes.{AreOwn, IsDesk, IsRoomyWay, KeepsDesk, AnswersGroups, AnswersMatch, forward_any_way, reverse_any_way}
-use Rattle.sedmatch.specs.declared.passes.OwnTables.{OwnTables}
+use Rattle.sedmatch.specs.Passes.{ArePassTables, HavePassRoom, SamePassRoom, IsDesk, IsRoomyWay, KeepsDesk, AnswersGroups, AnswersMatch, reverse_any_way}
+use Rattle.sedmatch.specs.declared.passes.PassTables.{PassTables}
 use Rattle.sedmatch.specs.declared.scratch.Desk.{Desk}
 use Rattle.sedpass.proofs.ForwardLemmas.{passes_later}
 
@@ -82,16 +83,22 @@ whole_shown e w span s expr none spans =
 
 -- Tables.
 
--- those of its own serve the expression
-pub there_own : (p : Prepared) (own : Option OwnTables) (t : OwnTables) → own ≡ Some t → AreOwn p own → AreOwn p (Some t)
-there_own p own t is are = subst (AreOwn p) is are
+pub shape_room : (t t' : Table) → SameShape t t' → SameRoom t t'
+shape_room t t' same = (same.0, same.1, same.3, same.4)
 
--- the tables serve the expression still, where the one of passes forwards searched
-pub groups_after : (p : Prepared) (t : GroupTables) (after : Table) → AreGroupTables p t → IsForwardOne p after → SameShape t.forward_one after → AreGroupTables p (record t { forward_one = after })
-groups_after p t after are one same = record {
+pub rooms_of : (t t' : GroupTables) → SameTables t t' → SameRooms t t'
+rooms_of t t' same = record { reverse_one = shape_room t.reverse_one t'.reverse_one same.reverse_one; forward_one = shape_room t.forward_one t'.forward_one same.forward_one }
+
+-- the one of passes forwards from one start
+pub one_of : (p : Prepared) (t : GroupTables) → AreGroupTables p t → IsForwardOne p t.forward_one
+one_of p t are = record { table = are.forward_one; forwards = ap (λ v. v.mirrored) are.ways.forward_one; single = ap (λ v. v.all_starts) are.ways.forward_one }
+
+-- the tables serve the expression still, where that one searched
+pub groups_after : (p : Prepared) (t : GroupTables) (after : Table) → AreGroupTables p t → IsTable p after → SameShape t.forward_one after → AreGroupTables p (record t { forward_one = after })
+groups_after p t after are table same = record {
   ways = record { reverse_one = are.ways.reverse_one; forward_one = same.0 ∙ are.ways.forward_one };
   reverse_one = are.reverse_one;
-  forward_one = one.table;
+  forward_one = table;
 }
 
 -- and where both decided groups
@@ -105,30 +112,29 @@ groups_decided s t after kept are desk same = record {
 -- The desk.
 
 -- room that was made
-pub desk_made : (text nodes block : ℕ) (room : GroupRoom) (forward_any reverse_any : Table) (shared : GroupTables) → HasSpace text (text / block + 1) nodes room → IsRoomyWay forward_any_way nodes forward_any → IsRoomyWay reverse_any_way nodes reverse_any →
-    AreRoomy nodes shared → shared.reverse_one.room ≡ block + 1 → reverse_any.room ≡ block + 1 → text / block + 1 ≤ 32768 →
-    IsDesk (record { room = room; forward_any = forward_any; reverse_any = reverse_any; shared = shared; max_text = text; max_nodes = nodes })
-desk_made text nodes block room forward_any reverse_any shared space forward keeps roomy states rows few =
-    let width : shared.reverse_one.room - 1 ≡ block = omega (arith, states) in
+pub desk_made : (text nodes block : ℕ) (room : GroupRoom) (reverse_any : Table) (shared : PassTables) → HasSpace text (text / block + 1) nodes room → IsRoomyWay reverse_any_way nodes reverse_any → HavePassRoom nodes shared →
+    shared.groups.reverse_one.room ≡ block + 1 → reverse_any.room ≡ block + 1 → text / block + 1 ≤ 32768 →
+    IsDesk (record { room = room; reverse_any = reverse_any; shared = shared; max_text = text; max_nodes = nodes })
+desk_made text nodes block room reverse_any shared space keeps roomy states rows few =
+    let width : shared.groups.reverse_one.room - 1 ≡ block = omega (arith, states) in
     record {
       space = subst (λ v. HasSpace text (text / v + 1) nodes room) (sym width) space;
-      forward_any = forward;
       reverse_any = keeps;
       states = rows ∙ sym states;
       shared = roomy;
       few = (let e = space.edges in omega (arith, e, few));
     }
 
--- the tables that serve all have room for an expression
-pub shared_serves : (m : ℕ) (d : Desk) → IsDesk d → m ≤ d.max_nodes → AreRoomy m d.shared
-shared_serves m d is few = record {
-  ways = is.shared.ways;
-  reverse_one = roomy_fewer m d.max_nodes d.shared.reverse_one few is.shared.reverse_one;
-  forward_one = roomy_fewer m d.max_nodes d.shared.forward_one few is.shared.forward_one;
+-- tables have room for fewer nodes too
+pub groups_fewer : (m nodes : ℕ) (t : GroupTables) → AreRoomy nodes t → m ≤ nodes → AreRoomy m t
+groups_fewer m nodes t roomy few = record {
+  ways = roomy.ways;
+  reverse_one = roomy_fewer m nodes t.reverse_one few roomy.reverse_one;
+  forward_one = roomy_fewer m nodes t.forward_one few roomy.forward_one;
 }
 
-pub forward_any_serves : (m : ℕ) (d : Desk) → IsDesk d → m ≤ d.max_nodes → IsRoomy m d.forward_any
-forward_any_serves m d is few = roomy_fewer m d.max_nodes d.forward_any few is.forward_any.0
+pub passes_fewer : (m nodes : ℕ) (t : PassTables) → HavePassRoom nodes t → m ≤ nodes → HavePassRoom m t
+passes_fewer m nodes t roomy few = ((roomy_fewer m nodes t.forward_any few roomy.0.0, roomy.0.1), groups_fewer m nodes t.groups roomy.1 few)
 
 halves : (edges blocks : ℕ) → edges ≡ 2 * blocks → edges / 2 ≡ blocks
 halves edges blocks is = omega (arith, is)
@@ -138,7 +144,7 @@ pub own_decides : (s : Subject) (t : GroupTables) (d : Desk) (bytes : ℕ) → A
     bytes ≡ length s.text.now → bytes < length d.room.kept.edges / 2 * (t.reverse_one.room - 1) → HasDesk s t d.room.kept
 own_decides s t d bytes tables is short few long enough =
     let blocks = subst (λ v. v < length d.room.kept.edges / 2 * (t.reverse_one.room - 1)) long enough in
-    let all = d.max_text / (d.shared.reverse_one.room - 1) + 1 in
+    let all = d.max_text / (d.shared.groups.reverse_one.room - 1) + 1 in
     let half = halves (length d.room.kept.edges) all is.space.edges in
     has_desk s t d.room d.max_text all d.max_nodes tables is.space short (subst (λ v. length s.text.now < v * (t.reverse_one.room - 1)) half blocks) few
 
@@ -166,8 +172,8 @@ kept_room m n t k way places enough marks = record {
 }
 
 -- those of a desk are enough for its tables, also where they are fitted to an expression
-desk_enough : (d : Desk) (room : ℕ) → IsDesk d → room ≡ d.shared.reverse_one.room → 2 ≤ room → d.max_text < length d.room.kept.edges / 2 * (room - 1)
-desk_enough d room is same some = blocks_enough d.max_text (d.shared.reverse_one.room - 1) room (length d.room.kept.edges) (omega (arith, same, some)) (ap (λ v. v - 1) same) is.space.edges
+desk_enough : (d : Desk) (room : ℕ) → IsDesk d → room ≡ d.shared.groups.reverse_one.room → 2 ≤ room → d.max_text < length d.room.kept.edges / 2 * (room - 1)
+desk_enough d room is same some = blocks_enough d.max_text (d.shared.groups.reverse_one.room - 1) room (length d.room.kept.edges) (omega (arith, same, some)) (ap (λ v. v - 1) same) is.space.edges
 
 pub desk_keeps : (d : Desk) (p : Prepared) (reverse_any : Table) (m n : ℕ) → IsDesk d → IsTable p reverse_any → SameRoom d.reverse_any reverse_any → n ≤ d.max_text → m ≤ d.max_nodes → KeptRoom m n reverse_any d.room.kept
 desk_keeps d p reverse_any m n is table same short few =
@@ -176,49 +182,48 @@ desk_keeps d p reverse_any m n is table same short few =
     kept_room m n reverse_any d.room.kept (same.0 ∙ is.reverse_any.1) (omega (arith, places, short)) (omega (arith, enough, short)) (λ q low. let marks = is.space.marks q low in omega (arith, marks, few))
 
 -- and those that serve all do, fitted to it
-pub shared_decides : (s : Subject) (fitted : GroupTables) (d : Desk) → AreGroupTables s.prepared.now fitted → SameRooms d.shared fitted → IsDesk d → length s.text.now ≤ d.max_text →
+pub shared_decides : (s : Subject) (fitted : GroupTables) (d : Desk) → AreGroupTables s.prepared.now fitted → SameRooms d.shared.groups fitted → IsDesk d → length s.text.now ≤ d.max_text →
     length s.prepared.now.arena.expr.nodes ≤ d.max_nodes → HasDesk s fitted d.room.kept
 shared_decides s fitted d tables fit is short few =
     let enough = desk_enough d fitted.reverse_one.room is fit.reverse_one.1 tables.reverse_one.room.rows.some in
     own_decides s fitted d (length s.text.now) tables is short few refl (omega (arith, enough, short))
 
--- the table goes the same way, and has as much room for expressions of at most m nodes
-pub record IsAgain (m : ℕ) (old new : Table) : Type 0 where
-  pub roomy : IsRoomy m new
-  pub way : new.way ≡ old.way
-  pub room : new.room ≡ old.room
+-- a table that was fitted to an expression and served it goes the same way, and has all its room
+pub used : (way : Way) (m : ℕ) (p : Prepared) (t fitted after : Table) → IsRoomyWay way m t → SameRoom t fitted → SameRoom fitted after → IsTable p after → IsRoomyWay way m after
+used way m p t fitted after roomy fit same table = (roomy_still m p t after roomy.0 (same.0 ∙ fit.0, same.1 ∙ fit.1, same.2 ∙ fit.2, same.3 ∙ fit.3) table, same.0 ∙ fit.0 ∙ roomy.1)
 
-pub untouched : (m : ℕ) (t : Table) → IsRoomy m t → IsAgain m t t
-untouched m t roomy = record { roomy = roomy; way = refl; room = refl }
+-- so do those for groups, where both were, or the one of passes forwards alone
+pub groups_used : (m : ℕ) (p : Prepared) (t fitted after : GroupTables) → AreRoomy m t → SameRooms t fitted → SameRooms fitted after → IsTable p after.reverse_one → IsTable p after.forward_one → AreRoomy m after
+groups_used m p t fitted after roomy fit same reverse_one forward_one =
+    let back = used _ m p t.reverse_one fitted.reverse_one after.reverse_one (roomy.reverse_one, roomy.ways.reverse_one) fit.reverse_one same.reverse_one reverse_one in
+    let on = used _ m p t.forward_one fitted.forward_one after.forward_one (roomy.forward_one, roomy.ways.forward_one) fit.forward_one same.forward_one forward_one in
+    record { ways = record { reverse_one = back.1; forward_one = on.1 }; reverse_one = back.0; forward_one = on.0 }
 
--- after it was fitted to an expression and served it
-pub used_again : (m : ℕ) (p : Prepared) (t fitted after : Table) → IsRoomy m t → SameRoom t fitted → SameShape fitted after → IsTable p after → IsAgain m t after
-used_again m p t fitted after roomy fit same table = record {
-  roomy = roomy_still m p t after roomy (same.0 ∙ fit.0, same.1 ∙ fit.1, same.3 ∙ fit.2, same.4 ∙ fit.3) table;
-  way = same.0 ∙ fit.0;
-  room = same.1 ∙ fit.1;
-}
+pub one_used : (m : ℕ) (p : Prepared) (t : GroupTables) (fitted after : Table) → AreRoomy m t → SameRoom t.forward_one fitted → SameShape fitted after → IsTable p after → AreRoomy m (record t { forward_one = after })
+one_used m p t fitted after roomy fit same table =
+    let on = used _ m p t.forward_one fitted after (roomy.forward_one, roomy.ways.forward_one) fit (shape_room fitted after same) table in
+    record { ways = record { reverse_one = roomy.ways.reverse_one; forward_one = on.1 }; reverse_one = roomy.reverse_one; forward_one = on.0 }
+
+-- and all tables
+pub all_used : (m : ℕ) (p : Prepared) (t fitted after : PassTables) → HavePassRoom m t → SamePassRoom t fitted → SamePassRoom fitted after → ArePassTables p after → HavePassRoom m after
+all_used m p t fitted after roomy fit same are =
+    (used _ m p t.forward_any fitted.forward_any after.forward_any roomy.0 fit.0 same.0 are.0, groups_used m p t.groups fitted.groups after.groups roomy.1 fit.1 same.1 are.2.reverse_one are.2.forward_one)
 
 -- other marks take none of the room
 pub worked : (kept : Kept) (work : Work) → SameSpace kept (record kept { work = work })
 worked kept work = record { places = refl; edges = refl; marks = λ q. refl }
 
 -- the desk after a search, or after groups were decided
-pub desk_again : (d : Desk) (room : GroupRoom) (forward_any reverse_any : Table) (shared : GroupTables) → IsDesk d → SameSpace d.room.kept room.kept → room.tasks.items ≡ [] → vec_capacity d.room.tasks ≤ vec_capacity room.tasks →
-    IsAgain d.max_nodes d.forward_any forward_any → IsAgain d.max_nodes d.reverse_any reverse_any → IsAgain d.max_nodes d.shared.reverse_one shared.reverse_one → IsAgain d.max_nodes d.shared.forward_one shared.forward_one →
-    KeepsDesk d (record d { room = room; forward_any = forward_any; reverse_any = reverse_any; shared = shared })
-desk_again d room forward_any reverse_any shared is same none grows forward_any_again reverse_any_again reverse_one_again forward_one_again = (
+pub desk_again : (d : Desk) (room : GroupRoom) (reverse_any : Table) (shared : PassTables) → IsDesk d → SameSpace d.room.kept room.kept → room.tasks.items ≡ [] → vec_capacity d.room.tasks ≤ vec_capacity room.tasks →
+    IsRoomyWay reverse_any_way d.max_nodes reverse_any → HavePassRoom d.max_nodes shared → reverse_any.room ≡ d.reverse_any.room → shared.groups.reverse_one.room ≡ d.shared.groups.reverse_one.room →
+    KeepsDesk d (record d { room = room; reverse_any = reverse_any; shared = shared })
+desk_again d room reverse_any shared is same none grows keeps roomy rows states = (
   record {
-    space = subst (λ v. HasSpace d.max_text (d.max_text / (v - 1) + 1) d.max_nodes room) (sym reverse_one_again.room)
-        (space_again d.max_text (d.max_text / (d.shared.reverse_one.room - 1) + 1) d.max_nodes d.room room is.space same none grows);
-    forward_any = (forward_any_again.roomy, forward_any_again.way ∙ is.forward_any.1);
-    reverse_any = (reverse_any_again.roomy, reverse_any_again.way ∙ is.reverse_any.1);
-    states = reverse_any_again.room ∙ is.states ∙ sym reverse_one_again.room;
-    shared = record {
-      ways = record { reverse_one = reverse_one_again.way ∙ is.shared.ways.reverse_one; forward_one = forward_one_again.way ∙ is.shared.ways.forward_one };
-      reverse_one = reverse_one_again.roomy;
-      forward_one = forward_one_again.roomy;
-    };
+    space = subst (λ v. HasSpace d.max_text (d.max_text / (v - 1) + 1) d.max_nodes room) (sym states)
+        (space_again d.max_text (d.max_text / (d.shared.groups.reverse_one.room - 1) + 1) d.max_nodes d.room room is.space same none grows);
+    reverse_any = keeps;
+    states = rows ∙ is.states ∙ sym states;
+    shared = roomy;
     few = (let e = same.edges in let h = is.few in omega (arith, h, e));
   },
   refl,

@@ -9,7 +9,6 @@ use Rattle.sedtext.specs.Matching.{leftmost_longest}
 use Rattle.sedpass.specs.Kept.{KeptRoom}
 use Rattle.sedpass.specs.Search.{SearchServes, owed_behind}
 use Rattle.sedpass.specs.Table.{IsRoomy, IsTable}
-use Rattle.sedpass.specs.declared.kept.Kept.{Kept}
 use Rattle.sedpass.specs.declared.nodes.Prepared.{Prepared}
 use Rattle.sedpass.specs.declared.search.Seeking.{Seeking}
 use Rattle.sedpass.specs.declared.table.Table.{Table}
@@ -19,10 +18,6 @@ use Rattle.sedmatch.specs.declared.occurrences.Occurrences.{Occurrences}
 -- the table is for such passes over the expression, however that was made ready
 abbrev pub IsReverseAny : WrittenExpression → Table → Type 0
 IsReverseAny e t = (t.way ≡ reverse_any_way) × ((p : Prepared) → p.arena.expr ≡ e → IsTable p t)
-
--- the table can be fitted to expressions of so many nodes, for texts of `text` bytes
-abbrev pub IsShared : ℕ → ℕ → Kept → Table → Type 0
-IsShared text nodes kept t = IsRoomy nodes t × (t.way ≡ reverse_any_way) × KeptRoom nodes text t kept
 
 -- the table in the list for the expression e, of number x, is for it, where there is one
 abbrev pub HasOwn : ℕ → WrittenExpression → List (Option Table) → Type 0
@@ -35,7 +30,7 @@ HaveOwn es own = (x : ℕ) (e : WrittenExpression) → slice_get es x ≡ Some e
 -- there is room for texts of `text` bytes and for the expression e, of number x: the table that serves all can be fitted to it, and
 -- where it has one of its own, that is for it
 pub record RoomAt (text x : ℕ) (e : WrittenExpression) (o : Occurrences) : Type 0 where
-  pub shared : IsShared text (length e.nodes) o.seeking.kept o.shared
+  pub shared : IsRoomy (length e.nodes) o.shared × (o.shared.way ≡ reverse_any_way) × KeptRoom (length e.nodes) text o.shared o.seeking.kept
   pub few : length o.seeking.kept.edges ≤ 65536
   pub own : HasOwn x e o.own.items
 

@@ -117,9 +117,9 @@ impl Occurrences {
         ensures { IfOk result (RoomFor max_text matchers.now) }
     {
         let width = width_for(max_text);
+        let own = own_tables(alloc, matchers)?;
         let kept = Kept::new(alloc, max_text, max_text / width + 1, max_nodes)?;
         let shared = Table::with_room(alloc, REVERSE_ANY, width + 1, max_nodes)?;
-        let own = own_tables(alloc, matchers)?;
         Ok(Occurrences {
             seeking: Seeking {
                 kept,
@@ -275,16 +275,8 @@ pub fn next_by(
         let reverse_any = &mut occurrences.shared;
         return next_with(sought, text, forward_one, reverse_any, seeking, last, steps);
     }
-    match &mut occurrences.own[occurrences.number] {
-        Some(reverse_any) => next_with(
-            sought,
-            text,
-            forward_one,
-            reverse_any,
-            seeking,
-            last,
-            steps,
-        ),
-        None => unreachable!(),
-    }
+    let Some(reverse_any) = &mut occurrences.own[occurrences.number] else {
+        unreachable!()
+    };
+    next_with(sought, text, forward_one, reverse_any, seeking, last, steps)
 }

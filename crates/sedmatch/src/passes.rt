@@ -7,13 +7,12 @@ ghost use Rattle.sedre.specs.Steps.{Takes, TakesAtLeast};
 ghost use Rattle.sedtext.specs.Beginnings.{AllBegin};
 ghost use Rattle.sedtext.specs.Following.{LooksPast};
 ghost use Rattle.sedtext.specs.Links.{IsChain, IsWithin};
+ghost use Rattle.sedtext.specs.Places.{Ascending};
 ghost use Rattle.sedtext.specs.Required.{IsRequired};
-ghost use Rattle.sedpass.specs.Table.{IsForwardOne, IsForwardAny, SameShape};
 ghost use Rattle.sedtext.specs.Spans.{SomeFound, Matches};
-ghost use Rattle.sedpass.specs.Decide.{HasDesk, SameTables};
-ghost use Rattle.sedpass.specs.Kept.{SameSpace};
+ghost use Rattle.sedpass.specs.Decide.{HasDesk, KeepsGroupRoom};
 ghost use Rattle.sedmatch.specs.Candidates.{NoMatchBefore};
-ghost use Rattle.sedmatch.specs.Passes.{AreOwn, ArePasses, IsDesk, KeepsDesk, KeepsPasses, AnswersGroups, AnswersMatch};
+ghost use Rattle.sedmatch.specs.Passes.{ArePasses, ArePassTables, HavePassRoom, SamePassRoom, IsDeskFor, KeepsDesk, KeepsPasses, AnswersGroups, AnswersMatch};
 
 use crate::Span;
 use crate::scratch::Desk;
@@ -42,9 +41,9 @@ pub struct Sought {
     pub required: Option<RequiredLiteral>,
 }
 
-/// The tables of one expression.
+/// The tables by which an expression is searched.
 #[derive(Drop)]
-pub struct OwnTables {
+pub struct PassTables {
     /// Forwards, every place a start.
     pub forward_any: Table,
     /// Forwards from one start, and those for groups.
@@ -57,11 +56,11 @@ pub struct Passes {
     /// What is found out of it once.
     pub sought: Sought,
     /// Its own tables, if there is room for them.
-    pub own: Option<OwnTables>,
+    pub own: Option<PassTables>,
 }
 
 /// The way of passes forwards in which every place is a start.
-pub const FORWARD_ANY: Way = Way {
+const FORWARD_ANY: Way = Way {
     mirrored: false,
     all_starts: true,
 };
@@ -82,27 +81,49 @@ fn size_of(nodes: usize, states: usize) -> usize {
     state.saturating_mul(TABLES).saturating_mul(states)
 }
 
+impl PassTables {
+    /// Empty tables with room for so many states each of any expression of at most so many nodes, which serve none yet. Fails
+    /// only where a request for memory was refused.
+    pub fn with_room(alloc: Global, room: usize, nodes: usize) -> Result<PassTables, AllocError>
+        requires some { 2 ≤ room }
+        requires few { room ≤ 65535 }
+        requires nodes { 1 ≤ nodes }
+        requires short { nodes ≤ 65536 }
+        ensures tables { IfOk result (HavePassRoom nodes) }
+        ensures room { IfOk result (λ t. t.groups.reverse_one.room ≡ room) }
+    {
+        Ok(PassTables {
+            forward_any: Table::with_room(alloc, FORWARD_ANY, room, nodes)?,
+            groups: GroupTables::with_room(alloc, room, nodes)?,
+        })
+    }
+
+    /// Begins to serve an expression, and forgets what was of another one.
+    pub fn fit(&mut self, prepared: &Prepared)
+        requires { HavePassRoom (length prepared.now.arena.expr.nodes) self.old }
+        ensures tables { ArePassTables prepared.now self.new }
+        ensures room { SamePassRoom self.old self.new }
+    {
+        self.forward_any.fit(prepared);
+        self.groups.fit(prepared);
+    }
+}
+
 /// Tables for an expression, if they don't take more room than there is.
 fn own_tables(
     alloc: Global,
     prepared: &Prepared,
     room: TableRoom,
-) -> Result<Option<OwnTables>, AllocError>
-    ensures { IfOk result (AreOwn prepared.now) }
+) -> Result<Option<PassTables>, AllocError>
+    ensures { IfOk result (λ own. IfSome own (ArePassTables prepared.now)) }
 {
-    let states = room.states.clamp(2, 513);
-    if size_of(prepared.nodes(), states) > room.bytes {
+    let (states, nodes) = (room.states.clamp(2, 513), prepared.nodes());
+    if size_of(nodes, states) > room.bytes {
         return Ok(None);
     }
-    let nodes = prepared.nodes();
-    let mut forward_any = Table::with_room(alloc, FORWARD_ANY, states, nodes)?;
-    let mut groups = GroupTables::with_room(alloc, states, nodes)?;
-    forward_any.fit(prepared);
-    groups.fit(prepared);
-    Ok(Some(OwnTables {
-        forward_any,
-        groups,
-    }))
+    let mut own = PassTables::with_room(alloc, states, nodes)?;
+    own.fit(prepared);
+    Ok(Some(own))
 }
 
 /// An expression that is searched by passes, whose chain this is, with its own tables if there is room for them.
@@ -159,20 +180,16 @@ pub fn candidate_by(sought: &Sought, text: &Text, steps: &mut Steps) -> Option<u
 fn matches_with(
     sought: &Sought,
     text: &Text,
-    forward_any: &mut Table,
-    forward_one: &mut Table,
+    tables: &mut PassTables,
     from: usize,
     work: &mut Work,
     steps: &mut Steps,
 ) -> bool
     requires begins { AllBegin (expression_tree sought.now.prepared.arena.expr) sought.now.begins }
-    requires forward_any { IsForwardAny sought.now.prepared forward_any.old }
-    requires forward_one { IsForwardOne sought.now.prepared forward_one.old }
+    requires tables { ArePassTables sought.now.prepared tables.old }
     requires from { from ≤ length text.now }
-    ensures forward_any { IsForwardAny sought.now.prepared forward_any.new }
-    ensures forward_any_shape { SameShape forward_any.old forward_any.new }
-    ensures forward_one { IsForwardOne sought.now.prepared forward_one.new }
-    ensures forward_one_shape { SameShape forward_one.old forward_one.new }
+    ensures tables { ArePassTables sought.now.prepared tables.new }
+    ensures room { SamePassRoom tables.old tables.new }
     ensures matches { IsTrue result ↔ SomeFound (expression_tree sought.now.prepared.arena.expr) text.now from }
     ensures passes { IsTrue result → LooksPast (expression_tree sought.now.prepared.arena.expr) text.now from steps.old steps.new }
     ensures cost { Takes steps.old steps.new (43 * length sought.now.prepared.arena.expr.nodes * (length text.now + 1)) }
@@ -181,16 +198,11 @@ fn matches_with(
     let Some(start) = next_start(&sought.begins, text, from, steps) else {
         return false;
     };
+    let (any, one) = (&mut tables.forward_any, &mut tables.groups.forward_one);
     match &sought.begins {
         // The first place alone is a start, and a pass from it can end early.
-        Begins::AtStart => forward_one
-            .run(prepared, text, start, work, steps)
-            .end
-            .is_some(),
-        _ => forward_any
-            .run(prepared, text, start, work, steps)
-            .end
-            .is_some(),
+        Begins::AtStart => one.run(prepared, text, start, work, steps).end.is_some(),
+        _ => any.run(prepared, text, start, work, steps).end.is_some(),
     }
 }
 
@@ -204,8 +216,7 @@ pub fn matches_by(
 ) -> bool
     requires from { from ≤ length text.now }
     requires passes { ArePasses passes.old.sought.prepared.arena.expr passes.old }
-    requires desk { IsDesk desk.old }
-    requires few { length passes.old.sought.prepared.arena.expr.nodes ≤ desk.old.max_nodes }
+    requires desk { IsDeskFor passes.old.sought.prepared.arena.expr text.now desk.old }
     ensures passes { KeepsPasses passes.old passes.new }
     ensures desk { KeepsDesk desk.old desk.new }
     ensures answered { AnswersMatch passes.old.sought.prepared.arena.expr text.now from steps.old steps.new result }
@@ -216,13 +227,10 @@ pub fn matches_by(
     };
     let work = &mut desk.room.kept.work;
     if let Some(own) = &mut passes.own {
-        let (forward_any, forward_one) = (&mut own.forward_any, &mut own.groups.forward_one);
-        return matches_with(sought, text, forward_any, forward_one, start, work, steps);
+        return matches_with(sought, text, own, start, work, steps);
     }
-    desk.forward_any.fit(&sought.prepared);
-    desk.shared.forward_one.fit(&sought.prepared);
-    let (forward_any, forward_one) = (&mut desk.forward_any, &mut desk.shared.forward_one);
-    matches_with(sought, text, forward_any, forward_one, start, work, steps)
+    desk.shared.fit(&sought.prepared);
+    matches_with(sought, text, &mut desk.shared, start, work, steps)
 }
 
 /// The groups of a match of an expression without groups.
@@ -253,17 +261,13 @@ fn groups_with(
     room: &mut GroupRoom,
     steps: &mut Steps,
 ) -> GroupSpans
-    requires order { span.0 ≤ span.1 }
-    requires inside { span.1 ≤ length subject.text.now }
+    requires order { Ascending span.0 span.1 (length subject.text.now) }
     requires spans { Matches (expression_tree subject.prepared.now.arena.expr) subject.text.now span.0 span.1 }
     requires desk { HasDesk subject tables.old room.old.kept }
     requires none { room.old.tasks.items ≡ [] }
     requires tasks { 2 * length subject.prepared.now.arena.expr.nodes ≤ vec_capacity room.old.tasks }
-    ensures desk { HasDesk subject.entry tables.new room.new.kept }
-    ensures shape { SameTables tables.old tables.new }
-    ensures space { SameSpace room.old.kept room.new.kept }
+    ensures room { KeepsGroupRoom subject.entry tables.old tables.new room.old room.new }
     ensures none { room.new.tasks.items ≡ [] }
-    ensures tasks { vec_capacity room.old.tasks ≤ vec_capacity room.new.tasks }
     ensures answered { AnswersGroups subject.entry.prepared.now.arena.expr subject.entry.text.now span steps.old steps.new result }
 {
     if subject.prepared.arena.groups() == 0 {
@@ -275,17 +279,15 @@ fn groups_with(
 
 /// The same by the tables that serve all.
 pub fn shared_groups(subject: Subject, span: Span, desk: &mut Desk, steps: &mut Steps) -> GroupSpans
-    requires order { span.0 ≤ span.1 }
-    requires inside { span.1 ≤ length subject.text.now }
+    requires order { Ascending span.0 span.1 (length subject.text.now) }
     requires spans { Matches (expression_tree subject.prepared.now.arena.expr) subject.text.now span.0 span.1 }
-    requires desk { IsDesk desk.old }
-    requires short { length subject.text.now ≤ desk.old.max_text }
-    requires few { length subject.prepared.now.arena.expr.nodes ≤ desk.old.max_nodes }
+    requires desk { IsDeskFor subject.prepared.now.arena.expr subject.text.now desk.old }
     ensures desk { KeepsDesk desk.old desk.new }
     ensures answered { AnswersGroups subject.entry.prepared.now.arena.expr subject.entry.text.now span steps.old steps.new result }
 {
-    desk.shared.fit(subject.prepared);
-    groups_with(subject, &mut desk.shared, span, &mut desk.room, steps)
+    let tables = &mut desk.shared.groups;
+    tables.fit(subject.prepared);
+    groups_with(subject, tables, span, &mut desk.room, steps)
 }
 
 /// The groups of a match that begins and ends at these places.
@@ -296,13 +298,10 @@ pub fn groups_by(
     desk: &mut Desk,
     steps: &mut Steps,
 ) -> GroupSpans
-    requires order { span.0 ≤ span.1 }
-    requires inside { span.1 ≤ length text.now }
+    requires order { Ascending span.0 span.1 (length text.now) }
     requires spans { Matches (expression_tree passes.old.sought.prepared.arena.expr) text.now span.0 span.1 }
     requires passes { ArePasses passes.old.sought.prepared.arena.expr passes.old }
-    requires desk { IsDesk desk.old }
-    requires short { length text.now ≤ desk.old.max_text }
-    requires few { length passes.old.sought.prepared.arena.expr.nodes ≤ desk.old.max_nodes }
+    requires desk { IsDeskFor passes.old.sought.prepared.arena.expr text.now desk.old }
     ensures passes { KeepsPasses passes.old passes.new }
     ensures desk { KeepsDesk desk.old desk.new }
     ensures answered { AnswersGroups passes.old.sought.prepared.arena.expr text.now span steps.old steps.new result }

@@ -1,8 +1,8 @@
 //! The room that searches work in, made once.
 ghost use Rattle.std.specs.Prelude.{◌≡◌, ◌^◌, ◌≤◌, IfOk};
 
-use crate::passes::{FORWARD_ANY, REVERSE_ANY};
-use sedpass::groups::{GroupRoom, GroupTables};
+use crate::passes::{PassTables, REVERSE_ANY};
+use sedpass::groups::GroupRoom;
 use sedpass::nodes::Prepared;
 use sedpass::table::Table;
 use sedpass::width::width_for;
@@ -14,12 +14,10 @@ use std::marker::Model;
 pub struct Desk {
     /// The room.
     pub room: GroupRoom,
-    /// The table of passes forwards in which every place is a start.
-    pub forward_any: Table,
     /// The table of passes from the text's end.
     pub reverse_any: Table,
-    /// The tables of passes forwards from one start, and for groups.
-    pub shared: GroupTables,
+    /// All other tables.
+    pub shared: PassTables,
     /// How many bytes a text has at most,
     pub max_text: usize,
     /// and how many nodes an expression.
@@ -57,15 +55,14 @@ impl Scratch {
         ensures { IfOk result (λ s. (s.text ≡ max_text) × (s.nodes ≡ max_nodes)) }
     {
         let block = width_for(max_text);
+        let prepared = Prepared::with_room(alloc, max_nodes)?;
         let desk = Desk {
             room: GroupRoom::new(alloc, max_text, max_text / block + 1, max_nodes)?,
-            forward_any: Table::with_room(alloc, FORWARD_ANY, block + 1, max_nodes)?,
             reverse_any: Table::with_room(alloc, REVERSE_ANY, block + 1, max_nodes)?,
-            shared: GroupTables::with_room(alloc, block + 1, max_nodes)?,
+            shared: PassTables::with_room(alloc, block + 1, max_nodes)?,
             max_text,
             max_nodes,
         };
-        let prepared = Prepared::with_room(alloc, max_nodes)?;
         Ok(Scratch { desk, prepared })
     }
 

@@ -14,7 +14,7 @@ ghost use Rattle.sedpass.specs.Decide.{spans_in};
 ghost use Rattle.sedpass.specs.Walks.{EntersGroups};
 ghost use Rattle.sedmatch.specs.Direct.{IsDirect};
 ghost use Rattle.sedmatch.specs.Occurrences.{ServesFrom, ServesOn, AnswersNext, owed, owed_after, owed_direct, owed_direct_after};
-ghost use Rattle.sedmatch.specs.Passes.{ArePasses, IsDesk, KeepsDesk, KeepsPasses};
+ghost use Rattle.sedmatch.specs.Passes.{ArePasses, IsDeskFor, KeepsDesk, KeepsPasses};
 ghost use Rattle.sedmatch.specs.Stretches.{end_or};
 
 use crate::Span;
@@ -114,8 +114,7 @@ fn next_by_passes(
     steps: &mut Steps,
 ) -> Option<Span>
     requires passes { ArePasses passes.old.sought.prepared.arena.expr passes.old }
-    requires desk { IsDesk desk.old }
-    requires few { length passes.old.sought.prepared.arena.expr.nodes ≤ desk.old.max_nodes }
+    requires desk { IsDeskFor passes.old.sought.prepared.arena.expr text.now desk.old }
     requires last { EndsWithin (length text.now) last }
     requires serves { ServesFrom passes.old.sought.prepared.arena.expr text.now last occurrences.old }
     ensures passes { KeepsPasses passes.old passes.new }
@@ -127,7 +126,7 @@ fn next_by_passes(
         let forward_one = &mut own.groups.forward_one;
         return next_by(sought, text, forward_one, occurrences, last, steps);
     }
-    let forward_one = &mut desk.shared.forward_one;
+    let forward_one = &mut desk.shared.groups.forward_one;
     forward_one.fit(&sought.prepared);
     next_by(sought, text, forward_one, occurrences, last, steps)
 }

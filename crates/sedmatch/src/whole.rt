@@ -5,7 +5,7 @@ ghost use Rattle.sedtext.specs.Answer.{IsComputed, MatchAnswer, SpanAnswer};
 ghost use Rattle.sedtext.specs.SearchRoom.{FitInto};
 ghost use Rattle.sedre.specs.Steps.{StepsWithin, Takes, TakesAtLeast};
 ghost use Rattle.sedpass.specs.Walks.{EntersGroups};
-ghost use Rattle.sedmatch.specs.Passes.{IsDesk, KeepsDesk};
+ghost use Rattle.sedmatch.specs.Passes.{IsDeskFor, KeepsDesk};
 
 use crate::Span;
 use crate::passes::shared_groups;
@@ -18,25 +18,19 @@ use sedtext::{Found, Text};
 /// Where the match begins and ends that [`find`] finds, of an expression that was made ready.
 fn first_span(subject: Subject, from: usize, desk: &mut Desk, steps: &mut Steps) -> Option<Span>
     requires from { from ≤ length subject.text.now }
-    requires desk { IsDesk desk.old }
-    requires short { length subject.text.now ≤ desk.old.max_text }
-    requires few { length subject.prepared.now.arena.expr.nodes ≤ desk.old.max_nodes }
+    requires desk { IsDeskFor subject.prepared.now.arena.expr subject.text.now desk.old }
     ensures desk { KeepsDesk desk.old desk.new }
     ensures answer { SpanAnswer (expression_tree subject.entry.prepared.now.arena.expr) subject.entry.text.now from result }
     ensures cost { let m = length subject.entry.prepared.now.arena.expr.nodes in
         Takes steps.old steps.new (142 * m * length subject.entry.text.now + 42 * m) }
     ensures counts { IfSome result (λ f. TakesAtLeast steps.old steps.new (f.1 - f.0)) }
 {
-    desk.shared.forward_one.fit(subject.prepared);
-    desk.reverse_any.fit(subject.prepared);
-    let (forward_one, reverse_any) = (&mut desk.shared.forward_one, &mut desk.reverse_any);
-    let kept = &mut desk.room.kept;
-    kept.begin(
-        subject,
-        reverse_any,
-        subject.prepared.root,
-        subject.text.len(),
-    );
+    let forward_one = &mut desk.shared.groups.forward_one;
+    let reverse_any = &mut desk.reverse_any;
+    forward_one.fit(subject.prepared);
+    reverse_any.fit(subject.prepared);
+    let (kept, end) = (&mut desk.room.kept, subject.text.len());
+    kept.begin(subject, reverse_any, subject.prepared.root, end);
     next_kept(subject, forward_one, reverse_any, kept, from, steps)
 }
 

@@ -3,7 +3,7 @@ use Rattle.std.proofs.Common.{inl, inr, ◌≡◌, ℕ, ◌+◌, ◌-◌, ◌*�
 use Rattle.std.specs.Bool.{then_some}
 use Rattle.sedpass.proofs.Words.{option_or, cases_lt, cases_Bool, both_ways, slice_get_within, IsArena, expression_tree, tree_at, Tree, seen, Node, Starts, TakesAtLeast, LooksPast, byte_is_in, HasSpan, IsStart, SomeSpan, IsLongestFrom, Matches, SomeFound, Matches-forward, Matches-within, IsPlace, StateFlags, PlaceKind, Prepared, Way, Table, Passed, seen-arena, seen-length, least_less, least_since, least_both}
 use Rattle.sedpass.specs.Rows.{nodes_of, at_begin, at_edge, RowOfPlace}
-use Rattle.sedpass.specs.Table.{PassState, state_of, FlagsShow, StateAt, LeadsOn, BeginsIn, NamesState, IsTable, IsForwardOne, IsForwardAny, SameShape, code_of}
+use Rattle.sedpass.specs.Table.{PassState, state_of, FlagsShow, StateAt, LeadsOn, BeginsIn, NamesState, IsTable, IsForwardOne, SameShape, code_of}
 use Rattle.sedpass.specs.Forwards.{starts_of, LastBelow, IsPassEnd, Arrives, EndsBelow, PassIs, is_over}
 use Rattle.sedpass.proofs.RowLemmas.{dead, row_root, row_empty}
 use Rattle.sedpass.proofs.TableLemmas.{names_state, names_flags, names_shown, names_map}
@@ -252,14 +252,6 @@ forward_one_still p a b is table shape = record {
   table = table;
   forwards = ap (λ v. v.mirrored) shape.0 ∙ is.forwards;
   single = ap (λ v. v.all_starts) shape.0 ∙ is.single;
-}
-
--- and so is one in which every place is a start
-pub forward_any_still : (p : Prepared) (a b : Table) → IsForwardAny p a → IsTable p b → SameShape a b → IsForwardAny p b
-forward_any_still p a b is table shape = record {
-  table = table;
-  forwards = ap (λ v. v.mirrored) shape.0 ∙ is.forwards;
-  all_starts = ap (λ v. v.all_starts) shape.0 ∙ is.all_starts;
 }
 
 -- What is passed over.

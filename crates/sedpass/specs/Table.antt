@@ -177,12 +177,6 @@ pub record IsForwardOne (p : Prepared) (t : Table) : Type 0 where
   pub forwards : t.way.mirrored ≡ false
   pub single : t.way.all_starts ≡ false
 
--- one in which every place is a start
-pub record IsForwardAny (p : Prepared) (t : Table) : Type 0 where
-  pub table : IsTable p t
-  pub forwards : t.way.mirrored ≡ false
-  pub all_starts : IsTrue t.way.all_starts
-
 -- a state was added at most, and those before stay as they were; or, in another epoch, all were forgotten before, as the table was full
 pub record AddsStates (m : ℕ) (old new : Table) : Type 0 where
   pub shape : SameShape old new

@@ -1,8 +1,8 @@
-use Rattle.std.proofs.Common.{◌∙◌, refl, subst, sym, arith, length}
+use Rattle.std.proofs.Common.{◌∙◌, ap, refl, subst, sym, arith, length}
 use Rattle.sedre.specs.Tree.{expression_tree}
 use Rattle.sedtext.specs.Beginnings.{AllBegin}
-use Rattle.sedmatch.proofs.PassLemmas.{anchored_shown}
-use Rattle.sedpass.proofs.ForwardLemmas.{forward_any_still, forward_one_still, passes_later, passes_shown}
+use Rattle.sedmatch.proofs.PassLemmas.{anchored_shown, groups_after, one_of, shape_room}
+use Rattle.sedpass.proofs.ForwardLemmas.{passes_later, passes_shown}
 use Rattle.sedpass.proofs.SearchLemmas.{match_cost, some_from}
 use Rattle.sedmatch.proofs.passes.matches_with.Goals as goal
 
@@ -15,12 +15,10 @@ returns-in-AtStart c =
     let run = c.run.ensures in
     let is = c.is_some.ensures in
     let from = some_from e w c.args.sought.now.begins c.args.from c.in-Some.start c.requires.begins next.next in
-    let shown = anchored_shown e w c.in-Some.start c.run.result.end c.is_some.result next.next.1 (subst (AllBegin e) c.in-AtStart.is c.requires.begins) (run.longest c.requires.forward_one.single) is in
+    let shown = anchored_shown e w c.in-Some.start c.run.result.end c.is_some.result next.next.1 (subst (AllBegin e) c.in-AtStart.is c.requires.begins) (run.longest (one_of p c.args.tables.now.groups c.requires.tables.2).single) is in
     record {
-      forward_any = c.requires.forward_any;
-      forward_any_shape = (refl, refl, refl, refl, refl);
-      forward_one = forward_one_still p c.args.forward_one.now c.run.new.self c.requires.forward_one run.table run.shape;
-      forward_one_shape = run.shape;
+      tables = (c.requires.tables.0, c.requires.tables.1, groups_after p c.args.tables.now.groups c.run.new.self c.requires.tables.2 run.table run.shape);
+      room = ((refl, refl, refl, refl), record { reverse_one = (refl, refl, refl, refl); forward_one = shape_room c.args.tables.now.groups.forward_one c.run.new.self run.shape });
       matches = (λ h. from.0 (shown.0 h), λ some. shown.1 (from.1 some));
       passes = λ h. passes_later e w c.args.from c.in-Some.start c.args.steps.now c.next_start.new.steps c.run.new.steps next.next.0 next.cost.0 next.counts
           (passes_shown e w c.in-Some.start c.next_start.new.steps c.run.new.steps c.run.result.end c.is_some.result is run.passes h);
@@ -39,12 +37,10 @@ returns-in_default-begins c =
     let run = c.run-in_default-begins.ensures in
     let is = c.is_some-in_default-begins.ensures in
     let from = some_from e w c.args.sought.now.begins c.args.from c.in-Some.start c.requires.begins next.next in
-    let all = run.found c.requires.forward_any.all_starts in
+    let all = run.found (ap (λ v. v.all_starts) c.requires.tables.1) in
     record {
-      forward_any = forward_any_still p c.args.forward_any.now c.run-in_default-begins.new.self c.requires.forward_any run.table run.shape;
-      forward_any_shape = run.shape;
-      forward_one = c.requires.forward_one;
-      forward_one_shape = (refl, refl, refl, refl, refl);
+      tables = (run.table, run.shape.0 ∙ c.requires.tables.1, c.requires.tables.2);
+      room = (shape_room c.args.tables.now.forward_any c.run-in_default-begins.new.self run.shape, record { reverse_one = (refl, refl, refl, refl); forward_one = (refl, refl, refl, refl) });
       matches = (λ h. from.0 (all.0 (sym is ∙ h)), λ some. is ∙ all.1 (from.1 some));
       passes = λ h. passes_later e w c.args.from c.in-Some.start c.args.steps.now c.next_start.new.steps c.run-in_default-begins.new.steps next.next.0 next.cost.0 next.counts
           (passes_shown e w c.in-Some.start c.next_start.new.steps c.run-in_default-begins.new.steps c.run-in_default-begins.result.end c.is_some-in_default-begins.result is run.passes h);
