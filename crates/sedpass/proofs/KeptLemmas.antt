@@ -138,9 +138,9 @@ region_kept p w t after k other shape table places long edges root end within re
 }
 
 -- nor does it matter what is in the rows that were kept
-pub passes_with : (p : Prepared) (w : List ℕ) (t : Table) (k : Kept) (edges : List (List Bool)) (work : Work) (place offset : ℕ) → length edges ≡ length k.edges → ((q : ℕ) → length (row_of edges q) ≡ length (row_of k.edges q)) →
-    PassesDownTo p w t k place offset → PassesDownTo p w t (record k { edges = edges; work = work }) place offset
-passes_with p w t k edges work place offset long rows passes =
+pub passes_with : (p : Prepared) (w : List ℕ) (t : Table) (k : Kept) (edges : List (List Bool)) (place offset : ℕ) → length edges ≡ length k.edges → ((q : ℕ) → length (row_of edges q) ≡ length (row_of k.edges q)) →
+    PassesDownTo p w t k place offset → PassesDownTo p w t (record k { edges = edges }) place offset
+passes_with p w t k edges place offset long rows passes =
     let region = passes.region in
     record {
       region = record {
@@ -170,19 +170,15 @@ passes_with p w t k edges work place offset long rows passes =
 pub block_there : (p : Prepared) (w : List ℕ) (t : Table) (k : Kept) (block place offset : ℕ) → PassesDownTo p w t k place offset → place ≡ block * (t.room - 1) + (t.room - 1) → 2 * block + 1 < length k.edges
 block_there p w t k block place offset passes at = let h = passes.within in let g = passes.region.inside in passes.region.room.blocks block (omega arith)
 
--- a row was kept by copies
-row_copied : (m : ℕ) (row mark leaf : List Bool) → AgreeBelow m row mark → AgreeBelow m mark leaf → bits m row ≡ bits m leaf
-row_copied m row mark leaf one two = bits_agree m row mark one ∙ bits_agree m mark leaf two
-
 -- the block's edge is kept, and those of later blocks are as they were
-pub edges_more : (p : Prepared) (w : List ℕ) (way : Way) (root end width block : ℕ) (old mid new : List (List Bool)) (mark other leaf last : List Bool) → 1 ≤ width → 2 * block + 1 < length old → length mid ≡ length old →
-    AgreeBelow (length p.arena.expr.nodes) (row_of mid (2 * block)) mark → AgreeBelow (length p.arena.expr.nodes) mark leaf → ((q : ℕ) → q < length old → (q ≡ 2 * block → ⊥) → row_of mid q ≡ row_of old q) →
-    AgreeBelow (length p.arena.expr.nodes) (row_of new (2 * block + 1)) other → AgreeBelow (length p.arena.expr.nodes) other last → ((q : ℕ) → q < length mid → (q ≡ 2 * block + 1 → ⊥) → row_of new q ≡ row_of mid q) →
+pub edges_more : (p : Prepared) (w : List ℕ) (way : Way) (root end width block : ℕ) (old mid new : List (List Bool)) (leaf last : List Bool) → 1 ≤ width → 2 * block + 1 < length old → length mid ≡ length old →
+    AgreeBelow (length p.arena.expr.nodes) (row_of mid (2 * block)) leaf → ((q : ℕ) → q < length old → (q ≡ 2 * block → ⊥) → row_of mid q ≡ row_of old q) →
+    AgreeBelow (length p.arena.expr.nodes) (row_of new (2 * block + 1)) last → ((q : ℕ) → q < length mid → (q ≡ 2 * block + 1 → ⊥) → row_of new q ≡ row_of mid q) →
     RowKept p w way root end (block * width + width) (bits (length p.arena.expr.nodes) leaf) (bits (length p.arena.expr.nodes) last) →
     ((b : ℕ) → block * width + width < b * width + width → b * width + width < end → IsEdge p w way root end old width b) →
     ((b : ℕ) → b * width + width < end → 2 * b + 1 < length old) →
     (b : ℕ) → block * width < b * width + width → b * width + width < end → IsEdge p w way root end new width b
-edges_more p w way root end width block old mid new mark other leaf last some inside same one two kept three four as_was here later room b after before =
+edges_more p w way root end width block old mid new leaf last some inside same one kept two as_was here later room b after before =
     let m = length p.arena.expr.nodes in
     ⊎_elim
     (λ (lt : block < b).
@@ -195,8 +191,8 @@ edges_more p w way root end width block old mid new mark other leaf last some in
     (λ (ge : b ≤ block).
     let e : b ≡ block =
     elim (cases_lt b block) [ inl lt ↦ let up : b + 1 ≤ block = omega arith in let h = mul-le-mul_left width up in absurd (omega (arith, h, after)) | inr le ↦ omega arith ] in
-    let first : bits m (row_of new (2 * block)) ≡ bits m leaf = ap (λ r. bits m r) (as_was (2 * block) (omega (arith, same)) (λ e. omega arith)) ∙ row_copied m (row_of mid (2 * block)) mark leaf one two in
-    let second : bits m (row_of new (2 * block + 1)) ≡ bits m last = row_copied m (row_of new (2 * block + 1)) other last three four in
+    let first : bits m (row_of new (2 * block)) ≡ bits m leaf = ap (λ r. bits m r) (as_was (2 * block) (omega (arith, same)) (λ e. omega arith)) ∙ bits_agree m (row_of mid (2 * block)) leaf one in
+    let second : bits m (row_of new (2 * block + 1)) ≡ bits m last = bits_agree m (row_of new (2 * block + 1)) last two in
     rw (e, first, second) here)
     (cases_lt block b)
 
@@ -453,26 +449,9 @@ shown_as P p w t after k other keeps shown =
     subst (λ (v : Way). P k.region.root (ends_shown v.all_starts (length w) k.region.end)) keeps.shape.0
     (subst (λ e. P k.region.root (ends_shown after.way.all_starts (length w) e)) keeps.same.end (subst (λ r. P r (ends_shown after.way.all_starts (length w) other.region.end)) keeps.same.root shown))
 
--- the same, where only the marks for its acts changed
-pub keeps_same : (p : Prepared) (w : List ℕ) (t : Table) (k other : Kept) → other.region ≡ k.region → other.states ≡ k.states → other.edges ≡ k.edges → IsKept p w t k → KeepsRegion p w t t k other
-keeps_same p w t k other region states edges kept =
-    let root = ap (λ r. r.root) region in
-    let end = ap (λ r. r.end) region in
-    let to = ap (λ r. r.to) region in
-    let low = ap (λ r. r.low) region in
-    let from = ap (λ r. r.from) region in
-    let shape : SameShape t t = (refl, refl, refl, refl, refl) in
-    record {
-      kept = record {
-        region = region_kept p w t t k other shape kept.region.table (ap (λ v. vec_capacity v) states) (ap (λ v. length v.items) states) edges root end (rw to kept.region.within) kept.region;
-        low = (let h = kept.low in omega (arith, h, low, from));
-        from = (let h = kept.from in omega (arith, h, from, end));
-        live = λ q above before. rw (root, end, states) (kept.live q (omega (arith, from, above)) (omega (arith, to, before)));
-        edges = edges_same p w t t k other k.region.low other.region.low shape edges root end (omega (arith, low)) kept.edges;
-      };
-      shape = shape;
-      same = same_by k other root end states edges;
-    }
+-- nothing changed
+pub keeps_same : (p : Prepared) (w : List ℕ) (t : Table) (k : Kept) → IsKept p w t k → KeepsRegion p w t t k k
+keeps_same p w t k kept = record { kept = kept; shape = (refl, refl, refl, refl, refl); same = record { root = refl; end = refl; space = space_same k } }
 
 -- A pass forwards beside the kept one.
 

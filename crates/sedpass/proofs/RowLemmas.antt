@@ -477,3 +477,16 @@ first_bits nodes w r s leaves c members inside is = (
   λ h. absurd (true≢false (sym (and_parts (slice_index_or leaves c false) false h).1)),
   λ h. let up = Enters-from nodes w r s c h.0 h.2 in let next = h.1 in absurd (omega arith),
 )
+
+-- Marks enough.
+
+pub set_long : (m : ℕ) (xs ys : List Bool) (i : ℕ) (v : Bool) → ys ≡ slice_set xs i v → m ≤ length xs → m ≤ length ys
+set_long m xs ys i v is low = omega (arith, ap length is, length-set xs i v, low)
+
+pub enter_long : (m : ℕ) (xs ys : List Bool) (here : Bool) (null ended : ℕ → Bool) (node : Node) → ys ≡ enter_parts here null ended node xs → m ≤ length xs → m ≤ length ys
+enter_long m xs ys here null ended (Seq a b) is low = set_long m _ ys b.index _ is (set_long m xs _ a.index here refl low)
+enter_long m xs ys here null ended (Alt a b) is low = set_long m _ ys b.index _ is (set_long m xs _ a.index here refl low)
+enter_long m xs ys here null ended (Group k a) is low = set_long m xs ys a.index _ is low
+enter_long m xs ys here null ended (Star a first) is low = set_long m xs ys a.index _ is low
+enter_long m xs ys here null ended (Opt a first) is low = set_long m xs ys a.index _ is low
+enter_long m xs ys here null ended other is low = omega (arith, ap length is, low)

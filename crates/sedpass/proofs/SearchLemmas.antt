@@ -6,7 +6,7 @@ use Rattle.sedpass.specs.Table.{IsTable, SameShape, PassState, state_of, LeadsOn
 use Rattle.sedpass.specs.Kept.{AllMarked, SameSpace, ends_shown, IsKept, IsRegion}
 use Rattle.sedpass.specs.Regions.{CeasesAt, all_of, ReachesEnd}
 use Rattle.sedpass.specs.Search.{LooksFrom, TrialsMade, owed_after_search, owed_kept, owed_seeking, search_cost, SearchServes, MaySearch, Searched}
-use Rattle.sedpass.proofs.KeptLemmas.{space_same, keeps_same, same_shape, space_then}
+use Rattle.sedpass.proofs.KeptLemmas.{space_same, same_shape, space_then}
 use Rattle.sedpass.proofs.OwedLemmas.{owed_small}
 use Rattle.sedpass.specs.declared.search.Trials.TheVariants.{Tired}
 use Rattle.sedpass.proofs.LeaveLemmas.{reaches_ends}
@@ -354,16 +354,16 @@ comes_tired p w a a' old mid from place before after shape space is is' few made
     }
 
 -- a search by trials leaves all as it was but for the table of passes forwards
-pub searched_by : (p : Prepared) (w : List ℕ) (first : Begins) (a a' b : Table) (s : Seeking) (work : Work) (tried : ℕ) → MaySearch p w first a b s → IsForwardOne p a' → SameShape a a' →
-    Searched p w a a' b b s (record s { kept = record s.kept { work = work }; tried = tried })
-searched_by p w first a a' b s work tried ready forward_one shape =
+pub searched_by : (p : Prepared) (w : List ℕ) (first : Begins) (a a' b : Table) (s : Seeking) (tried : ℕ) → MaySearch p w first a b s → IsForwardOne p a' → SameShape a a' →
+    Searched p w a a' b b s (record s { tried = tried })
+searched_by p w first a a' b s tried ready forward_one shape =
     record {
       tables = record { forward_one = forward_one; forward_one_shape = shape; reverse_any_shape = (refl, refl, refl, refl, refl); space = record { places = refl; edges = refl; marks = λ q. refl } };
       serves = record {
         table = ready.serves.table;
         room = (let room = ready.serves.room in record { mirrored = room.mirrored; places = room.places; blocks = room.blocks; marks = room.marks });
         all_starts = ready.serves.all_starts;
-        kept = λ begun. (keeps_same p w b s.kept (record s.kept { work = work }) refl refl refl (ready.serves.kept begun)).kept;
+        kept = ready.serves.kept;
       };
     }
 

@@ -1,7 +1,7 @@
 -- Tables of states.
 use Rattle.std.proofs.Common.{◌≡◌, ◌≢◌, ℕ, zero, suc, ◌+◌, ◌*◌, ◌/◌, ◌%◌, ◌^◌, ◌<◌, ◌≤◌, ◌↔◌, Bool, true, false, List, length, length-set, Option, Some, IsTrue, refl, sym, ap, ◌∙◌, subst, ⊎_elim, arith, min, mul-le-mul_left, slice_index_or, slice_set, replicate, vec_capacity}
 use Rattle.sedpass.proofs.Words.{same_from_place, shl-shr, shl_whole, shl_below, from_bool, with_item, pow-le-pow_right, cases_eq, get_or-set_same, get_or-set_other, get_or_default, IsExpr, WrittenExpression, mirror_node, seen, old_node, Node, Set, AgreeBelow, row_of, StateFlags, PlaceKind, Prepared, Way, Work, Beginning, Table}
-use Rattle.sedpass.specs.Rows.{nodes_of, at_begin, at_edge, bits, SameBytes, RowLeadsTo, IsFirstRow}
+use Rattle.sedpass.specs.Rows.{IsWide, nodes_of, at_begin, at_edge, bits, SameBytes, RowLeadsTo, IsFirstRow}
 use Rattle.sedpass.specs.Table.{PassState, state_of, FlagsShow, HasRow, HasMarks, LeadsOn, BeginsIn, NamesState, IsNext, IsOffset, cell_of, LeadsBy, kind_number, beginning_at, beginning_of, MayBegin, HasRoom, HasRows, IsRoomy, IsTable, SameRoom, SameShape, AddsStates, Codes, code_of, column_at, IsLayout, IsColumn}
 use Rattle.sedpass.specs.declared.cells.Layout.{Layout}
 use Rattle.sedpass.proofs.LeaveLemmas.{twice}
@@ -202,6 +202,7 @@ note_cell p t table offset k v byte edge there small column leads =
       count = old.count;
       marks = old.marks;
       rows = old.rows;
+      work = old.work;
       cells = omega (arith, length-set t.cells.items (offset + k) v, old.cells);
       reserved = old.reserved;
       index = old.index;
@@ -247,6 +248,7 @@ note_beginning p t table root code kind may epoch begins =
       count = old.count;
       marks = old.marks;
       rows = old.rows;
+      work = old.work;
       cells = old.cells;
       reserved = old.reserved;
       index = old.index;
@@ -296,6 +298,7 @@ emptied p t epoch expr room layout later =
       count = omega arith;
       marks = room.marks;
       rows = room.rows;
+      work = room.work;
       cells = omega arith;
       reserved = room.reserved;
       index = room.index;
@@ -446,10 +449,10 @@ none_noted items n is i =
 -- Room for expressions.
 
 -- an empty table that has all its parts, with so many beginnings, has all its room
-pub has_parts : (t : Table) (kinds : ℕ) → HasRows t.room t.marks t.leaves t.ends t.roots.items → t.room * min 256 (4 * (t.marks + 1)) ≤ vec_capacity t.cells →
+pub has_parts : (t : Table) (kinds : ℕ) → HasRows t.room t.marks t.leaves t.ends t.roots.items → IsWide t.marks t.work → t.room * min 256 (4 * (t.marks + 1)) ≤ vec_capacity t.cells →
     2 ≤ length t.index.items → length t.beginnings.items ≡ kinds → ((root : ℕ) (kind : PlaceKind) → root < t.marks → beginning_at t.way.all_starts root kind < kinds) → ((i : ℕ) → (beginning_of t i).epoch ≡ 0) →
     IsRoomy t.marks t
-has_parts t kinds rows reserved index long begins noted layout small tight =
+has_parts t kinds rows wide reserved index long begins noted layout small tight =
     let two : 0 < 2 = omega arith in
     let size : 2 ^ layout.shift ≤ 2 ^ 8 = pow-le-pow_right two small in
     let most : 2 ^ layout.shift ≤ min 256 (4 * (t.marks + 1)) = omega (arith, size, tight) in
@@ -457,6 +460,7 @@ has_parts t kinds rows reserved index long begins noted layout small tight =
       count = omega arith;
       marks = omega arith;
       rows = rows;
+      work = wide;
       cells = omega arith;
       reserved = omega (arith, reserved, mul-le-mul_left t.room most);
       index = index;
@@ -471,6 +475,7 @@ room_laid k m t layout room wide marks = record {
   count = omega arith;
   marks = marks;
   rows = room.rows;
+  work = room.work;
   cells = omega arith;
   reserved = wide;
   index = room.index;
@@ -511,18 +516,20 @@ pub record HasPlace (p : Prepared) (t t' : Table) : Type 0 where
   pub table : IsTable p t'
   pub room : t'.count < t'.room
   pub index : t'.index ≡ t.index
+  pub work : t'.work ≡ t.work
   pub adds : (new : Table) → AddsStates (length p.arena.expr.nodes) t' new → AddsStates (length p.arena.expr.nodes) t new
 
 pub with_place : (p : Prepared) (t : Table) → IsTable p t → (t.count ≡ t.room → ⊥) → HasPlace p t t
-with_place p t table other = let count = table.room.count in record { table = table; room = omega (arith, count, other); index = refl; adds = λ new adds. adds }
+with_place p t table other = let count = table.room.count in record { table = table; room = omega (arith, count, other); index = refl; work = refl; adds = λ new adds. adds }
 
-pub once_empty : (p : Prepared) (t t' : Table) → t.room ≤ t.count → IsTable p t' → t'.count ≡ 0 → (t'.epoch ≡ t.epoch → ⊥) → SameShape t t' → t'.index ≡ t.index → HasPlace p t t'
-once_empty p t t' full table none epoch shape index =
+pub once_empty : (p : Prepared) (t t' : Table) → t.room ≤ t.count → IsTable p t' → t'.count ≡ 0 → (t'.epoch ≡ t.epoch → ⊥) → SameShape t t' → t'.index ≡ t.index → t'.work ≡ t.work → HasPlace p t t'
+once_empty p t t' full table none epoch shape index work =
     let some = table.room.rows.some in
     record {
       table = table;
       room = omega (arith, none, some);
       index = index;
+      work = work;
       adds = λ new adds.
           let same = adds.full (omega (arith, none, some)) in
           let other : new.epoch ≡ t.epoch → ⊥ = λ e. epoch (sym same ∙ e) in
@@ -535,3 +542,34 @@ once_empty p t t' full table none epoch shape index =
             forgot = λ _. omega (arith, (adds.grows same).1, none);
           };
     }
+
+-- Marks for acts change nothing else.
+
+module _ (p : Prepared) (t : Table) (work : Work) where
+  pub table_work : IsTable p t → IsWide t.marks work → IsTable p (record t { work = work })
+  table_work table wide =
+      let m = length p.arena.expr.nodes in
+      let old = table.room in
+      let same_names : (P : PassState → Type 0) (x : ℕ) → NamesState m t P x → NamesState m (record t { work = work }) P x = λ P x n. record { to = n.to; there = n.there; flags = n.flags; shown = n.shown; code = n.code; is = n.is } in
+      record {
+        expr = table.expr;
+        room = record {
+          count = old.count;
+          marks = old.marks;
+          rows = old.rows;
+          work = wide;
+          cells = old.cells;
+          reserved = old.reserved;
+          index = old.index;
+          begins = old.begins;
+          past = old.past;
+          early = old.early;
+        };
+        layout = table.layout;
+        roots = table.roots;
+        filled = λ q k low near some. same_names (LeadsBy p t q k) (cell_of t q k) (table.filled q k low near some);
+        begun = λ root kind may now. same_names (BeginsIn (nodes_of t.way p.arena.expr) t.way root kind) (beginning_of t (beginning_at t.way.all_starts root kind)).code (table.begun root kind may now);
+      }
+
+  pub adds_work : (new : Table) → AddsStates (length p.arena.expr.nodes) (record t { work = work }) new → AddsStates (length p.arena.expr.nodes) t new
+  adds_work new adds = record { shape = adds.shape; grows = adds.grows; kept = adds.kept; full = adds.full; forgot = adds.forgot }

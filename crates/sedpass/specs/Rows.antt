@@ -13,6 +13,7 @@ use Rattle.sedtext.specs.Reach.{HasSpan, IsStart, Enters, PartFrom}
 use Rattle.sedpass.specs.Regions.{EndsPastIn}
 use Rattle.sedpass.specs.declared.nodes.PlaceKind.{PlaceKind}
 use Rattle.sedpass.specs.declared.rows.Way.{Way}
+use Rattle.sedpass.specs.declared.rows.Work.{Work}
 
 -- the nodes that a pass of the way sees
 abbrev pub nodes_of : Way → WrittenExpression → List Node
@@ -26,6 +27,14 @@ at_begin false kind = kind.begin
 abbrev pub at_edge : Bool → PlaceKind → Bool
 at_edge true kind = kind.begin
 at_edge false kind = kind.end
+
+-- there are marks for so many nodes
+abbrev pub IsWide : ℕ → Work → Type 0
+IsWide m work = (m ≤ length work.entered) × (m ≤ length work.ended) × (m ≤ length work.leaves) × (m ≤ length work.ends)
+
+-- and there still are
+abbrev pub StaysWide : Work → Work → Type 0
+StaysWide old new = (m : ℕ) → IsWide m old → IsWide m new
 
 -- the first m of the marks
 abbrev pub bits : ℕ → List Bool → ℕ → Bool

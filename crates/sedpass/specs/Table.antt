@@ -6,7 +6,7 @@ use Rattle.sedre.specs.Arena.{IsExpr}
 use Rattle.sedre.specs.declared.types.Node.{Node}
 use Rattle.sedtext.specs.declared.starts.Starts.{Starts}
 use Rattle.sedtext.specs.Words.{row_of}
-use Rattle.sedpass.specs.Rows.{nodes_of, at_begin, at_edge, bits, RowOfPlace, RowLeadsTo, IsFirstRow}
+use Rattle.sedpass.specs.Rows.{IsWide, nodes_of, at_begin, at_edge, bits, RowOfPlace, RowLeadsTo, IsFirstRow}
 use Rattle.sedpass.specs.declared.nodes.PlaceKind.{PlaceKind}
 use Rattle.sedpass.specs.declared.nodes.Prepared.{Prepared}
 use Rattle.sedpass.specs.declared.rows.Way.{Way}
@@ -141,6 +141,7 @@ pub record HasRoom (m : ℕ) (t : Table) : Type 0 where
   pub count : t.count ≤ t.room
   pub marks : m ≤ t.marks
   pub rows : HasRows t.room t.marks t.leaves t.ends t.roots.items
+  pub work : IsWide t.marks t.work
   pub cells : t.count * 2 ^ t.layout.shift ≤ length t.cells.items
   pub reserved : t.room * 2 ^ t.layout.shift ≤ vec_capacity t.cells
   pub index : 2 ≤ length t.index.items

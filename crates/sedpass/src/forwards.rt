@@ -11,7 +11,6 @@ ghost use Rattle.sedpass.specs.Forwards.{Arrives, EndsBelow, PassIs, is_over};
 
 use crate::cells::{StateFlags, flags_of, is_plain, offset_of};
 use crate::nodes::{Prepared, kind_of};
-use crate::rows::Work;
 use crate::table::Table;
 use sedre::Steps;
 use sedtext::counted::Text;
@@ -111,14 +110,7 @@ impl Table {
     }
 
     /// Goes on to the next place whose state the cells don't have, or to where the pass needn't go on.
-    fn go_on(
-        &mut self,
-        prepared: &Prepared,
-        text: &Text,
-        from: Passed,
-        work: &mut Work,
-        steps: &mut Steps,
-    ) -> Passed
+    fn go_on(&mut self, prepared: &Prepared, text: &Text, from: Passed, steps: &mut Steps) -> Passed
         requires table { IsTable prepared.now self.old }
         requires offset { IsOffset self.old from.offset }
         requires over { from.over ≡ false }
@@ -138,7 +130,7 @@ impl Table {
             return at;
         }
         let byte = text.byte(at.place, steps);
-        let code = self.next(prepared, at.offset, byte, at.place == last, work, steps);
+        let code = self.next(prepared, at.offset, byte, at.place == last, steps);
         self.arrive(prepared, text, code, at.place + 1, at.end)
     }
 
@@ -149,7 +141,6 @@ impl Table {
         prepared: &Prepared,
         text: &Text,
         from: usize,
-        work: &mut Work,
         steps: &mut Steps,
     ) -> Passed
         requires table { IsTable prepared.now self.old }
@@ -167,10 +158,10 @@ impl Table {
         ensures counts { TakesAtLeast steps.old steps.new (2 * (result.place - from) + 1) }
     {
         let kind = kind_of(from, text.len());
-        let code = self.first(prepared, prepared.root, kind, work, steps);
+        let code = self.first(prepared, prepared.root, kind, steps);
         let mut at = self.arrive(prepared, text, code, from, None);
         while !at.over && at.place < text.len() {
-            at = self.go_on(prepared, text, at, work, steps);
+            at = self.go_on(prepared, text, at, steps);
         }
         at
     }

@@ -14,7 +14,6 @@ ghost use Rattle.sedpass.specs.Kept.{AllMarked, ComesDown, EdgesFrom, Follows, I
 
 use crate::cells::offset_of;
 use crate::nodes::{Prepared, kind_of};
-use crate::rows::Work;
 use crate::table::Table;
 use sedre::Steps;
 use sedtext::counted::{Rows, Text};
@@ -68,8 +67,6 @@ pub struct Kept {
     pub states: Vec<u16>,
     /// For each block the row at its right end: the leaves entered, and then the nodes that end there.
     pub edges: Rows,
-    /// Marks for the acts of the pass.
-    pub work: Work,
 }
 
 /// Appends zeros until there is a state's number for each place of a text of so many bytes.
@@ -109,7 +106,6 @@ impl Kept {
             },
             states: Vec::with_capacity(alloc, max_text + 1)?,
             edges: Rows::new(alloc, 2 * blocks, nodes)?,
-            work: Work::new(alloc)?,
         })
     }
 
@@ -161,7 +157,7 @@ impl Kept {
             let byte = subject.text.byte(place, steps);
             let epoch = table.epoch;
             let edge = place == 0;
-            let code = table.next(subject.prepared, offset, byte, edge, &mut self.work, steps);
+            let code = table.next(subject.prepared, offset, byte, edge, steps);
             offset = offset_of(code);
             self.states[place] = table.state_at(offset) as u16;
             if table.epoch != epoch {
@@ -196,13 +192,10 @@ impl Kept {
         }
         let nodes = subject.prepared.nodes();
         let state = table.state_at(offset);
-        table
-            .leaves
-            .load(state, &mut self.work.leaves, nodes, steps);
-        table.ends.load(state, &mut self.work.ends, nodes, steps);
-        self.edges.store(2 * block, &self.work.leaves, nodes, steps);
         self.edges
-            .store(2 * block + 1, &self.work.ends, nodes, steps);
+            .copy(2 * block, &table.leaves, state, nodes, steps);
+        self.edges
+            .copy(2 * block + 1, &table.ends, state, nodes, steps);
     }
 
     /// The state of a place that is the region's end, or the right end of a block of which the row is kept; gives where its cells
@@ -234,10 +227,10 @@ impl Kept {
         let (prepared, root) = (subject.prepared, self.region.root);
         if place == self.region.end {
             let kind = kind_of(place, subject.text.len());
-            let code = table.first(prepared, root, kind, &mut self.work, steps);
+            let code = table.first(prepared, root, kind, steps);
             return offset_of(code);
         }
-        let code = table.load(prepared, root, block, &self.edges, &mut self.work, steps);
+        let code = table.load(prepared, root, block, &self.edges, steps);
         offset_of(code)
     }
 
@@ -441,7 +434,7 @@ impl Kept {
         ensures counts { TakesAtLeast steps.old steps.new (2 * (result - from) + 1) }
     {
         let kind = kind_of(from, subject.text.len());
-        let code = forward_one.first(subject.prepared, a, kind, &mut self.work, steps);
+        let code = forward_one.first(subject.prepared, a, kind, steps);
         let mut offset = offset_of(code);
         let mut place = from;
         while place < self.region.end {
@@ -459,7 +452,7 @@ impl Kept {
     /// Follows the pass forwards from a place, in the state whose cells begin at the offset, as long as it meets the kept one, among
     /// the places whose states are in the table; gives where it stopped, and where its state's cells begin.
     fn meet(
-        &mut self,
+        &self,
         subject: Subject,
         table: &Table,
         forward_one: &mut Table,
@@ -467,26 +460,24 @@ impl Kept {
         from: usize,
         steps: &mut Steps,
     ) -> (usize, usize)
-        requires kept { IsKept subject.prepared.now subject.text.now table.now self.old }
+        requires kept { IsKept subject.prepared.now subject.text.now table.now self.now }
         requires forward_one { IsTable subject.prepared.now forward_one.old }
         requires forwards { (forward_one.old.way.mirrored ≡ false) × (forward_one.old.way.all_starts ≡ false) }
         requires offset { IsOffset forward_one.old offset }
-        requires from { self.old.region.from ≤ from }
-        requires to { from < self.old.region.to }
-        ensures keeps { KeepsRegion subject.entry.prepared.now subject.entry.text.now table.now table.now self.old self.new }
+        requires from { self.now.region.from ≤ from }
+        requires to { from < self.now.region.to }
         ensures forward_one { IsTable subject.entry.prepared.now forward_one.new }
         ensures shape { SameShape forward_one.old forward_one.new }
-        ensures region { self.new.region ≡ self.old.region }
         ensures offset { IsOffset forward_one.new result.1 }
         ensures after { from ≤ result.0 }
-        ensures within { result.0 ≤ self.old.region.to }
-        ensures meets { (a i : ℕ) → a ≤ self.old.region.root → i ≤ from → Follows subject.entry.prepared.now subject.entry.text.now forward_one.old a i from offset →
+        ensures within { result.0 ≤ self.now.region.to }
+        ensures meets { (a i : ℕ) → a ≤ self.now.region.root → i ≤ from → Follows subject.entry.prepared.now subject.entry.text.now forward_one.old a i from offset →
             Follows subject.entry.prepared.now subject.entry.text.now forward_one.new a i result.0 result.1
-            × Meet subject.entry.prepared.now subject.entry.text.now table.now self.old a i from result.0
-            × (result.0 < self.old.region.to → MeetsAt subject.entry.prepared.now.arena.expr.nodes subject.entry.text.now self.old.region.root
-            (ends_shown table.now.way.all_starts (length subject.entry.text.now) self.old.region.end) a (one_start i) result.0 → ⊥) }
+            × Meet subject.entry.prepared.now subject.entry.text.now table.now self.now a i from result.0
+            × (result.0 < self.now.region.to → MeetsAt subject.entry.prepared.now.arena.expr.nodes subject.entry.text.now self.now.region.root
+            (ends_shown table.now.way.all_starts (length subject.entry.text.now) self.now.region.end) a (one_start i) result.0 → ⊥) }
         ensures cost { let m = length subject.entry.prepared.now.arena.expr.nodes in CostsWithin steps.old steps.new (36 * m * result.0 + m) (36 * m * from) }
-        ensures whole { let m = length subject.entry.prepared.now.arena.expr.nodes in result.0 ≡ self.old.region.to → CostsWithin steps.old steps.new (36 * m * result.0) (36 * m * from) }
+        ensures whole { let m = length subject.entry.prepared.now.arena.expr.nodes in result.0 ≡ self.now.region.to → CostsWithin steps.old steps.new (36 * m * result.0) (36 * m * from) }
         ensures counts { TakesAtLeast steps.old steps.new (2 * (result.0 - from)) }
     {
         let length = subject.text.len();
@@ -505,14 +496,7 @@ impl Kept {
             }
             let byte = subject.text.byte(place, steps);
             let edge = place + 1 == length;
-            let code = forward_one.next(
-                subject.prepared,
-                offset,
-                byte,
-                edge,
-                &mut self.work,
-                steps,
-            );
+            let code = forward_one.next(subject.prepared, offset, byte, edge, steps);
             offset = offset_of(code);
         }
         (self.region.to, offset)

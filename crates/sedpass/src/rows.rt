@@ -2,7 +2,7 @@
 //!
 //! The row of a place shows which leaves are entered there, in a match from one of the pass's starts, and which nodes
 //! ended there. The leaves entered decide, with the byte, the next row.
-ghost use Rattle.std.specs.Prelude.{◌≡◌, ℕ, List, Bool, false, ◌+◌, ◌-◌, ◌*◌, ◌<◌, ◌≤◌, ◌↔◌, ◌&&◌, ◌||◌, length, Some, slice_index_or, IsTrue};
+ghost use Rattle.std.specs.Prelude.{◌≡◌, ℕ, List, Bool, false, ◌+◌, ◌-◌, ◌*◌, ◌<◌, ◌≤◌, ◌↔◌, ◌&&◌, ◌||◌, length, IfOk, Some, slice_index_or, IsTrue};
 ghost use Rattle.sedre.specs.Tree.{tree_at, size};
 ghost use Rattle.sedre.specs.Packed.{PartsBelow};
 ghost use Rattle.sedre.specs.Steps.{Takes, TakesAtLeast};
@@ -11,12 +11,12 @@ ghost use Rattle.sedtext.specs.PartMarks.{enter_parts};
 ghost use Rattle.sedtext.specs.Places.{takes_any};
 ghost use Rattle.sedtext.specs.Reach.{IsStart, CanEnd, Marked};
 ghost use Rattle.sedpass.specs.Prepared.{null_in};
-ghost use Rattle.sedpass.specs.Rows.{nodes_of, at_begin, at_edge, bits, RowLeadsTo, IsFirstRow, RowOfPlace, InTree, AreNull, ShowTook, ended_by, enter_looks};
+ghost use Rattle.sedpass.specs.Rows.{nodes_of, at_begin, at_edge, bits, RowLeadsTo, IsFirstRow, RowOfPlace, InTree, AreNull, IsWide, ShowTook, StaysWide, ended_by, enter_looks};
 
 use crate::cells::StateFlags;
 use crate::nodes::{PlaceKind, Prepared};
 use sedre::{Node, Steps};
-use sedtext::counted::NodeMarks;
+use sedtext::counted::Marks;
 use sedtext::counted::members::takes_byte;
 use sedtext::starts::Starts;
 use std::alloc::{AllocError, Global};
@@ -30,30 +30,34 @@ pub struct Way {
     pub all_starts: bool,
 }
 
-/// The marks that acts work on.
+/// The marks that acts work on: of each kind as many as an expression has nodes, or more.
 #[derive(Drop)]
 pub struct Work {
     /// The nodes that begin at the place.
-    entered: NodeMarks,
+    pub entered: Marks,
     /// The nodes that end at the place after at least one byte.
-    ended: NodeMarks,
+    pub ended: Marks,
     /// Of the row: the leaves entered.
-    pub leaves: NodeMarks,
+    pub leaves: Marks,
     /// Of the row: the nodes that end at the place, after a byte or as null strings.
-    pub ends: NodeMarks,
+    pub ends: Marks,
 }
 
-/// Two lists of marks.
-fn two_marks(alloc: Global) -> Result<(NodeMarks, NodeMarks), AllocError> {
-    let one = NodeMarks::new(alloc)?;
-    Ok((one, NodeMarks::new(alloc)?))
+/// Two lists of so many marks.
+fn two_marks(alloc: Global, count: usize) -> Result<(Marks, Marks), AllocError>
+    ensures { IfOk result (λ m. (length m.0 ≡ count) × (length m.1 ≡ count)) }
+{
+    let one = Marks::new(alloc, count)?;
+    Ok((one, Marks::new(alloc, count)?))
 }
 
 impl Work {
-    /// Marks that acts work on. Fails only where a request for memory was refused.
-    pub fn new(alloc: Global) -> Result<Work, AllocError> {
-        let (entered, ended) = two_marks(alloc)?;
-        let (leaves, ends) = two_marks(alloc)?;
+    /// Marks for acts over expressions of at most so many nodes. Fails only where a request for memory was refused.
+    pub fn new(alloc: Global, nodes: usize) -> Result<Work, AllocError>
+        ensures { IfOk result (IsWide nodes) }
+    {
+        let (entered, ended) = two_marks(alloc, nodes)?;
+        let (leaves, ends) = two_marks(alloc, nodes)?;
         Ok(Work {
             entered,
             ended,
@@ -66,7 +70,7 @@ impl Work {
     #[inline(always)]
     pub fn flags(&self, root: usize, nodes: usize, steps: &mut Steps) -> StateFlags
         requires root { root < nodes }
-        requires few { nodes ≤ 65536 }
+        requires wide { IsWide nodes self.now }
         ensures ends { result.ends ≡ slice_index_or self.now.ends root false }
         ensures dead { IsTrue result.dead ↔ ((c : ℕ) → c < nodes → slice_index_or self.now.leaves c false ≡ false) }
         ensures cost { Takes steps.old steps.new (nodes + 1) }
@@ -90,8 +94,8 @@ fn ends_here(
     steps: &mut Steps,
 ) -> bool
     requires parts { PartsBelow (length prepared.now.arena.expr.nodes) node.now }
-    requires few { length prepared.now.arena.expr.nodes ≤ 65536 }
-    requires inside { x < 65536 }
+    requires wide { IsWide (length prepared.now.arena.expr.nodes) work.now }
+    requires inside { x < length prepared.now.arena.expr.nodes }
     ensures mark { result ≡ ended_by (λ members. slice_index_or work.now.leaves x false && byte_is_in byte members) (null_in prepared.now.arena.expr.nodes kind)
         (λ c. slice_index_or work.now.ended c false) node.now }
     ensures cost { Takes steps.old steps.new 3 }
@@ -120,7 +124,7 @@ fn enter(
     steps: &mut Steps,
 )
     requires parts { PartsBelow (length prepared.now.arena.expr.nodes) node.now }
-    requires few { length prepared.now.arena.expr.nodes ≤ 65536 }
+    requires wide { IsWide (length prepared.now.arena.expr.nodes) work.old }
     ensures marks { work.new.entered ≡ enter_parts here (null_in prepared.now.arena.expr.nodes kind) (λ c. slice_index_or work.old.ended c false) node.now work.old.entered }
     ensures others { (work.new.ended ≡ work.old.ended) × (work.new.leaves ≡ work.old.leaves) × (work.new.ends ≡ work.old.ends) }
     ensures cost { Takes steps.old steps.new (enter_looks node.now) }
@@ -179,6 +183,8 @@ fn ascend(
     steps: &mut Steps,
 )
     requires root { root < length prepared.now.arena.expr.nodes }
+    requires wide { IsWide (length prepared.now.arena.expr.nodes) work.old }
+    ensures wide { StaysWide work.old work.new }
     ensures ended { (w : List ℕ) (s : Starts) (place : ℕ) → AreNull (nodes_of way prepared.now.arena.expr) w place (null_in prepared.now.arena.expr.nodes kind) →
         ShowTook (nodes_of way prepared.now.arena.expr) w root s place byte work.old.leaves →
         Marked work.new.ended (InTree (nodes_of way prepared.now.arena.expr) root) (λ c. CanEnd (nodes_of way prepared.now.arena.expr) w root s c place) }
@@ -204,6 +210,8 @@ fn descend(
     steps: &mut Steps,
 )
     requires root { root < length prepared.now.arena.expr.nodes }
+    requires wide { IsWide (length prepared.now.arena.expr.nodes) work.old }
+    ensures wide { StaysWide work.old work.new }
     ensures row { (w : List ℕ) (s : Starts) (place : ℕ) → AreNull (nodes_of way prepared.now.arena.expr) w place (null_in prepared.now.arena.expr.nodes kind) →
         Marked work.old.ended (InTree (nodes_of way prepared.now.arena.expr) root) (λ c. CanEnd (nodes_of way prepared.now.arena.expr) w root s c place) →
         (IsTrue first ↔ IsStart s place) →
@@ -253,6 +261,8 @@ pub fn step(
     steps: &mut Steps,
 )
     requires root { root < length prepared.now.arena.expr.nodes }
+    requires wide { IsWide (length prepared.now.arena.expr.nodes) work.old }
+    ensures wide { StaysWide work.old work.new }
     ensures leads { (before : ℕ → Bool) → RowLeadsTo (nodes_of way prepared.now.arena.expr) root way.mirrored
         (bits (length prepared.now.arena.expr.nodes) work.old.leaves) before (Some byte) edge way.all_starts
         (bits (length prepared.now.arena.expr.nodes) work.new.leaves) (bits (length prepared.now.arena.expr.nodes) work.new.ends) }
@@ -275,6 +285,8 @@ pub fn first(
     steps: &mut Steps,
 )
     requires root { root < length prepared.now.arena.expr.nodes }
+    requires wide { IsWide (length prepared.now.arena.expr.nodes) work.old }
+    ensures wide { StaysWide work.old work.new }
     ensures first { IsFirstRow (nodes_of way prepared.now.arena.expr) root way.mirrored (at_begin way.mirrored kind) (at_edge way.mirrored kind)
         (bits (length prepared.now.arena.expr.nodes) work.new.leaves) (bits (length prepared.now.arena.expr.nodes) work.new.ends) }
     ensures cost { Takes steps.old steps.new (17 * length prepared.now.arena.expr.nodes - 3) }

@@ -14,7 +14,6 @@ ghost use Rattle.sedpass.specs.Kept.{IsKept, KeptRoom, SameSpace};
 ghost use Rattle.sedpass.specs.Search.{IsNextMatch, LooksFrom, MaySearch, Searched, SearchServes, TablesStay, TrialsMade, owed_behind, owed_kept, owed_seeking, owed_after_search, search_cost};
 
 use crate::kept::{Kept, Subject};
-use crate::rows::Work;
 use crate::table::Table;
 use sedre::Steps;
 use sedtext::beginnings::{Begins, next_start};
@@ -64,7 +63,6 @@ fn try_all(
     begins: &Begins,
     forward_one: &mut Table,
     from: usize,
-    work: &mut Work,
     tried: &mut usize,
     steps: &mut Steps,
 ) -> Trials
@@ -82,7 +80,7 @@ fn try_all(
         let Some(first) = next_start(begins, subject.text, start, steps) else {
             return Trials::Nothing;
         };
-        let passed = forward_one.run(subject.prepared, subject.text, first, work, steps);
+        let passed = forward_one.run(subject.prepared, subject.text, first, steps);
         if let Some(end) = passed.end {
             *tried += passed.place.saturating_sub(end);
             return Trials::Hit(first, end);
@@ -175,8 +173,8 @@ pub fn next_match(
 {
     let mut start = from;
     if !seeking.begun && seeking.tried <= subject.text.len() {
-        let (work, tried) = (&mut seeking.kept.work, &mut seeking.tried);
-        match try_all(subject, begins, forward_one, from, work, tried, steps) {
+        let tried = &mut seeking.tried;
+        match try_all(subject, begins, forward_one, from, tried, steps) {
             Trials::Hit(first, end) => return Some((first, end)),
             Trials::Nothing => return None,
             Trials::Tired(later) => start = later,

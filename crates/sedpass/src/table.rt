@@ -6,7 +6,7 @@
 ghost use Rattle.std.specs.Prelude.{◌≡◌, ℕ, false, ◌+◌, ◌*◌, ◌/◌, ◌^◌, ◌<◌, ◌≤◌, length, replicate, IfOk, IfSome, vec_len, vec_capacity};
 ghost use Rattle.sedtext.specs.Words.{row_of};
 ghost use Rattle.sedre.specs.Steps.{Takes, TakesAtLeast};
-ghost use Rattle.sedpass.specs.Rows.{nodes_of, bits};
+ghost use Rattle.sedpass.specs.Rows.{IsWide, nodes_of, bits};
 ghost use Rattle.sedpass.specs.declared.nodes.PlaceKind.{PlaceKind};
 ghost use Rattle.sedpass.specs.declared.nodes.Prepared.{Prepared};
 ghost use Rattle.sedpass.specs.Table.{state_of, HasRow, HasMarks, BeginsIn, NamesState, IsNext, IsOffset, beginning_at, MayBegin, IsRoomy, IsTable, SameRoom, SameShape, AddsStates, Codes, code_of};
@@ -72,6 +72,8 @@ pub struct Table {
     index: Vec<Slot>,
     /// For each root and kind of place where a pass begins.
     pub beginnings: Vec<Beginning>,
+    /// The marks for its acts.
+    pub work: Work,
 }
 
 /// The epoch after one, which no beginning noted so far has.
@@ -152,6 +154,7 @@ impl Table {
     {
         let leaves = Rows::new(alloc, room, nodes)?;
         let ends = Rows::new(alloc, room, nodes)?;
+        let work = Work::new(alloc, nodes)?;
         let kinds = count_beginnings(way.all_starts, nodes);
         let mut requests = Requests {
             alloc,
@@ -175,6 +178,7 @@ impl Table {
             // An odd number and one: by a power of two only a digest's last bits would count.
             index: requests.copies(Slot { epoch: 0, state: 0 }, 2 * room + 2),
             beginnings: requests.copies(Beginning { epoch: 0, code: 0 }, kinds),
+            work,
         };
         if requests.refused {
             drop(table);
@@ -203,6 +207,7 @@ impl Table {
         ensures epoch { self.new.epoch ≡ self.old.epoch → ⊥ }
         ensures shape { SameShape self.old self.new }
         ensures index { self.new.index ≡ self.old.index }
+        ensures work { self.new.work ≡ self.old.work }
     {
         self.count = 0;
         self.epoch = next_epoch(self.epoch);
@@ -218,15 +223,15 @@ impl Table {
     }
 
     /// The slot of the index, or the one before it, where a state with this root and row is noted, if there is one.
-    fn slot_of(&self, nodes: usize, root: usize, work: &Work, steps: &mut Steps) -> usize
-        requires nodes { nodes ≤ 65536 }
+    fn slot_of(&self, nodes: usize, root: usize, steps: &mut Steps) -> usize
+        requires wide { IsWide nodes self.now.work }
         requires slots { 2 ≤ vec_len self.now.index }
         ensures slot { result + 1 < vec_len self.now.index }
         ensures cost { Takes steps.old steps.new (2 * nodes) }
         ensures counts { TakesAtLeast steps.old steps.new (2 * nodes) }
     {
-        let digest = work.leaves.digest(nodes, steps)
-            ^ work.ends.digest(nodes, steps).rotate_left(32);
+        let digest = self.work.leaves.digest(nodes, steps)
+            ^ self.work.ends.digest(nodes, steps).rotate_left(32);
         ((digest ^ root as u64) % (self.index.len() - 1) as u64) as usize
     }
 
@@ -247,13 +252,12 @@ impl Table {
         prepared: &Prepared,
         root: usize,
         slot: usize,
-        work: &Work,
         steps: &mut Steps,
     ) -> Option<usize>
         requires table { IsTable prepared.now self.now }
         requires slot { slot + 1 < vec_len self.now.index }
         ensures there { IfSome result (λ q. q < self.now.count) }
-        ensures has { IfSome result (λ q. HasMarks prepared.now root work.now (state_of (length prepared.now.arena.expr.nodes) self.now q)) }
+        ensures has { IfSome result (λ q. HasMarks prepared.now root self.now.work (state_of (length prepared.now.arena.expr.nodes) self.now q)) }
         ensures cost { Takes steps.old steps.new (4 * length prepared.now.arena.expr.nodes + 2) }
     {
         let nodes = prepared.nodes();
@@ -261,8 +265,8 @@ impl Table {
             steps.add(1);
             if let Some(state) = self.noted(at)
                 && self.roots[state] == root
-                && self.leaves.same(state, &work.leaves, nodes, steps)
-                && self.ends.same(state, &work.ends, nodes, steps)
+                && self.leaves.same(state, &self.work.leaves, nodes, steps)
+                && self.ends.same(state, &self.work.ends, nodes, steps)
             {
                 return Some(state);
             }
@@ -271,14 +275,7 @@ impl Table {
     }
 
     /// Adds a state with this root and row, and gives its number. There is room.
-    fn add(
-        &mut self,
-        prepared: &Prepared,
-        root: usize,
-        slot: usize,
-        work: &Work,
-        steps: &mut Steps,
-    ) -> usize
+    fn add(&mut self, prepared: &Prepared, root: usize, slot: usize, steps: &mut Steps) -> usize
         requires table { IsTable prepared.now self.old }
         requires room { self.old.count < self.old.room }
         requires root { root < length prepared.now.arena.expr.nodes }
@@ -286,13 +283,13 @@ impl Table {
         ensures table { IsTable prepared.now self.new }
         ensures adds { AddsStates (length prepared.now.arena.expr.nodes) self.old self.new }
         ensures there { result < self.new.count }
-        ensures has { HasMarks prepared.now root work.now (state_of (length prepared.now.arena.expr.nodes) self.new result) }
+        ensures has { HasMarks prepared.now root self.old.work (state_of (length prepared.now.arena.expr.nodes) self.new result) }
         ensures cost { Takes steps.old steps.new (4 * length prepared.now.arena.expr.nodes + 2) }
     {
         let nodes = prepared.nodes();
         let state = self.count;
-        self.leaves.store(state, &work.leaves, nodes, steps);
-        self.ends.store(state, &work.ends, nodes, steps);
+        self.leaves.store(state, &self.work.leaves, nodes, steps);
+        self.ends.store(state, &self.work.ends, nodes, steps);
         self.roots[state] = root;
         let (offset, size) = (state << self.layout.shift, 1usize << self.layout.shift);
         empty_cells(
@@ -321,24 +318,24 @@ impl Table {
     }
 
     /// The code of the state with this root and row, which is added unless it is found; a full table is emptied before.
-    fn intern(&mut self, prepared: &Prepared, root: usize, work: &Work, steps: &mut Steps) -> u32
+    fn intern(&mut self, prepared: &Prepared, root: usize, steps: &mut Steps) -> u32
         requires table { IsTable prepared.now self.old }
         requires root { root < length prepared.now.arena.expr.nodes }
-        ensures codes { Codes prepared.now self.old self.new (HasMarks prepared.now root work.now) result }
+        ensures codes { Codes prepared.now self.old self.new (HasMarks prepared.now root self.old.work) result }
         ensures cost { Takes steps.old steps.new (11 * length prepared.now.arena.expr.nodes + 5) }
         ensures counts { TakesAtLeast steps.old steps.new (2 * length prepared.now.arena.expr.nodes) }
     {
         let nodes = prepared.nodes();
-        let slot = self.slot_of(nodes, root, work, steps);
-        let flags = work.flags(root, nodes, steps);
-        if let Some(state) = self.find(prepared, root, slot, work, steps) {
+        let slot = self.slot_of(nodes, root, steps);
+        let flags = self.work.flags(root, nodes, steps);
+        if let Some(state) = self.find(prepared, root, slot, steps) {
             return self.code(flags, state);
         }
         if self.count == self.room {
             self.empty(prepared);
         }
         let at = slot + usize::from(self.noted(slot).is_some());
-        let state = self.add(prepared, root, at, work, steps);
+        let state = self.add(prepared, root, at, steps);
         self.code(flags, state)
     }
 
@@ -350,7 +347,6 @@ impl Table {
         offset: usize,
         byte: u8,
         edge: bool,
-        work: &mut Work,
         steps: &mut Steps,
     ) -> u32
         requires table { IsTable prepared.now self.old }
@@ -361,11 +357,11 @@ impl Table {
     {
         let state = self.state_at(offset);
         let root = self.roots[state];
-        self.leaves
-            .load(state, &mut work.leaves, prepared.nodes(), steps);
-        step(prepared, self.way, root, byte, edge, work, steps);
+        let leaves = &mut self.work.leaves;
+        self.leaves.load(state, leaves, prepared.nodes(), steps);
+        step(prepared, self.way, root, byte, edge, &mut self.work, steps);
         let epoch = self.epoch;
-        let next = self.intern(prepared, root, work, steps);
+        let next = self.intern(prepared, root, steps);
         if self.epoch == epoch
             && let Some(column) = self.layout.column(byte, edge)
         {
@@ -396,7 +392,6 @@ impl Table {
         offset: usize,
         byte: u8,
         edge: bool,
-        work: &mut Work,
         steps: &mut Steps,
     ) -> u32
         requires table { IsTable prepared.now self.old }
@@ -410,7 +405,7 @@ impl Table {
         if cell != 0 {
             return cell;
         }
-        self.fill(prepared, offset, byte, edge, work, steps)
+        self.fill(prepared, offset, byte, edge, steps)
     }
 
     /// Where a beginning is noted.
@@ -425,21 +420,14 @@ impl Table {
 
     /// Makes the state in which a pass for a root begins, at a place of a kind, and notes it; in the last epochs nothing is noted.
     #[inline(never)]
-    fn begin(
-        &mut self,
-        prepared: &Prepared,
-        root: usize,
-        kind: PlaceKind,
-        work: &mut Work,
-        steps: &mut Steps,
-    ) -> u32
+    fn begin(&mut self, prepared: &Prepared, root: usize, kind: PlaceKind, steps: &mut Steps) -> u32
         requires table { IsTable prepared.now self.old }
         requires root { MayBegin prepared.now self.old.way root }
         ensures codes { Codes prepared.now self.old self.new (BeginsIn (nodes_of self.old.way prepared.now.arena.expr) self.old.way root kind) result }
         ensures cost { Takes steps.old steps.new (32 * length prepared.now.arena.expr.nodes) }
     {
-        first(prepared, self.way, root, kind, work, steps);
-        let code = self.intern(prepared, root, work, steps);
+        first(prepared, self.way, root, kind, &mut self.work, steps);
+        let code = self.intern(prepared, root, steps);
         if self.epoch < LAST_EPOCHS {
             let at = self.beginning_at(root, kind);
             self.beginnings[at] = Beginning {
@@ -457,7 +445,6 @@ impl Table {
         prepared: &Prepared,
         root: usize,
         kind: PlaceKind,
-        work: &mut Work,
         steps: &mut Steps,
     ) -> u32
         requires table { IsTable prepared.now self.old }
@@ -471,7 +458,7 @@ impl Table {
         if known.epoch == self.epoch {
             return known.code;
         }
-        self.begin(prepared, root, kind, work, steps)
+        self.begin(prepared, root, kind, steps)
     }
 
     /// The code of the state with this root and a row that was kept: the leaves entered are in the row `2 * row` of the
@@ -482,7 +469,6 @@ impl Table {
         root: usize,
         row: usize,
         edges: &Rows,
-        work: &mut Work,
         steps: &mut Steps,
     ) -> u32
         requires table { IsTable prepared.now self.old }
@@ -497,8 +483,8 @@ impl Table {
     {
         let nodes = prepared.nodes();
         count_fits(edges);
-        edges.load(2 * row, &mut work.leaves, nodes, steps);
-        edges.load(2 * row + 1, &mut work.ends, nodes, steps);
-        self.intern(prepared, root, work, steps)
+        edges.load(2 * row, &mut self.work.leaves, nodes, steps);
+        edges.load(2 * row + 1, &mut self.work.ends, nodes, steps);
+        self.intern(prepared, root, steps)
     }
 }

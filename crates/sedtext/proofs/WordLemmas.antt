@@ -110,22 +110,27 @@ row_inside width rows q c len lt low there =
     omega (arith, mul-le-mul_left width up, low, there)
 
 -- the same words, wherever they are, have the same marks
-marked_same : (words other : List ℕ) (base i : ℕ) → slice_index_or words (base + i / 64) 0 ≡ slice_index_or other (i / 64) 0 → is_set words (64 * base + i) ≡ is_set other i
+pub marked_same : (words other : List ℕ) (base from i : ℕ) → slice_index_or words (base + i / 64) 0 ≡ slice_index_or other (from + i / 64) 0 → is_set words (64 * base + i) ≡ is_set other (64 * from + i)
 unfolding is_set
-marked_same words other base i same =
+marked_same words other base from i same =
     let q : (64 * base + i) / 64 ≡ base + i / 64 = omega arith in
-    let k : (64 * base + i) % 64 ≡ i % 64 = omega arith in
+    let r : from + i / 64 ≡ (64 * from + i) / 64 = omega arith in
+    let k : (64 * base + i) % 64 ≡ (64 * from + i) % 64 = omega arith in
     ap (λ x. eqb (bit_at (slice_index_or words x 0) ((64 * base + i) % 64)) 1) q
     ∙ ap (λ x. eqb (bit_at (slice_index_or words (base + i / 64) 0) x) 1) k
-    ∙ ap (λ v. eqb (bit_at v (i % 64)) 1) same
+    ∙ ap (λ v. eqb (bit_at v ((64 * from + i) % 64)) 1) same
+    ∙ ap (λ x. eqb (bit_at (slice_index_or other x 0) ((64 * from + i) % 64)) 1) r
 
 pub row_agrees : (words other : List ℕ) (width marks n q count : ℕ) → count ≤ marks → count ≤ n →
     ((k : ℕ) → k < count / 64 + 1 → 64 * k < count → slice_index_or words (width * q + k) 0 ≡ slice_index_or other k 0) →
     (i : ℕ) → i < count → slice_index_or (row_at words width marks q) i false ≡ slice_index_or (marks_of other n) i false
 unfolding row_at marks_of
 row_agrees words other width marks n q count low high same i lt =
+    let e : i / 64 ≡ 0 + i / 64 = omega arith in
+    let f : 64 * 0 + i ≡ i = omega arith in
     table-get (λ k. is_set words (64 * (width * q) + k)) marks i false (omega arith)
-    ∙ marked_same words other (width * q) i (same (i / 64) (omega arith) (omega arith))
+    ∙ marked_same words other (width * q) 0 i (same (i / 64) (omega arith) (omega arith) ∙ ap (λ v. slice_index_or other v 0) e)
+    ∙ ap (is_set other) f
     ∙ sym (table-get (is_set other) n i false (omega arith))
 
 marked_kept : (words after : List ℕ) (i : ℕ) → slice_index_or after (i / 64) 0 ≡ slice_index_or words (i / 64) 0 → is_set after i ≡ is_set words i

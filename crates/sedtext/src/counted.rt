@@ -15,13 +15,11 @@ pub mod few;
 pub mod lookups;
 pub mod members;
 pub mod nibbles;
-mod node_marks;
 mod rows;
 pub mod sieve;
 
 use few::Few;
 use lookups::find_few;
-pub use node_marks::NodeMarks;
 pub use rows::Rows;
 use sedre::Steps;
 use std::alloc::{AllocError, Global};
@@ -171,6 +169,41 @@ impl Marks {
         steps.add(1);
         let word = put_bit(self.words[i / 64], i % 64, mark);
         self.words[i / 64] = word;
+    }
+
+    /// Takes the first `count` marks away, a word at a time; those after them may go too.
+    /// Counts a look for each of the `count`.
+    pub fn clear(&mut self, count: usize, steps: &mut Steps)
+        requires inside { count ≤ length self.old }
+        ensures len { length self.new ≡ length self.old }
+        ensures clear { (c : ℕ) → c < count → slice_index_or self.new c false ≡ false }
+        ensures cost { Takes steps.old steps.new count }
+        ensures counts { TakesExactly steps.old steps.new count }
+    {
+        steps.add(count);
+        clear_words(&mut self.words, count.div_ceil(64));
+    }
+
+    /// Whether none of the first `count` marks is set, a word at a time. Counts a look for each of the `count`.
+    pub fn is_clear(&self, count: usize, steps: &mut Steps) -> bool
+        requires inside { count ≤ length self.now }
+        ensures clear { IsTrue result ↔ ((c : ℕ) → c < count → slice_index_or self.now c false ≡ false) }
+        ensures cost { Takes steps.old steps.new count }
+        ensures counts { TakesExactly steps.old steps.new count }
+    {
+        steps.add(count);
+        !words_meet(&self.words, 0, &self.words, 0, count)
+    }
+
+    /// A number made of the first `count` marks and the rest of their last word.
+    /// Counts a look for each of the `count`.
+    pub fn digest(&self, count: usize, steps: &mut Steps) -> u64
+        requires inside { count ≤ length self.now }
+        ensures cost { Takes steps.old steps.new count }
+        ensures counts { TakesExactly steps.old steps.new count }
+    {
+        steps.add(count);
+        digest_words(&self.words, count.div_ceil(64))
     }
 }
 

@@ -3,7 +3,7 @@ ghost use Rattle.std.specs.Prelude.{◌≡◌, ◌≢◌, ℕ, Bool, List, ◌+�
 ghost use Rattle.sedtext.specs.Words.{AgreeBelow, rows_of, row_of};
 ghost use Rattle.sedre.specs.Steps.{Takes, TakesExactly};
 
-use super::{NodeMarks, has_bit, words_meet, zero_words};
+use super::{Marks, has_bit, words_meet, zero_words};
 use sedre::Steps;
 use std::alloc::{AllocError, Global};
 use std::marker::Model;
@@ -52,17 +52,18 @@ impl Rows {
     /// Copies the first `count` marks of a row into `marks`, a word at a time; those after them may change too.
     /// Counts a look for each of the `count`.
     #[inline(always)]
-    pub fn load(&self, row: usize, marks: &mut NodeMarks, count: usize, steps: &mut Steps)
+    pub fn load(&self, row: usize, marks: &mut Marks, count: usize, steps: &mut Steps)
         requires row { row < length self.now }
         requires inside { count ≤ length (row_of self.now row) }
-        requires there { count ≤ 65536 }
+        requires there { count ≤ length marks.old }
+        ensures len { length marks.new ≡ length marks.old }
         ensures same { AgreeBelow count marks.new (row_of self.now row) }
         ensures cost { Takes steps.old steps.new count }
         ensures counts { TakesExactly steps.old steps.new count }
     {
         steps.add(count);
         copy_words(
-            &mut marks.marks.words,
+            &mut marks.words,
             0,
             &self.words,
             self.width * row,
@@ -73,10 +74,10 @@ impl Rows {
     /// Copies the first `count` of `marks` into a row, a word at a time; those after them in the row may change too.
     /// Counts a look for each of the `count`.
     #[inline(always)]
-    pub fn store(&mut self, row: usize, marks: &NodeMarks, count: usize, steps: &mut Steps)
+    pub fn store(&mut self, row: usize, marks: &Marks, count: usize, steps: &mut Steps)
         requires row { row < length self.old }
         requires inside { count ≤ length (row_of self.old row) }
-        requires there { count ≤ 65536 }
+        requires there { count ≤ length marks.now }
         ensures len { length self.new ≡ length self.old }
         ensures lens { (q : ℕ) → q < length self.old → length (row_of self.new q) ≡ length (row_of self.old q) }
         ensures same { AgreeBelow count (row_of self.new row) marks.now }
@@ -88,19 +89,44 @@ impl Rows {
         copy_words(
             &mut self.words,
             self.width * row,
-            &marks.list().words,
+            &marks.words,
             0,
             count.div_ceil(64),
         );
     }
 
+    /// Copies the first `count` marks of a row of others into a row, a word at a time; those after them in the row may change too.
+    /// Counts a look for each of the `count`.
+    pub fn copy(
+        &mut self,
+        row: usize,
+        other: &Rows,
+        other_row: usize,
+        count: usize,
+        steps: &mut Steps,
+    )
+        requires row { row < length self.old }
+        requires other_row { other_row < length other.now }
+        requires inside { count ≤ length (row_of self.old row) }
+        requires there { count ≤ length (row_of other.now other_row) }
+        ensures len { length self.new ≡ length self.old }
+        ensures lens { (q : ℕ) → q < length self.old → length (row_of self.new q) ≡ length (row_of self.old q) }
+        ensures same { AgreeBelow count (row_of self.new row) (row_of other.now other_row) }
+        ensures other { (q : ℕ) → q < length self.old → q ≢ row → row_of self.new q ≡ row_of self.old q }
+        ensures cost { Takes steps.old steps.new count }
+    {
+        steps.add(count);
+        let (to, from) = (self.width * row, other.width * other_row);
+        copy_words(&mut self.words, to, &other.words, from, count.div_ceil(64));
+    }
+
     /// Whether the first `count` marks of a row are those of `marks`, and the rest of their last word too.
     /// Counts a look for each of the `count`.
     #[inline(always)]
-    pub fn same(&self, row: usize, marks: &NodeMarks, count: usize, steps: &mut Steps) -> bool
+    pub fn same(&self, row: usize, marks: &Marks, count: usize, steps: &mut Steps) -> bool
         requires row { row < length self.now }
         requires inside { count ≤ length (row_of self.now row) }
-        requires there { count ≤ 65536 }
+        requires there { count ≤ length marks.now }
         ensures same { IsTrue result → AgreeBelow count (row_of self.now row) marks.now }
         ensures cost { Takes steps.old steps.new count }
         ensures counts { TakesExactly steps.old steps.new count }
@@ -109,7 +135,7 @@ impl Rows {
         same_words(
             &self.words,
             self.width * row,
-            &marks.list().words,
+            &marks.words,
             count.div_ceil(64),
         )
     }

@@ -14,3 +14,6 @@ returns-clause-first c w s there some =
 
 pub returns-clause-counts : goal.returns-clause-counts
 returns-clause-counts c = least_both c.args.steps.now c.ascend.new.steps c.descend.new.steps _ _ _ c.ascend.ensures.counts c.descend.ensures.counts (omega arith)
+
+pub returns-clause-wide : goal.returns-clause-wide
+returns-clause-wide c m h = c.descend.ensures.wide m (c.ascend.ensures.wide m h)

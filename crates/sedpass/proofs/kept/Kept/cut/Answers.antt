@@ -39,7 +39,7 @@ loop-place-init c =
     record {
       above = omega arith;
       below = c.requires.from;
-      keeps = keeps_same p w c.args.table.now c.args.self.now _ refl refl refl c.requires.kept;
+      keeps = keeps_same p w c.args.table.now c.args.self.now c.requires.kept;
       forward_one = first.codes.table;
       forward_one_shape = (refl, refl, refl, refl, refl);
       offset = names_offset p c.first-code.new.self first.codes.table _ _ _ first.codes.names c.offset_of-offset.ensures;
@@ -83,8 +83,8 @@ loop-place-preserved c =
     let up : c.loop-place.place < reached = (let h = ready.to.1 in let g = ready.to.0 in omega (arith, h, g, at)) in
     record {
       above = (let h = before.above in omega (arith, h, up));
-      below = (let h = ready.keeps.kept.region.within in let g = meet.keeps.same.end in omega (arith, h, g, at));
-      keeps = keeps_then _ _ c.args.table.now c.ready-to.new.table c.ready-to.new.table c.args.self.now c.ready-to.new.self c.meet-reached.new.self (keeps here) meet.keeps;
+      below = (let h = ready.keeps.kept.region.within in omega (arith, h, at));
+      keeps = keeps here;
       forward_one = meet.forward_one;
       forward_one_shape = same_shape c.first-code.new.self c.loop-place.forward_one c.meet-reached.new.forward_one before.forward_one_shape meet.shape;
       offset = meet.offset;
@@ -92,9 +92,9 @@ loop-place-preserved c =
       meets = meets here;
       cost = (
         (let h = before.cost.0 in let g = ready.cost.0 in let f = meet.cost.0 in omega (arith, h, g, f)),
-        cut_on m (owed_region m c.args.self.now.region c.args.from) (owed_region m c.loop-place.self.region c.loop-place.place) (owed_region m c.ready-to.new.self.region c.loop-place.place) (owed_region m c.meet-reached.new.self.region reached)
+        cut_on m (owed_region m c.args.self.now.region c.args.from) (owed_region m c.loop-place.self.region c.loop-place.place) (owed_region m c.ready-to.new.self.region c.loop-place.place) (owed_region m c.ready-to.new.self.region reached)
             c.loop-place.steps _ c.ready-to.new.steps c.meet-reached.new.steps c.args.from c.loop-place.place reached before.cost.1 ready.cost.1 (meet.whole at).1
-            (subst (λ r. owed_region m r reached ≤ owed_region m c.ready-to.new.self.region c.loop-place.place) (sym meet.region) (owed_falls m c.ready-to.new.self.region c.loop-place.place reached (omega (arith, up)))),
+            (owed_falls m c.ready-to.new.self.region c.loop-place.place reached (omega (arith, up))),
       );
       counts = counts here;
     }
@@ -112,7 +112,7 @@ returns-then-place-to c =
     let under : reached < c.ready-to.new.self.region.to = (let h = c.if-place-to.true in let g = ready.to.0 in omega (arith, h, g)) in
     let still = keeps here in
     record {
-      keeps = keeps_then _ _ c.args.table.now c.ready-to.new.table c.ready-to.new.table c.args.self.now c.ready-to.new.self c.meet-reached.new.self still meet.keeps;
+      keeps = still;
       forward_one = meet.forward_one;
       shape = same_shape c.args.forward_one.now c.first-code.new.self c.meet-reached.new.forward_one first.codes.adds.shape (same_shape c.first-code.new.self c.loop-place.forward_one c.meet-reached.new.forward_one before.forward_one_shape meet.shape);
       within = (let h = ready.keeps.kept.region.within in let g = still.same.end in omega (arith, under, h, g));
@@ -124,9 +124,9 @@ returns-then-place-to c =
       );
       cost = (
         (let h = before.cost.0 in let g = ready.cost.0 in let f = meet.cost.0 in let e = first.cost.0 in omega (arith, h, g, f, e)),
-        cut_at m (owed_region m c.args.self.now.region c.args.from) (owed_region m c.loop-place.self.region c.loop-place.place) (owed_region m c.ready-to.new.self.region c.loop-place.place) (owed_region m c.meet-reached.new.self.region reached)
+        cut_at m (owed_region m c.args.self.now.region c.args.from) (owed_region m c.loop-place.self.region c.loop-place.place) (owed_region m c.ready-to.new.self.region c.loop-place.place) (owed_region m c.ready-to.new.self.region reached)
             c.loop-place.steps c.args.steps.now c.first-code.new.steps c.ready-to.new.steps c.meet-reached.new.steps c.args.from c.loop-place.place reached first.cost.1 before.cost.1 ready.cost.1 meet.cost.1
-            (subst (λ r. owed_region m r reached ≤ owed_region m c.ready-to.new.self.region c.loop-place.place) (sym meet.region) (owed_falls m c.ready-to.new.self.region c.loop-place.place reached meet.after)),
+            (owed_falls m c.ready-to.new.self.region c.loop-place.place reached meet.after),
       );
       counts = least_both _ c.first-code.new.steps _ 1 _ _ first.counts (counts here) (omega arith);
     }

@@ -3,16 +3,16 @@ use Rattle.sedtext.specs.Words.{AgreeBelow, row_of}
 use Rattle.sedpass.specs.Kept.{IsRegion, SameSpace}
 use Rattle.sedpass.proofs.KeptLemmas.{block_there, edges_more, edges_none, passes_with, rows_long, space_same}
 use Rattle.sedpass.proofs.kept.Kept.keep_edge.Goals as goal
-use Rattle.sedpass.proofs.kept.Kept.keep_edge.Goals.{After-load-2, After-nodes-nodes, After-state_at-state, After-store-2}
+use Rattle.sedpass.proofs.kept.Kept.keep_edge.Goals.{After-nodes-nodes, After-state_at-state, After-copy-2}
 
-same : (c : After-store-2) → SameSpace c.args.self.now (record c.args.self.now { edges = c.store-2.new.self })
+same : (c : After-copy-2) → SameSpace c.args.self.now (record c.args.self.now { edges = c.copy-2.new.self })
 same c =
-    let one = c.store.ensures in
-    let two = c.store-2.ensures in
-    record { places = refl; edges = two.len ∙ one.len; marks = rows_long c.args.self.now.edges c.store.new.self c.store-2.new.self one.len two.len one.lens two.lens }
+    let one = c.copy.ensures in
+    let two = c.copy-2.ensures in
+    record { places = refl; edges = two.len ∙ one.len; marks = rows_long c.args.self.now.edges c.copy.new.self c.copy-2.new.self one.len two.len one.lens two.lens }
 
 -- the row is there
-its_row : (c : After-load-2) → 2 * c.args.block + 1 < length c.args.self.now.edges
+its_row : (c : After-nodes-nodes) → 2 * c.args.block + 1 < length c.args.self.now.edges
 its_row c =
     block_there c.args.subject.prepared.now c.args.subject.text.now c.args.table.now c.args.self.now c.args.block c.args.place c.args.offset c.requires.passes (c.requires.right (let h = c.if-place-self.false in omega (arith, h)))
 
@@ -22,20 +22,6 @@ state_there c = omega (arith, c.state_at-state.ensures, c.requires.passes.there.
 
 pub state_at-state-requires : goal.state_at-state-requires
 state_at-state-requires c = c.requires.passes.region.table.layout.small
-
-pub load-requires : goal.load-requires
-load-requires c =
-    let room = c.requires.passes.region.table.room in
-    let there = state_there (goal.at.load-requires c).After-state_at-state in
-    let nodes = c.nodes-nodes.ensures in
-    record { row = omega (arith, there, room.rows.leaves); inside = omega (arith, nodes.value, room.marks, room.rows.leaf_marks c.state_at-state.result there); there = omega (arith, nodes.value, nodes.few) }
-
-pub load-requires-2 : goal.load-requires-2
-load-requires-2 c =
-    let room = c.requires.passes.region.table.room in
-    let there = state_there (goal.at.load-requires-2 c).After-state_at-state in
-    let nodes = c.nodes-nodes.ensures in
-    record { row = omega (arith, there, room.rows.ends); inside = omega (arith, nodes.value, room.marks, room.rows.end_marks c.state_at-state.result there); there = omega (arith, nodes.value, nodes.few) }
 
 -- and its number
 few : (c : After-nodes-nodes) → 2 * c.args.block + 1 < 2 ^ 64
@@ -54,20 +40,30 @@ overflow_mul-block-2 c = omega (arith, few (goal.at.overflow_mul-block-2 c).Afte
 pub overflow_add-block : goal.overflow_add-block
 overflow_add-block c = omega (arith, few (goal.at.overflow_add-block c).After-nodes-nodes)
 
-pub store-requires : goal.store-requires
-store-requires c =
-    let there = its_row (goal.at.store-requires c).After-load-2 in
-    let nodes = c.nodes-nodes.ensures in
-    record { row = omega (arith, there); inside = omega (arith, nodes.value, c.requires.passes.region.room.marks (2 * c.args.block) (omega (arith, there))); there = omega (arith, nodes.value, nodes.few) }
-
-pub store-requires-2 : goal.store-requires-2
-store-requires-2 c =
-    let there = its_row (goal.at.store-requires-2 c).After-load-2 in
-    let nodes = c.nodes-nodes.ensures in
+pub copy-requires : goal.copy-requires
+copy-requires c =
+    let there = its_row (goal.at.copy-requires c).After-nodes-nodes in
+    let room = c.requires.passes.region.table.room in
+    let state = state_there (goal.at.copy-requires c).After-state_at-state in
+    let nodes = c.nodes-nodes.ensures.value in
     record {
-      row = omega (arith, there, c.store.ensures.len);
-      inside = omega (arith, nodes.value, c.store.ensures.lens (2 * c.args.block + 1) there, c.requires.passes.region.room.marks (2 * c.args.block + 1) there);
-      there = omega (arith, nodes.value, nodes.few);
+      row = omega (arith, there);
+      other_row = omega (arith, state, room.rows.leaves);
+      inside = omega (arith, nodes, c.requires.passes.region.room.marks (2 * c.args.block) (omega (arith, there)));
+      there = omega (arith, nodes, room.marks, room.rows.leaf_marks c.state_at-state.result state);
+    }
+
+pub copy-requires-2 : goal.copy-requires-2
+copy-requires-2 c =
+    let there = its_row (goal.at.copy-requires-2 c).After-nodes-nodes in
+    let room = c.requires.passes.region.table.room in
+    let state = state_there (goal.at.copy-requires-2 c).After-state_at-state in
+    let nodes = c.nodes-nodes.ensures.value in
+    record {
+      row = omega (arith, there, c.copy.ensures.len);
+      other_row = omega (arith, state, room.rows.ends);
+      inside = omega (arith, nodes, c.copy.ensures.lens (2 * c.args.block + 1) there, c.requires.passes.region.room.marks (2 * c.args.block + 1) there);
+      there = omega (arith, nodes, room.marks, room.rows.end_marks c.state_at-state.result state);
     }
 
 pub returns-then-place-self : goal.returns-then-place-self
@@ -82,7 +78,7 @@ returns-then-place-self c =
 
 pub returns : goal.returns
 returns c =
-    let space = same (goal.at.returns c).After-store-2 in
+    let space = same (goal.at.returns c).After-copy-2 in
     let t = c.args.table.now in
     let k = c.args.self.now in
     let m = length c.args.subject.prepared.now.arena.expr.nodes in
@@ -91,21 +87,18 @@ returns c =
     let some = region.table.room.rows.some in
     let at : c.args.place ≡ c.args.block * (t.room - 1) + (t.room - 1) = c.requires.right (let h = c.if-place-self.false in omega (arith, h)) in
     let there = block_there c.args.subject.prepared.now c.args.subject.text.now t k c.args.block c.args.place c.args.offset c.requires.passes at in
-    let one = c.load.ensures.cost in
-    let two = c.load-2.ensures.cost in
-    let three = c.store.ensures.cost in
-    let four = c.store-2.ensures.cost in
+    let one = c.copy.ensures in
+    let two = c.copy-2.ensures in
+    let nodes = c.nodes-nodes.ensures.value in
     record {
-      passes = passes_with c.args.subject.prepared.now c.args.subject.text.now t k c.store-2.new.self _ c.args.place c.args.offset space.edges space.marks c.requires.passes;
+      passes = passes_with c.args.subject.prepared.now c.args.subject.text.now t k c.copy-2.new.self c.args.place c.args.offset space.edges space.marks c.requires.passes;
       edges = λ b after before.
-          edges_more c.args.subject.prepared.now c.args.subject.text.now t.way k.region.root k.region.end (t.room - 1) c.args.block k.edges c.store.new.self c.store-2.new.self c.load.new.marks c.load-2.new.marks (row_of t.leaves q) (row_of t.ends q)
-          (omega arith) there c.store.ensures.len (subst (λ n. AgreeBelow n (row_of c.store.new.self (2 * c.args.block)) c.load.new.marks) c.nodes-nodes.ensures.value c.store.ensures.same)
-          (subst (λ x. AgreeBelow m c.load.new.marks (row_of t.leaves x)) c.state_at-state.ensures (subst (λ n. AgreeBelow n c.load.new.marks (row_of t.leaves c.state_at-state.result)) c.nodes-nodes.ensures.value c.load.ensures.same))
-          (λ x low ne. c.store.ensures.other x low ne) (subst (λ n. AgreeBelow n (row_of c.store-2.new.self (2 * c.args.block + 1)) c.load-2.new.marks) c.nodes-nodes.ensures.value c.store-2.ensures.same)
-          (subst (λ x. AgreeBelow m c.load-2.new.marks (row_of t.ends x)) c.state_at-state.ensures (subst (λ n. AgreeBelow n c.load-2.new.marks (row_of t.ends c.state_at-state.result)) c.nodes-nodes.ensures.value c.load-2.ensures.same))
-          (λ x low ne. c.store-2.ensures.other x low ne) (rw (← at) c.requires.passes.at.1) (rw (← at) c.requires.edges)
+          edges_more c.args.subject.prepared.now c.args.subject.text.now t.way k.region.root k.region.end (t.room - 1) c.args.block k.edges c.copy.new.self c.copy-2.new.self (row_of t.leaves q) (row_of t.ends q)
+          (omega arith) there one.len (subst (λ x. AgreeBelow m (row_of c.copy.new.self (2 * c.args.block)) (row_of t.leaves x)) c.state_at-state.ensures (subst (λ n. AgreeBelow n (row_of c.copy.new.self (2 * c.args.block)) (row_of t.leaves c.state_at-state.result)) nodes one.same))
+          (λ x low ne. one.other x low ne) (subst (λ x. AgreeBelow m (row_of c.copy-2.new.self (2 * c.args.block + 1)) (row_of t.ends x)) c.state_at-state.ensures (subst (λ n. AgreeBelow n (row_of c.copy-2.new.self (2 * c.args.block + 1)) (row_of t.ends c.state_at-state.result)) nodes two.same))
+          (λ x low ne. two.other x low ne) (rw (← at) c.requires.passes.at.1) (rw (← at) c.requires.edges)
           (λ x low. region.room.blocks x (let g = region.inside in omega arith)) b after before;
       same = record { root = refl; end = refl; space = record { places = refl; edges = space.edges; marks = space.marks } };
       region = refl;
-      cost = (omega (arith, one.0, two.0, three.0, four.0), omega (arith, c.nodes-nodes.ensures.value, one.1, two.1, three.1, four.1));
+      cost = (omega (arith, one.cost.0, two.cost.0), omega (arith, nodes, one.cost.1, two.cost.1));
     }

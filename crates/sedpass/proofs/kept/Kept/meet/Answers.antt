@@ -1,7 +1,7 @@
 use Rattle.std.proofs.Common.{rules, ◌≡◌, ◌+◌, ◌*◌, ◌<◌, ◌≤◌, refl, sym, ap, ◌∙◌, subst, true≢false, arith, length, slice_index_or}
 use Rattle.sedpass.proofs.Words.{CostsWithin, eqb-true, eq-eqb, least_none, least_both, least_since, least_up, least_counted}
 use Rattle.sedpass.specs.Kept.{Follows, Meet}
-use Rattle.sedpass.proofs.KeptLemmas.{kept_row, same_shape, follows_next, meet_on, meet_read, place_cost, keeps_same}
+use Rattle.sedpass.proofs.KeptLemmas.{kept_row, same_shape, follows_next, meet_on, meet_read, place_cost}
 use Rattle.sedpass.proofs.TableLemmas.{names_offset, names_state}
 use Rattle.sedpass.proofs.kept.Kept.meet.Goals.{After-index}
 use Rattle.sedpass.proofs.kept.Kept.meet.Goals as goal
@@ -10,9 +10,6 @@ pub loop-place-init : goal.loop-place-init
 loop-place-init c = record {
   above = omega arith;
   below = (let h = c.requires.to in omega (arith, h));
-  region = refl;
-  states = refl;
-  edges = refl;
   forward_one = c.requires.forward_one;
   shape = (refl, refl, refl, refl, refl);
   offset = c.requires.offset;
@@ -23,9 +20,8 @@ loop-place-init c = record {
 
 pub index-requires : goal.index-requires
 index-requires c =
-    let old = c.loop-place.invariant in
     let region = c.requires.kept.region in
-    omega (arith, c.loop-place-test.true, ap (λ r. r.to) old.region, ap (λ v. length v.items) old.states, region.within, region.inside, region.long)
+    omega (arith, c.loop-place-test.true, region.within, region.inside, region.long)
 
 pub state_at-requires : goal.state_at-requires
 state_at-requires c = c.loop-place.invariant.forward_one.layout.small
@@ -35,8 +31,8 @@ here : (c : After-index) → (c.args.self.now.region.from ≤ c.loop-place.place
 here c =
     let old = c.loop-place.invariant in (
       (let h = old.above in let g = c.requires.from in omega (arith, h, g)),
-      (let h = ap (λ r. r.to) old.region in let g = c.loop-place-test.true in omega (arith, h, g)),
-      subst (λ v. c.index.result.now ≡ slice_index_or v.items c.loop-place.place c.index.result.now) old.states c.index.ensures,
+      c.loop-place-test.true,
+      c.index.ensures,
     )
 
 pub meets-requires : goal.meets-requires
@@ -60,10 +56,8 @@ returns-then-not-meets c =
     let cost : CostsWithin c.args.steps.now c.meets.new.steps (36 * m * place + m) (36 * m * c.args.from) =
     (omega (arith, old.cost.0, looked.0), omega (arith, old.cost.1, looked.1, c.nodes-nodes.ensures.value)) in
     record {
-      keeps = keeps_same p w t k c.loop-place.self old.region old.states old.edges c.requires.kept;
       forward_one = old.forward_one;
       shape = old.shape;
-      region = old.region;
       offset = old.offset;
       after = old.above;
       within = omega (arith, there.1);
@@ -104,10 +98,7 @@ loop-place-preserved c =
     let one = ap (λ v. v.all_starts) old.shape.0 ∙ c.requires.forwards.1 in
     record {
       above = (let h = old.above in omega (arith, h));
-      below = (let h = ap (λ r. r.to) old.region in omega (arith, h, there.1));
-      region = old.region;
-      states = old.states;
-      edges = old.edges;
+      below = omega (arith, there.1);
       forward_one = next.codes.table;
       shape = same_shape c.args.forward_one.now c.loop-place.forward_one c.next-code.new.self old.shape next.codes.adds.shape;
       offset = names_offset p c.next-code.new.self next.codes.table _ _ _ next.codes.names c.offset_of-offset.ensures;
@@ -130,19 +121,16 @@ returns c =
     let p = c.args.subject.prepared.now in
     let w = c.args.subject.text.now in
     let old = c.loop-place.invariant in
-    let to = ap (λ r. r.to) old.region in
-    let at : c.loop-place.place ≡ c.loop-place.self.region.to = (let h = old.below in let g = c.loop-place-test.false in omega (arith, h, g, to)) in
+    let at : c.loop-place.place ≡ c.args.self.now.region.to = (let h = old.below in let g = c.loop-place-test.false in omega (arith, h, g)) in
     record {
-      keeps = keeps_same p w c.args.table.now c.args.self.now c.loop-place.self old.region old.states old.edges c.requires.kept;
       forward_one = old.forward_one;
       shape = old.shape;
-      region = old.region;
       offset = old.offset;
       after = omega (arith, at, old.above);
-      within = omega (arith, to);
+      within = omega arith;
       meets = λ a i low start follows.
           let on = old.meets a i low start follows in
-          (subst (λ y. Follows p w c.loop-place.forward_one a i y c.loop-place.offset) at on.0, subst (λ y. Meet p w c.args.table.now c.args.self.now a i c.args.from y) at on.1, λ under met. absurd (omega (arith, under, to)));
+          (subst (λ y. Follows p w c.loop-place.forward_one a i y c.loop-place.offset) at on.0, subst (λ y. Meet p w c.args.table.now c.args.self.now a i c.args.from y) at on.1, λ under met. absurd (omega (arith, under)));
       cost = (old.cost.0, rw (← at) (omega (arith, old.cost.1)));
       whole = λ _. rw (← at) old.cost;
       counts = rw (← at) old.counts;

@@ -8,14 +8,11 @@ abbrev pub invariant-loop-place : goal.invariant-loop-place
 invariant-loop-place l = record {
   above : l.from ≤ l.place;
   below : l.place ≤ l.self.region.to;
-  region : l.self.region ≡ l.initial.self.region;
-  states : l.self.states ≡ l.initial.self.states;
-  edges : l.self.edges ≡ l.initial.self.edges;
   forward_one : IsTable l.subject.prepared.now l.forward_one;
   shape : SameShape l.initial.forward_one l.forward_one;
   offset : IsOffset l.forward_one l.offset;
-  meets : (a i : ℕ) → a ≤ l.initial.self.region.root → i ≤ l.from → Follows l.subject.prepared.now l.subject.text.now l.initial.forward_one a i l.from l.initial.offset →
-      Follows l.subject.prepared.now l.subject.text.now l.forward_one a i l.place l.offset × Meet l.subject.prepared.now l.subject.text.now l.table l.initial.self a i l.from l.place;
+  meets : (a i : ℕ) → a ≤ l.self.region.root → i ≤ l.from → Follows l.subject.prepared.now l.subject.text.now l.initial.forward_one a i l.from l.initial.offset →
+      Follows l.subject.prepared.now l.subject.text.now l.forward_one a i l.place l.offset × Meet l.subject.prepared.now l.subject.text.now l.table l.self a i l.from l.place;
   cost : CostsWithin l.initial.steps l.steps (36 * length l.subject.prepared.now.arena.expr.nodes * l.place) (36 * length l.subject.prepared.now.arena.expr.nodes * l.from);
   counts : TakesAtLeast l.initial.steps l.steps (2 * (l.place - l.from));
 }

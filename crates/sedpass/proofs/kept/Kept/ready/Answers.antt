@@ -9,7 +9,7 @@ pub returns-clause-keeps : goal.returns-clause-keeps
 returns-clause-keeps c = elim c.if-place-self.branch [
   | then-place-self w ↦ rw (w.self-is, w.table-is) w.make.ensures.keeps
   | else-place-self+then-place-self-2 w ↦ rw (w.self-is, w.table-is) w.remake.ensures.keeps
-  | else-place-self+else-place-self-2+else-self-place w ↦ rw (w.self-is, w.table-is) (keeps_same c.args.subject.prepared.now c.args.subject.text.now c.args.table.now c.args.self.now c.args.self.now refl refl refl c.requires.kept)
+  | else-place-self+else-place-self-2+else-self-place w ↦ rw (w.self-is, w.table-is) (keeps_same c.args.subject.prepared.now c.args.subject.text.now c.args.table.now c.args.self.now c.requires.kept)
 ]
 
 pub returns-clause-cost : goal.returns-clause-cost

@@ -31,7 +31,7 @@ pub loop-place-init : goal.loop-place-init
 loop-place-init c = record {
   above = omega arith;
   below = c.requires.from;
-  keeps = keeps_same _ _ c.args.table.now c.args.self.now c.args.self.now refl refl refl c.requires.kept;
+  keeps = keeps_same _ _ c.args.table.now c.args.self.now c.requires.kept;
   passed = λ q after before. absurd (omega arith);
   cost = (omega arith, omega arith);
   counts = least_none _ _ (omega arith);

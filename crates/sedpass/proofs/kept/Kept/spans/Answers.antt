@@ -14,7 +14,7 @@ pub returns-then-place-self : goal.returns-then-place-self
 returns-then-place-self c =
     let null = c.is_null.ensures in
     record {
-      keeps = keeps_same c.args.subject.prepared.now c.args.subject.text.now c.args.table.now c.args.self.now c.args.self.now refl refl refl c.requires.kept;
+      keeps = keeps_same c.args.subject.prepared.now c.args.subject.text.now c.args.table.now c.args.self.now c.requires.kept;
       spans = subst (λ e. IsTrue c.is_null.result ↔ HasSpan c.args.subject.prepared.now.arena.expr.nodes c.args.subject.text.now c.args.x c.args.place e) c.if-place-self.true null.null;
       cost = (null.cost.0, (let look = null.cost.1 in omega (arith, look)));
       counts = least_counted _ _ 1 1 null.counts (omega arith);

@@ -15,13 +15,13 @@ pub store-requires : goal.store-requires
 store-requires c =
     let room = c.requires.table.room in
     let nodes = c.nodes-nodes.ensures in
-    record { row = omega (arith, c.requires.room, room.rows.leaves); inside = omega (arith, nodes.value, room.marks, room.rows.leaf_marks c.args.self.now.count c.requires.room); there = omega (arith, nodes.value, nodes.few) }
+    record { row = omega (arith, c.requires.room, room.rows.leaves); inside = omega (arith, nodes.value, room.marks, room.rows.leaf_marks c.args.self.now.count c.requires.room); there = omega (arith, nodes.value, room.marks, room.work.2) }
 
 pub store-requires-2 : goal.store-requires-2
 store-requires-2 c =
     let room = c.requires.table.room in
     let nodes = c.nodes-nodes.ensures in
-    record { row = omega (arith, c.requires.room, room.rows.ends); inside = omega (arith, nodes.value, room.marks, room.rows.end_marks c.args.self.now.count c.requires.room); there = omega (arith, nodes.value, nodes.few) }
+    record { row = omega (arith, c.requires.room, room.rows.ends); inside = omega (arith, nodes.value, room.marks, room.rows.end_marks c.args.self.now.count c.requires.room); there = omega (arith, nodes.value, room.marks, room.work.3) }
 
 pub index_mut-requires : goal.index_mut-requires
 index_mut-requires c = omega (arith, c.requires.room, c.requires.table.room.rows.roots, c.args.self.now.roots.ok)
@@ -43,8 +43,8 @@ returns c =
     let T = c.args.self.now in
     let t = c.requires.table in
     let m = length c.args.prepared.now.arena.expr.nodes in
-    let L = c.args.work.now.leaves in
-    let E = c.args.work.now.ends in
+    let L = c.args.self.now.work.leaves in
+    let E = c.args.self.now.work.ends in
     let N : Table = record {
       way = T.way;
       room = T.room;
@@ -58,6 +58,7 @@ returns c =
       cells = c.empty_cells.new.cells;
       index = with_item T.index c.args.slot (record { epoch = T.epoch % 65536; state = T.count });
       beginnings = T.beginnings;
+      work = T.work;
     } in
     let nodes = c.nodes-nodes.ensures.value in
     let leaves : AgreeBelow m (row_of c.store.new.self T.count) L = subst (λ n. AgreeBelow n (row_of c.store.new.self T.count) L) nodes c.store.ensures.same in
@@ -77,6 +78,7 @@ returns c =
         end_marks = λ q lt. c.store-2.ensures.lens q (omega (arith, lt, t.room.rows.ends)) ∙ t.room.rows.end_marks q lt;
         roots = length-set T.roots.items T.count c.args.root ∙ t.room.rows.roots;
       };
+      work = t.room.work;
       cells = omega (arith, place, c.empty_cells.ensures.long, one_shifted T.layout.shift t.layout.small);
       reserved = omega (arith, t.room.reserved, c.empty_cells.ensures.capacity);
       index = omega (arith, length-set T.index.items c.args.slot (record { epoch = T.epoch % 65536; state = T.count }), t.room.index);

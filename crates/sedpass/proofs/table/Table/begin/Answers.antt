@@ -1,8 +1,8 @@
-use Rattle.std.proofs.Common.{length, refl, sym, subst}
+use Rattle.std.proofs.Common.{length, refl, sym, subst, arith}
 use Rattle.sedpass.proofs.Words.{with_item, Way, Beginning, Table}
 use Rattle.sedpass.specs.Rows.{nodes_of}
 use Rattle.sedpass.specs.Table.{AddsStates, BeginsIn, IsTable, MayBegin, NamesState}
-use Rattle.sedpass.proofs.TableLemmas.{adds_same, adds_then, names_first, names_more, note_beginning}
+use Rattle.sedpass.proofs.TableLemmas.{adds_same, adds_then, adds_work, names_first, names_more, note_beginning, table_work}
 use Rattle.sedpass.proofs.table.Table.begin.Goals as goal
 
 pub returns-then-self-lt-LAST_EPOCHS-clause-codes : goal.returns-then-self-lt-LAST_EPOCHS-clause-codes
@@ -12,6 +12,7 @@ returns-then-self-lt-LAST_EPOCHS-clause-codes c =
     let T = c.args.self.now in
     let S = c.intern-code.new.self in
     let codes = c.intern-code.ensures.codes in
+    let added = adds_work c.args.prepared.now c.args.self.now c.first.new.work c.intern-code.new.self codes.adds in
     let code = c.intern-code.result in
     let root = c.args.root in
     let kind = c.args.kind in
@@ -23,15 +24,25 @@ returns-then-self-lt-LAST_EPOCHS-clause-codes c =
     let may : MayBegin p S.way root = subst (λ (w : Way). MayBegin p w root) (sym codes.adds.shape.0) c.requires.root in
     record {
       table = subst (λ i. IsTable p (record S { beginnings = with_item S.beginnings i fresh })) (sym c.beginning_at-at.ensures) (note_beginning p S codes.table root code kind may c.if-self-lt-LAST_EPOCHS.true begins_now);
-      adds = adds_then m T S N codes.adds same refl refl;
+      adds = adds_then m T S N added same refl refl;
       names = names_more p S N same refl (BeginsIn (nodes_of T.way p.arena.expr) T.way root kind) code begins;
     }
 
 pub returns-else-self-lt-LAST_EPOCHS-clause-codes : goal.returns-else-self-lt-LAST_EPOCHS-clause-codes
 returns-else-self-lt-LAST_EPOCHS-clause-codes c =
     let codes = c.intern-code.ensures.codes in
+    let added = adds_work c.args.prepared.now c.args.self.now c.first.new.work c.intern-code.new.self codes.adds in
     record {
       table = codes.table;
-      adds = codes.adds;
+      adds = added;
       names = names_first c.args.prepared.now c.intern-code.new.self c.args.self.now.way c.args.root c.intern-code.result c.args.kind c.first.new.work.leaves c.first.new.work.ends codes.names c.first.ensures.first;
     }
+
+pub first-requires : goal.first-requires
+first-requires c =
+    let room = c.requires.table.room in
+    let is = room.work in
+    record { root = c.requires.root.0; wide = (omega (arith, room.marks, is.0), omega (arith, room.marks, is.1), omega (arith, room.marks, is.2), omega (arith, room.marks, is.3)) }
+
+pub intern-code-requires : goal.intern-code-requires
+intern-code-requires c = record { table = table_work c.args.prepared.now c.args.self.now c.first.new.work c.requires.table (c.first.ensures.wide _ c.requires.table.room.work); root = c.requires.root.0 }

@@ -19,14 +19,14 @@ same-requires c =
     let room = c.requires.table.room in
     let there = state_there (goal.at.same-requires c).In-Some in
     let nodes = c.nodes-nodes.ensures in
-    record { row = omega (arith, there, room.rows.leaves); inside = omega (arith, nodes.value, room.marks, room.rows.leaf_marks c.in-Some.state there); there = omega (arith, nodes.value, nodes.few) }
+    record { row = omega (arith, there, room.rows.leaves); inside = omega (arith, nodes.value, room.marks, room.rows.leaf_marks c.in-Some.state there); there = omega (arith, nodes.value, room.marks, room.work.2) }
 
 pub same-requires-in-loop-at : goal.same-requires-in-loop-at
 same-requires-in-loop-at c =
     let room = c.requires.table.room in
     let there = state_there (goal.at.same-requires-in-loop-at c).In-Some in
     let nodes = c.nodes-nodes.ensures in
-    record { row = omega (arith, there, room.rows.ends); inside = omega (arith, nodes.value, room.marks, room.rows.end_marks c.in-Some.state there); there = omega (arith, nodes.value, nodes.few) }
+    record { row = omega (arith, there, room.rows.ends); inside = omega (arith, nodes.value, room.marks, room.rows.end_marks c.in-Some.state there); there = omega (arith, nodes.value, room.marks, room.work.3) }
 
 pub returns-in-loop-at : goal.returns-in-loop-at
 returns-in-loop-at c =
@@ -34,15 +34,15 @@ returns-in-loop-at c =
     let m = length c.args.prepared.now.arena.expr.nodes in
     let q = c.in-Some.state in
     let inside : q < length T.roots.items = omega (arith, c.in-Some.ensures, c.requires.table.room.count, c.requires.table.room.rows.roots) in
-    let leaves : AgreeBelow m (row_of T.leaves q) c.args.work.now.leaves = subst (λ n. AgreeBelow n (row_of T.leaves q) c.args.work.now.leaves) c.nodes-nodes.ensures.value (c.same.ensures.same c.if-same.true) in
-    let ends : AgreeBelow m (row_of T.ends q) c.args.work.now.ends = subst (λ n. AgreeBelow n (row_of T.ends q) c.args.work.now.ends) c.nodes-nodes.ensures.value (c.same-in-loop-at.ensures.same c.if-same-2.true) in
+    let leaves : AgreeBelow m (row_of T.leaves q) c.args.self.now.work.leaves = subst (λ n. AgreeBelow n (row_of T.leaves q) c.args.self.now.work.leaves) c.nodes-nodes.ensures.value (c.same.ensures.same c.if-same.true) in
+    let ends : AgreeBelow m (row_of T.ends q) c.args.self.now.work.ends = subst (λ n. AgreeBelow n (row_of T.ends q) c.args.self.now.work.ends) c.nodes-nodes.ensures.value (c.same-in-loop-at.ensures.same c.if-same-2.true) in
     let up : c.loop-at.at ≤ c.args.slot + 1 = (let h = c.loop-at-test.true in omega (arith, h)) in
     record {
       there = c.in-Some.ensures;
       has = (
         sym (c.index.ensures ∙ get_or_default T.roots.items q c.index.result.now 0 inside) ∙ c.if-index-root.true,
-        bits_agree m (row_of T.leaves q) c.args.work.now.leaves leaves,
-        bits_agree m (row_of T.ends q) c.args.work.now.ends ends,
+        bits_agree m (row_of T.leaves q) c.args.self.now.work.leaves leaves,
+        bits_agree m (row_of T.ends q) c.args.self.now.work.ends ends,
       );
       cost = omega (arith, c.loop-at.invariant.cost, mul-le-mul_left (2 * m + 1) up, c.add.ensures.cost, c.same.ensures.cost, c.same-in-loop-at.ensures.cost, c.nodes-nodes.ensures.value);
     }

@@ -19,6 +19,7 @@ returns c =
       cells = c.room.result;
       index = c.copies-2.result;
       beginnings = c.copies-3.result;
+      work = c.in_ok-work.work;
     } in
     let before-3 = c.copies-3.ensures.refused given in
     let before-2 = c.copies-2.ensures.refused before-3 in
@@ -36,5 +37,6 @@ returns c =
       end_marks = c.in_ok-ends.ensures.marks;
       roots = omega (arith, c.copies.ensures.long before-room, T.roots.ok);
     })
+    c.in_ok-work.ensures
     (subst (λ n. c.args.room * n ≤ vec_capacity c.room.result) c.most_cells.ensures (c.room.ensures.room before-2)) index begins c.count_beginnings-kinds.ensures.begins noted in
     record { table = (has, refl, refl) }

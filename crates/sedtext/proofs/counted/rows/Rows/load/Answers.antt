@@ -1,6 +1,5 @@
 use Rattle.std.proofs.Common.{◌≡◌, ◌+◌, ◌≤◌, ◌∙◌, false, length, sym, ap, arith}
 use Rattle.std.specs.Prelude.{slice_index_or, vec_len}
-use Rattle.sedtext.specs.declared.counted.node_marks.NodeMarks.TheInside.{Inside}
 use Rattle.sedtext.proofs.WordLemmas.{length-marks_of, row_seen, marks_seen, words_there, row_agrees}
 use Rattle.sedtext.proofs.counted.rows.Rows.load.Goals as goal
 
@@ -10,22 +9,15 @@ overflow_mul-self-inside c =
     omega (arith, there, c.self.inside.words.ok)
 
 pub copy_words-requires-clause-inside : goal.copy_words-requires-clause-inside
-copy_words-requires-clause-inside c =
-    let n = c.marks-inside.inside.0.0.count in
-    let room : n ≡ 65536 = sym (length-marks_of c.marks-inside.inside.0.0.words.items n) ∙ ap (λ (v : Inside). length v.marks) c.marks-inside.view_is ∙ c.marks.invariant in
-    let fits : 0 + c.div_ceil.result ≤ vec_len c.marks-inside.inside.0.0.words = omega (arith, room, c.marks-inside.invariant, c.requires.there, c.marks-inside.inside.0.0.words.ok) in
-    fits
+copy_words-requires-clause-inside c = omega (arith, ap length c.marks.view_is, length-marks_of c.marks.inside.words.items c.marks.inside.count, c.marks.invariant, c.requires.there, c.marks.inside.words.ok)
 
 pub copy_words-requires-clause-there : goal.copy_words-requires-clause-there
 copy_words-requires-clause-there c =
     let there = words_there c.self.inside c.args.self.now c.self.view_is c.self.invariant c.args.row c.args.count c.requires.row c.requires.inside in
     omega (arith, there)
 
-pub invariant_of-marks : goal.invariant_of-marks
-invariant_of-marks c =
-    let n = c.marks-inside.inside.0.0.count in
-    let room : n ≡ 65536 = sym (length-marks_of c.marks-inside.inside.0.0.words.items n) ∙ ap (λ (v : Inside). length v.marks) c.marks-inside.view_is ∙ c.marks.invariant in
-    length-marks_of c.copy_words.new.words.items n ∙ room
+pub returns-clause-len : goal.returns-clause-len
+returns-clause-len c = length-marks_of c.copy_words.new.words.items c.marks.inside.count ∙ sym (length-marks_of c.marks.inside.words.items c.marks.inside.count) ∙ ap length c.marks.view_is
 
 pub returns-clause-same : goal.returns-clause-same
 returns-clause-same c k lt =
@@ -33,11 +25,10 @@ returns-clause-same c k lt =
     let words = c.self.inside.words.items in
     let marks = c.self.inside.marks in
     let row = c.args.row in
-    let n = c.marks-inside.inside.0.0.count in
-    let room : n ≡ 65536 = sym (length-marks_of c.marks-inside.inside.0.0.words.items n) ∙ ap (λ (v : Inside). length v.marks) c.marks-inside.view_is ∙ c.marks.invariant in
+    let n = c.marks.inside.count in
     let all = marks_seen c.self.inside c.args.self.now c.self.view_is c.self.invariant row c.requires.row in
     let low : c.args.count ≤ marks = omega (arith, all, c.requires.inside) in
-    let high : c.args.count ≤ n = omega (arith, room, c.requires.there) in
+    let high : c.args.count ≤ n = omega (arith, ap length c.marks.view_is, length-marks_of c.marks.inside.words.items n, c.requires.there) in
     sym (row_agrees words c.copy_words.new.words.items width marks n row c.args.count low high
     (λ x near inside.
     let same = c.copy_words.ensures.same x (omega arith) in

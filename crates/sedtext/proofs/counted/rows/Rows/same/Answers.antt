@@ -14,7 +14,7 @@ same_words-requires-clause-inside c =
     omega (arith, there)
 
 pub same_words-requires-clause-there : goal.same_words-requires-clause-there
-same_words-requires-clause-there c = omega (arith, ap length c.behind-marks.view_is, c.list.ensures.room, length-marks_of c.behind-marks.inside.words.items c.behind-marks.inside.count, c.behind-marks.invariant, c.requires.there, c.behind-marks.inside.words.ok)
+same_words-requires-clause-there c = omega (arith, ap length c.marks.view_is, length-marks_of c.marks.inside.words.items c.marks.inside.count, c.marks.invariant, c.requires.there, c.marks.inside.words.ok)
 
 pub returns-clause-same : goal.returns-clause-same
 returns-clause-same c hit k lt =
@@ -22,11 +22,11 @@ returns-clause-same c hit k lt =
     let words = c.self.inside.words.items in
     let marks = c.self.inside.marks in
     let row = c.args.row in
-    let n = c.behind-marks.inside.count in
+    let n = c.marks.inside.count in
     let all = marks_seen c.self.inside c.args.self.now c.self.view_is c.self.invariant row c.requires.row in
     let low : c.args.count ≤ marks = omega (arith, all, c.requires.inside) in
-    let high : c.args.count ≤ n = omega (arith, ap length c.behind-marks.view_is, c.list.ensures.room, length-marks_of c.behind-marks.inside.words.items n, c.requires.there) in
+    let high : c.args.count ≤ n = omega (arith, ap length c.marks.view_is, length-marks_of c.marks.inside.words.items n, c.requires.there) in
     ap (λ l. slice_index_or l k false) (sym (row_seen c.self.inside c.args.self.now c.self.view_is c.self.invariant row c.requires.row))
-    ∙ row_agrees words c.behind-marks.inside.words.items width marks n row c.args.count low high
+    ∙ row_agrees words c.marks.inside.words.items width marks n row c.args.count low high
     (λ x near inside. c.same_words.ensures.same hit x (omega arith)) k lt
-    ∙ ap (λ l. slice_index_or l k false) (c.behind-marks.view_is ∙ c.list.ensures.same)
+    ∙ ap (λ l. slice_index_or l k false) c.marks.view_is

@@ -14,7 +14,7 @@ copy_words-requires-clause-inside c =
     omega (arith, there)
 
 pub copy_words-requires-clause-there : goal.copy_words-requires-clause-there
-copy_words-requires-clause-there c = omega (arith, ap length c.behind-marks.view_is, c.list.ensures.room, length-marks_of c.behind-marks.inside.words.items c.behind-marks.inside.count, c.behind-marks.invariant, c.requires.there, c.behind-marks.inside.words.ok)
+copy_words-requires-clause-there c = omega (arith, ap length c.marks.view_is, length-marks_of c.marks.inside.words.items c.marks.inside.count, c.marks.invariant, c.requires.there, c.marks.inside.words.ok)
 
 pub returns-clause-len : goal.returns-clause-len
 returns-clause-len c =
@@ -31,18 +31,18 @@ returns-clause-same c k lt =
     let after = c.copy_words.new.words.items in
     let marks = c.self.inside.marks in
     let row = c.args.row in
-    let n = c.behind-marks.inside.count in
+    let n = c.marks.inside.count in
     let few = rows_seen c.self.inside c.args.self.now c.self.view_is c.self.invariant in
     let all = marks_seen c.self.inside c.args.self.now c.self.view_is c.self.invariant row c.requires.row in
     let low : c.args.count ≤ marks = omega (arith, all, c.requires.inside) in
-    let high : c.args.count ≤ n = omega (arith, ap length c.behind-marks.view_is, c.list.ensures.room, length-marks_of c.behind-marks.inside.words.items n, c.requires.there) in
+    let high : c.args.count ≤ n = omega (arith, ap length c.marks.view_is, length-marks_of c.marks.inside.words.items n, c.requires.there) in
     ap (λ l. slice_index_or l k false) (rows_of-get after width marks c.self.inside.count row (omega (arith, few, c.requires.row)))
-    ∙ row_agrees after c.behind-marks.inside.words.items width marks n row c.args.count low high
+    ∙ row_agrees after c.marks.inside.words.items width marks n row c.args.count low high
     (λ x near inside.
     let same = c.copy_words.ensures.same x (omega arith) in
     let e : 0 + x ≡ x = omega arith in
-    same ∙ ap (λ v. slice_index_or c.behind-marks.inside.words.items v 0) e) k lt
-    ∙ ap (λ l. slice_index_or l k false) (c.behind-marks.view_is ∙ c.list.ensures.same)
+    same ∙ ap (λ v. slice_index_or c.marks.inside.words.items v 0) e) k lt
+    ∙ ap (λ l. slice_index_or l k false) c.marks.view_is
 
 pub returns-clause-other : goal.returns-clause-other
 returns-clause-other c q lt apart =
