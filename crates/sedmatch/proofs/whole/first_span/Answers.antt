@@ -17,16 +17,10 @@ fit-requires-2 c = record { roomy = roomy_fewer (length c.args.subject.prepared.
 pub begin-requires-clause-root : goal.begin-requires-clause-root
 begin-requires-clause-root c = (let last = c.args.subject.prepared.now.is_prepared.last in omega (arith, last), λ _. refl)
 
-pub begin-requires-clause-whole : goal.begin-requires-clause-whole
-begin-requires-clause-whole c = λ _. c.len-end.ensures.is
-
 pub next_kept-requires-clause-forward_one : goal.next_kept-requires-clause-forward_one
 next_kept-requires-clause-forward_one c =
     let way = c.fit.ensures.room.0 ∙ c.requires.desk.0.shared.1.ways.forward_one in
     record { table = c.fit.ensures.table; forwards = ap (λ v. v.mirrored) way; single = ap (λ v. v.all_starts) way }
-
-pub next_kept-requires-clause-all_starts : goal.next_kept-requires-clause-all_starts
-next_kept-requires-clause-all_starts c = ap (λ v. v.all_starts) (c.fit-2.ensures.room.0 ∙ c.requires.desk.0.reverse_any.1)
 
 pub begin-requires-clause-room : goal.begin-requires-clause-room
 begin-requires-clause-room c =
