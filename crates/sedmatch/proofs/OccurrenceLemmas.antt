@@ -20,6 +20,7 @@ use Rattle.sedpass.specs.declared.search.Seeking.{Seeking}
 use Rattle.sedpass.specs.declared.kept.Kept.{Kept}
 use Rattle.sedpass.specs.declared.nodes.Prepared.{Prepared}
 use Rattle.sedpass.specs.declared.table.Table.{Table}
+use Rattle.sedpass.proofs.KeptLemmas.{space_same}
 use Rattle.sedpass.proofs.OccurrenceLemmas.{search_falls}
 use Rattle.sedpass.proofs.SearchLemmas.{search_long, serves_for, table_for}
 use Rattle.sedpass.proofs.TableLemmas.{roomy_fewer, roomy_still}
@@ -72,11 +73,8 @@ kept_still text nodes kept kept' t t' has room same = record {
   marks = λ q low. let long = same.edges in let old = has.marks q (omega (arith, low, long)) in let is = same.marks q in omega (arith, old, is);
 }
 
-pub space_refl : (k : Kept) → SameSpace k k
-space_refl k = record { places = refl; edges = refl; marks = λ q. refl }
-
 pub space_by : (k k' : Kept) → k' ≡ k → SameSpace k k'
-space_by k k' is = subst (SameSpace k) (sym is) (space_refl k)
+space_by k k' is = subst (SameSpace k) (sym is) (space_same k)
 
 -- a table for an expression is one however that was made ready
 pub reverse_any_made : (p : Prepared) (e : WrittenExpression) (t : Table) → p.arena.expr ≡ e → IsTable p t → t.way ≡ reverse_any_way → IsReverseAny e t
@@ -148,7 +146,7 @@ module _ (p : Prepared) (w : List ℕ) (o : Occurrences) (at : RoomAt (length w)
 
   -- that of all is, fitted to the expression
   pub shared_kept : (t : Table) → SameRoom o.shared t → KeptRoom (length p.arena.expr.nodes) (length w) t o.seeking.kept
-  shared_kept t same = kept_still (length w) (length p.arena.expr.nodes) o.seeking.kept o.seeking.kept o.shared t at.shared.2 same (space_refl o.seeking.kept)
+  shared_kept t same = kept_still (length w) (length p.arena.expr.nodes) o.seeking.kept o.seeking.kept o.shared t at.shared.2 same (space_same o.seeking.kept)
 
   pub shared_ready : (s : Seeking) (t : Table) → SameRoom o.shared t → IsTable p t → s.kept ≡ o.seeking.kept → SearchServes p w t s →
       IsReady p.arena.expr w o (record o { seeking = s; shared = t; by_own = false; is_fresh = false })

@@ -19,12 +19,3 @@ returns-then-has_blocks-clause-desk c =
     let is = c.requires.desk.0 in
     let done = c.groups_with.ensures.room in
     desk_again d c.groups_with.new.room d.reverse_any d.shared is done.space c.groups_with.ensures.none done.tasks is.reverse_any is.shared refl refl
-
-pub returns-then-has_blocks-clause-answered : goal.returns-then-has_blocks-clause-answered
-returns-then-has_blocks-clause-answered c = c.groups_with.ensures.answered
-
-pub returns-clause-desk : goal.returns-clause-desk
-returns-clause-desk c = c.shared_groups.ensures.desk
-
-pub returns-clause-answered : goal.returns-clause-answered
-returns-clause-answered c = c.shared_groups.ensures.answered

@@ -14,25 +14,13 @@ fit-requires c =
 pub fit-requires-2 : goal.fit-requires-2
 fit-requires-2 c = record { roomy = roomy_fewer (length c.args.subject.prepared.now.arena.expr.nodes) c.args.desk.now.max_nodes c.args.desk.now.reverse_any c.requires.desk.2 c.requires.desk.0.reverse_any.0 }
 
-pub begin-requires-clause-table : goal.begin-requires-clause-table
-begin-requires-clause-table c = c.fit-2.ensures.table
-
 pub begin-requires-clause-root : goal.begin-requires-clause-root
 begin-requires-clause-root c = (let last = c.args.subject.prepared.now.is_prepared.last in omega (arith, last), λ _. refl)
-
-pub begin-requires-clause-whole : goal.begin-requires-clause-whole
-begin-requires-clause-whole c = λ _. c.len-end.ensures.is
 
 pub next_kept-requires-clause-forward_one : goal.next_kept-requires-clause-forward_one
 next_kept-requires-clause-forward_one c =
     let way = c.fit.ensures.room.0 ∙ c.requires.desk.0.shared.1.ways.forward_one in
     record { table = c.fit.ensures.table; forwards = ap (λ v. v.mirrored) way; single = ap (λ v. v.all_starts) way }
-
-pub next_kept-requires-clause-kept : goal.next_kept-requires-clause-kept
-next_kept-requires-clause-kept c = c.begin.ensures.kept
-
-pub next_kept-requires-clause-all_starts : goal.next_kept-requires-clause-all_starts
-next_kept-requires-clause-all_starts c = ap (λ v. v.all_starts) (c.fit-2.ensures.room.0 ∙ c.requires.desk.0.reverse_any.1)
 
 pub begin-requires-clause-room : goal.begin-requires-clause-room
 begin-requires-clause-room c =
@@ -64,6 +52,3 @@ pub returns-clause-counts : goal.returns-clause-counts
 returns-clause-counts c =
     let next = c.next_kept.ensures.next in
     looks_at_span (expression_tree c.args.subject.prepared.now.arena.expr) c.args.subject.text.now c.args.from c.args.steps.now c.next_kept.new.steps c.next_kept.result next.answer next.counts
-
-pub returns-clause-answer : goal.returns-clause-answer
-returns-clause-answer c = c.next_kept.ensures.next.answer

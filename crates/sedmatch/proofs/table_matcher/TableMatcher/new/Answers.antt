@@ -9,6 +9,3 @@ returns-in_default c = (passes_made c.args.expr.now c.in_ok-new_passes.field-0 c
 
 pub invariant_of-result-2 : goal.invariant_of-result-2
 invariant_of-result-2 c = form_found c.args.expr.now c.in_ok-copy.field-0 c.in_ok-form.field-0 c.in-Some.form c.in_ok-form.ensures.form c.in-Some.is c.in_ok-copy.ensures
-
-pub returns : goal.returns
-returns c = c.in_ok-copy.ensures
