@@ -1,6 +1,6 @@
 -- What is kept of a pass backwards, and how it comes down by a place.
 use Rattle.std.proofs.Common.{inl, inr, ◌≡◌, ℕ, ◌+◌, ◌-◌, ◌*◌, ◌/◌, ◌^◌, ◌<◌, ◌≤◌, ◌↔◌, ◌⊎◌, ⊎_elim, length-set, mul-le-mul_left, mul-le-mul_right, Bool, true, false, zero, suc, List, [], ◌∷◌, length, Some, refl, sym, ap, ◌∙◌, subst, arith, true≢false, IsTrue, not, reverse, slice_get, slice_index_or, slice_set, vec_capacity, nat_lt}
-use Rattle.sedpass.proofs.Words.{div-mul-le_self, lt-div-mul-add, beq, length-reverse, get_or_default, get_or-set_same, get_or-set_other, IsArena, WrittenExpression, seen, Node, byte_is_in, Starts, HasSpan, IsStart, one_start, starts_to, IsPlace, get-reverse, AgreeBelow, row_of, Kept, cases_eq, cases_lt, lt-ltb, ltb-true, Prepared, Way, Work, Table, PlaceKind, both-iff}
+use Rattle.sedpass.proofs.Words.{div-mul-le_self, lt-div-mul-add, beq, length-reverse, get_or_default, get_or-set_same, get_or-set_other, IsArena, WrittenExpression, seen, Node, byte_is_in, Starts, HasSpan, IsStart, one_start, starts_to, IsPlace, get-reverse, AgreeBelow, row_of, Kept, cases_eq, cases_lt, lt-ltb, ltb-true, Prepared, Way, Table, PlaceKind, both-iff}
 use Rattle.sedpass.specs.Regions.{IsLastIn, Opposite, ReachesEnd, MeetsAt}
 use Rattle.sedpass.specs.Rows.{bits, RowOfPlace, RowLeadsTo, IsFirstRow, SameBytes, at_begin, at_edge, nodes_of}
 use Rattle.sedpass.specs.Kept.{starts_shown, ends_shown, ComesDown, RowKept, KeptAt, IsLive, IsRegion, PassesDownTo, IsEdge, AllMarked, SameKept, SameSpace, EdgesFrom, IsKept, KeepsRegion, Follows, Meet}

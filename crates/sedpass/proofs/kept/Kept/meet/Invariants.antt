@@ -1,4 +1,4 @@
-use Rattle.std.proofs.Common.{◌≡◌, ℕ, ◌-◌, ◌*◌, ◌≤◌, length}
+use Rattle.std.proofs.Common.{ℕ, ◌-◌, ◌*◌, ◌≤◌, length}
 use Rattle.sedpass.proofs.Words.{TakesAtLeast, CostsWithin}
 use Rattle.sedpass.specs.Table.{IsOffset, IsTable, SameShape}
 use Rattle.sedpass.specs.Kept.{Follows, Meet}

@@ -1,4 +1,4 @@
-use Rattle.std.proofs.Common.{◌+◌, ◌-◌, ◌*◌, ◌/◌, ◌<◌, ◌≤◌, ◌⊎◌, inl, inr, arith, length, refl}
+use Rattle.std.proofs.Common.{◌+◌, ◌-◌, ◌*◌, ◌/◌, ◌<◌, ◌≤◌, ◌⊎◌, inl, inr, arith, length}
 use Rattle.std.proofs.Math.Nat.{lt-div-mul-add}
 use Rattle.sedpass.proofs.OwedLemmas.{owed_made, owed_again, owed_left}
 use Rattle.sedpass.proofs.kept.Kept.ready.Goals.{then-place-self, else-place-self+then-place-self-2, then-place-self-2-via-then-place-self-2, then-place-self-2-via-else-place-self-2+then-self-place, else-place-self+else-place-self-2+else-self-place}

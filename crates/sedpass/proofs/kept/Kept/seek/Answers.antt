@@ -1,4 +1,4 @@
-use Rattle.std.proofs.Common.{◌≡◌, ◌-◌, refl, subst, ◌↔◌, IsTrue, arith, length, not}
+use Rattle.std.proofs.Common.{◌≡◌, ◌-◌, subst, ◌↔◌, IsTrue, arith, length, not}
 use Rattle.sedpass.proofs.Words.{TakesAtLeast, least_none, least_both, least_since}
 use Rattle.sedpass.specs.Kept.{AllMarked, KeepsRegion, ends_shown, owed_region}
 use Rattle.sedpass.proofs.KeptLemmas.{keeps_same, keeps_then, marked_then, shown_as}
