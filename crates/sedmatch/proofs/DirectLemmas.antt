@@ -14,7 +14,7 @@ use Rattle.sedtext.specs.Runs.{SetRepeats}
 use Rattle.sedtext.specs.Spans.{SomeFound}
 use Rattle.sedtext.specs.FixedRuns.{FirstFixedRun}
 use Rattle.sedtext.specs.declared.links.Link.{Link}
-use Rattle.sedmatch.specs.Direct.{AllLiteral, FirstSpan, FormSpans, IsDirect, SpannedAs, bytes_looked_at}
+use Rattle.sedmatch.specs.Direct.{FirstSpan, FormSpans, IsDirect, SpannedAs, bytes_looked_at}
 use Rattle.sedmatch.specs.Stretches.{IsAnchored, bytes_sought, end_or, width}
 use Rattle.sedmatch.specs.declared.direct.DirectForm.{DirectForm}
 use Rattle.sedmatch.specs.declared.direct.DirectForm.TheVariants.{Stretch, Anchored, FixedRun, Literal}

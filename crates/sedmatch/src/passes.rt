@@ -1,12 +1,11 @@
 //! An expression that is searched by passes: what is found out of it once, its tables, and what they show of a text.
 ghost use Rattle.std.specs.Prelude.{◌≡◌, ℕ, List, ◌+◌, ◌-◌, ◌*◌, ◌/◌, ◌<◌, ◌≤◌, ◌↔◌, [], length, vec_capacity, IfOk, IfSome, IsTrue};
-ghost use Rattle.std.specs.List.{All};
 ghost use Rattle.sedre.specs.Arena.{IsExpr};
 ghost use Rattle.sedre.specs.Tree.{Tree, WrittenExpression, expression_tree};
 ghost use Rattle.sedre.specs.Steps.{Takes, TakesAtLeast};
 ghost use Rattle.sedtext.specs.Beginnings.{AllBegin};
 ghost use Rattle.sedtext.specs.Following.{LooksPast};
-ghost use Rattle.sedtext.specs.Links.{IsChain, IsWithin};
+ghost use Rattle.sedtext.specs.Links.{IsChain};
 ghost use Rattle.sedtext.specs.Required.{IsRequired};
 ghost use Rattle.sedpass.specs.Table.{IsForwardOne, IsForwardAny, SameShape};
 ghost use Rattle.sedtext.specs.Spans.{SomeFound, Matches};
@@ -114,7 +113,6 @@ pub fn new_passes(
     steps: &mut Steps,
 ) -> Result<Passes, AllocError>
     requires chain { IsChain expr.now.nodes (expression_tree expr.now) chain.now }
-    requires within { All (IsWithin (length expr.now.nodes)) chain.now }
     ensures { IfOk result (ArePasses expr.now) }
 {
     let begins = how_begins(alloc, expr, chain, steps)?;
