@@ -1,6 +1,5 @@
 -- Expressions whose matches a look at the text shows.
-use Rattle.std.proofs.Common.{◌≡◌, ℕ, ◌+◌, ◌-◌, ◌*◌, ◌≤◌, ◌↔◌, Bool, List, [], drop, length, length-drop, Option, Some, None, IsTrue, refl, sym, subst, true≢false, arith}
-use Rattle.std.proofs.lemmas.List.{nil_from_length}
+use Rattle.std.proofs.Common.{◌≡◌, ℕ, ◌+◌, ◌-◌, ◌*◌, ◌≤◌, ◌↔◌, Bool, List, length, Option, Some, None, IsTrue, refl, sym, subst, true≢false, arith}
 use Rattle.std.specs.Prelude.{IfSome, is_some}
 use Rattle.sedre.specs.Tree.{Tree, WrittenExpression, expression_tree}
 use Rattle.sedre.specs.Steps.{Takes, TakesAtLeast}
@@ -8,13 +7,11 @@ use Rattle.sedtext.specs.Answer.{SpanAnswer}
 use Rattle.sedtext.specs.Bytes.{AreBytes}
 use Rattle.sedtext.specs.Costs.{CostsWithin}
 use Rattle.sedtext.specs.Following.{CanEndEarly, LooksPast}
-use Rattle.sedtext.specs.Links.{ChainLeads}
-use Rattle.sedtext.specs.Required.{IsLiteral, FirstLiteral}
+use Rattle.sedtext.specs.Required.{FirstLiteral}
 use Rattle.sedtext.specs.Runs.{SetRepeats}
 use Rattle.sedtext.specs.Spans.{SomeFound}
 use Rattle.sedtext.specs.FixedRuns.{FirstFixedRun}
-use Rattle.sedtext.specs.declared.links.Link.{Link}
-use Rattle.sedmatch.specs.Direct.{AllLiteral, FirstSpan, FormSpans, IsDirect, SpannedAs, bytes_looked_at}
+use Rattle.sedmatch.specs.Direct.{FirstSpan, FormSpans, IsDirect, SpannedAs, bytes_looked_at}
 use Rattle.sedmatch.specs.Stretches.{IsAnchored, bytes_sought, end_or, width}
 use Rattle.sedmatch.specs.declared.direct.DirectForm.{DirectForm}
 use Rattle.sedmatch.specs.declared.direct.DirectForm.TheVariants.{Stretch, Anchored, FixedRun, Literal}

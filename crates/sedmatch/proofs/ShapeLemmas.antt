@@ -1,16 +1,16 @@
 -- Stems, and one link more before them.
-use Rattle.std.proofs.Common.{◌≡◌, ℕ, ◌+◌, ◌≤◌, ◌⊎◌, ◌↔◌, Bool, false, true≢false, List, [], ◌∷◌, drop, drop-cons, length, suc, Option, Some, None, refl, sym, ap, ◌∙◌, subst, inl, inr, ⊎_elim, arith}
+use Rattle.std.proofs.Common.{◌≡◌, ℕ, ◌+◌, ◌≤◌, ◌⊎◌, ◌↔◌, Bool, false, true≢false, List, ◌∷◌, drop, drop-cons, length, suc, take, Option, Some, None, refl, sym, ap, ◌∙◌, subst, arith}
 use Rattle.std.specs.Prelude.{IfSome, slice_index_or}
+use Rattle.std.proofs.lemmas.List.{take_all}
 use Rattle.std.proofs.lemmas.Option.{IfSome_then}
-use Rattle.sedre.specs.Tree.{Tree}
+use Rattle.sedre.specs.Tree.{WrittenExpression, expression_tree}
 use Rattle.sedre.specs.declared.types.Node.{Node}
 use Rattle.sedtext.specs.Bytes.{AreBytes}
-use Rattle.sedtext.specs.Links.{ChainLeads, FollowedBy, IsChain, LinkLeads}
-use Rattle.sedtext.specs.Reach.{HasSpan}
+use Rattle.sedtext.specs.Links.{AreAlternatives, ChainLeads, IsChain, LinkLeads}
 use Rattle.sedtext.specs.Runs.{SetRepeats}
 use Rattle.sedtext.specs.declared.links.Link.{Link}
-use Rattle.sedtext.specs.declared.links.Link.TheVariants.{Either, Run}
-use Rattle.sedmatch.specs.Direct.{FormSpans, SpannedAs}
+use Rattle.sedtext.specs.declared.links.Link.TheVariants.{Run}
+use Rattle.sedmatch.specs.Direct.{FormSpans, IsDirect}
 use Rattle.sedmatch.specs.Shapes.{ByteLeads, StemLeads}
 use Rattle.sedmatch.specs.Stretches.{Follow}
 use Rattle.sedmatch.specs.declared.direct.DirectForm.{DirectForm}
@@ -51,23 +51,15 @@ one_link_more links x link behind stem inside here is rest nodes w i j =
 abbrev LeadAs : List Link → List Link → DirectForm → Type 0
 LeadAs left right form = (nodes : List Node) (w : List ℕ) → AreBytes w → (i j : ℕ) → i ≤ length w → (ChainLeads nodes w left i j ⊎ ChainLeads nodes w right i j) ↔ FormSpans form w i j
 
-pub either_spanned : (nodes : List Node) (e : Tree) (links left right : List Link) (x y : ℕ) (form : Option DirectForm) → IsChain nodes e links → links ≡ Either x y ∷ [] →
-    FollowedBy nodes [] x left → FollowedBy nodes [] y right → IfSome form (LeadAs left right) → IfSome form (SpannedAs e)
-either_spanned nodes e links left right x y form chain is first second lead =
-    IfSome_then form lead (λ f leads w bytes i j within. (
-      λ at.
-          let h = subst (λ v. ChainLeads nodes w v i j) is ((chain w i j).0 at) in
-          let here = subst (LinkLeads nodes w (Either x y) i) h.2 h.1 in
-          (leads nodes w bytes i j within).0 (⊎_elim (λ l. inl ((first w i j).0 (i, refl, l))) (λ r. inr ((second w i j).0 (i, refl, r))) here),
-      λ at.
-          (chain w i j).1 (subst (λ v. ChainLeads nodes w v i j) (sym is) (
-            j,
-            (
-                ⊎_elim
-                (λ l. let f = (first w i j).1 l in inl (subst (λ k. HasSpan nodes w x k j) (sym f.1) f.2))
-                (λ r. let f = (second w i j).1 r in inr (subst (λ k. HasSpan nodes w y k j) (sym f.1) f.2))
-                ((leads nodes w bytes i j within).1 at)
-                ),
-            refl,
-          )),
+pub either_direct : (e : WrittenExpression) (links left right : List Link) (form : Option DirectForm) → IsChain e.nodes (expression_tree e) links → length links ≤ 1 →
+    AreAlternatives e.nodes (take 1 links) left right → IfSome form (LeadAs left right) → e.groups ≡ 0 → 1 ≤ length e.nodes → IfSome form (IsDirect e)
+either_direct e links left right form chain alone ways lead none some =
+    let spans = (subst (λ v. AreAlternatives e.nodes v left right) (take_all 1 links alone) ways).spans in
+    IfSome_then form lead (λ f leads. (
+      (λ w bytes i j within. (
+        (λ at. (leads e.nodes w bytes i j within).0 ((spans w i j).0 ((chain.spans w i j).0 at))),
+        (λ at. (chain.spans w i j).1 ((spans w i j).1 ((leads e.nodes w bytes i j within).1 at))),
+      )),
+      none,
+      some,
     ))

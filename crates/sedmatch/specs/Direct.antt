@@ -17,16 +17,16 @@ use Rattle.sedmatch.specs.declared.direct.DirectForm.TheVariants.{Stretch, Ancho
 abbrev pub LiteralSpans : List ℕ → List ℕ → ℕ → ℕ → Type 0
 LiteralSpans literal w i j = OccursAt w literal i × (j ≡ i + length literal)
 
--- the chain leads over the literal, and over nothing else
-abbrev pub AllLiteral : List Link → List ℕ → Type 0
-AllLiteral links literal = (nodes : List Node) (w : List ℕ) (i j : ℕ) → i ≤ length w → ChainLeads nodes w links i j ↔ LiteralSpans literal w i j
-
 -- what matches from i to j
 abbrev pub FormSpans : DirectForm → List ℕ → ℕ → ℕ → Type 0
 FormSpans (Stretch s) w i j = StretchSpans s None w i j
 FormSpans (Anchored s ends) w i j = StretchSpans s (Some ends) w i j
 FormSpans (FixedRun members count) w i j = IsFixedRun members count w i j
 FormSpans (Literal literal) w i j = LiteralSpans literal w i j
+
+-- the chain leads over these in a text of bytes
+abbrev pub LeadsAs : List Link → DirectForm → Type 0
+LeadsAs links form = (nodes : List Node) (w : List ℕ) → AreBytes w → (i j : ℕ) → i ≤ length w → ChainLeads nodes w links i j ↔ FormSpans form w i j
 
 -- the spans of the expression in a text of bytes are these
 abbrev pub SpannedAs : Tree → DirectForm → Type 0

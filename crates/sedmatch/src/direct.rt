@@ -7,29 +7,28 @@
 #![tactic(auto, unfolding(sedre::specs::Steps::TakesAtLeast, sedre::specs::Steps::TakesExactly))]
 
 ghost use Rattle.std.specs.Prelude.{◌+◌, ◌-◌, ◌*◌, ◌≤◌, length, IfOk, IfSome};
-ghost use Rattle.std.specs.List.{All};
 ghost use Rattle.sedre.specs.Arena.{IsExpr};
 ghost use Rattle.sedre.specs.Tree.{WrittenExpression, expression_tree};
 ghost use Rattle.sedre.specs.Steps.{Takes, TakesAtLeast};
 ghost use Rattle.sedtext.specs.Answer.{SpanAnswer};
 ghost use Rattle.sedtext.specs.Costs.{CostsWithin};
 ghost use Rattle.sedtext.specs.Following.{CanEndEarly};
-ghost use Rattle.sedtext.specs.Links.{IsChain, IsWithin};
+ghost use Rattle.sedtext.specs.Links.{IsChain};
 ghost use Rattle.sedmatch.specs.Candidates.{NoMatchBefore};
-ghost use Rattle.sedmatch.specs.Direct.{AllLiteral, FirstSpan, IsDirect, bytes_looked_at};
+ghost use Rattle.sedmatch.specs.Direct.{FirstSpan, IsDirect, LeadsAs, bytes_looked_at};
 ghost use Rattle.sedmatch.specs.Passes.{AnswersMatch};
 ghost use Rattle.sedmatch.specs.Stretches.{end_or};
 ghost use Rattle.sedmatch.specs.declared.direct.DirectForm.TheVariants.{FixedRun, Literal as LiteralForm};
 
 use crate::Span;
-use crate::shapes::stretch_of;
+use crate::shapes::{form_at_ends, stretch_of};
 use crate::stretches::{Anchoring, Stretch, anchored_span, stretch_span};
 use memchr::memmem::Finder;
 use sedre::{ByteSet, Expr, Steps};
 use sedtext::counted::lookups::find_literal;
 use sedtext::counted::{Text, are_bytes};
 use sedtext::fixed_runs::{find_fixed_run, fixed_run_of};
-use sedtext::links::Link;
+use sedtext::links::{Link, alternatives_at};
 use sedtext::required::literal_at;
 use std::alloc::{AllocError, Global};
 
@@ -48,7 +47,7 @@ pub enum DirectForm {
 
 /// The literal that the chain is, where it has two bytes or more. A single byte is sought faster as one.
 fn literal_of(alloc: Global, chain: &[Link]) -> Result<Option<Finder<'static>>, AllocError>
-    ensures literal { IfOk result (λ r. IfSome r (AllLiteral chain.now)) }
+    ensures literal { IfOk result (λ r. IfSome r (λ l. LeadsAs chain.now (LiteralForm l))) }
 {
     let bytes = literal_at(alloc, chain, 0)?;
     if bytes.len() < 2 || bytes.len() < chain.len() {
@@ -74,21 +73,26 @@ pub fn direct_form_of(
     steps: &mut Steps,
 ) -> Result<Option<DirectForm>, AllocError>
     requires chain { IsChain expr.now.nodes (expression_tree expr.now) chain.now }
-    requires within { All (IsWithin (length expr.now.nodes)) chain.now }
     ensures form { IfOk result (λ r. IfSome r (IsDirect expr.now)) }
 {
     is_expression(expr);
     if expr.groups() > 0 {
         return Ok(None);
     }
-    if let Some(form) = stretch_of(alloc, expr, chain, steps)? {
+    if let Some(form) = stretch_of(chain) {
         return Ok(Some(form));
     }
     if let Some(finder) = literal_of(alloc, chain)? {
         return Ok(Some(DirectForm::Literal(finder)));
     }
-    match fixed_run_of(chain) {
-        Some((set, count)) => Ok(Some(DirectForm::FixedRun(set, count))),
+    if let Some((set, count)) = fixed_run_of(chain) {
+        return Ok(Some(DirectForm::FixedRun(set, count)));
+    }
+    if chain.len() > 1 {
+        return Ok(None);
+    }
+    match alternatives_at(alloc, expr, chain, 0, steps)? {
+        Some((left, right)) => Ok(form_at_ends(&left, &right)),
         None => Ok(None),
     }
 }

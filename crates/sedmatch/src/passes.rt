@@ -1,12 +1,11 @@
 //! An expression that is searched by passes: what is found out of it once, its tables, and what they show of a text.
 ghost use Rattle.std.specs.Prelude.{◌≡◌, ℕ, List, ◌+◌, ◌-◌, ◌*◌, ◌/◌, ◌<◌, ◌≤◌, ◌↔◌, [], length, vec_capacity, IfOk, IfSome, IsTrue};
-ghost use Rattle.std.specs.List.{All};
 ghost use Rattle.sedre.specs.Arena.{IsExpr};
 ghost use Rattle.sedre.specs.Tree.{Tree, WrittenExpression, expression_tree};
 ghost use Rattle.sedre.specs.Steps.{Takes, TakesAtLeast};
 ghost use Rattle.sedtext.specs.Beginnings.{AllBegin};
 ghost use Rattle.sedtext.specs.Following.{LooksPast};
-ghost use Rattle.sedtext.specs.Links.{IsChain, IsWithin};
+ghost use Rattle.sedtext.specs.Links.{IsChain};
 ghost use Rattle.sedtext.specs.Places.{Ascending};
 ghost use Rattle.sedtext.specs.Required.{IsRequired};
 ghost use Rattle.sedtext.specs.Spans.{SomeFound, Matches};
@@ -20,7 +19,7 @@ use crate::table_room::TableRoom;
 use sedpass::groups::{GroupRoom, GroupSpans, GroupTables, all_groups, decide};
 use sedpass::kept::{Kept, Subject};
 use sedpass::nodes::Prepared;
-use sedpass::rows::{Way, Work};
+use sedpass::rows::Way;
 use sedpass::table::Table;
 use sedre::{Expr, Steps};
 use sedtext::beginnings::{Begins, how_begins, next_start};
@@ -135,7 +134,6 @@ pub fn new_passes(
     steps: &mut Steps,
 ) -> Result<Passes, AllocError>
     requires chain { IsChain expr.now.nodes (expression_tree expr.now) chain.now }
-    requires within { All (IsWithin (length expr.now.nodes)) chain.now }
     ensures { IfOk result (ArePasses expr.now) }
 {
     let begins = how_begins(alloc, expr, chain, steps)?;
@@ -182,7 +180,6 @@ fn matches_with(
     text: &Text,
     tables: &mut PassTables,
     from: usize,
-    work: &mut Work,
     steps: &mut Steps,
 ) -> bool
     requires begins { AllBegin (expression_tree sought.now.prepared.arena.expr) sought.now.begins }
@@ -201,8 +198,8 @@ fn matches_with(
     let (any, one) = (&mut tables.forward_any, &mut tables.groups.forward_one);
     match &sought.begins {
         // The first place alone is a start, and a pass from it can end early.
-        Begins::AtStart => one.run(prepared, text, start, work, steps).end.is_some(),
-        _ => any.run(prepared, text, start, work, steps).end.is_some(),
+        Begins::AtStart => one.run(prepared, text, start, steps).end.is_some(),
+        _ => any.run(prepared, text, start, steps).end.is_some(),
     }
 }
 
@@ -225,12 +222,11 @@ pub fn matches_by(
     let Some(start) = skip_to_literal(&sought.required, text, from, steps) else {
         return false;
     };
-    let work = &mut desk.room.kept.work;
     if let Some(own) = &mut passes.own {
-        return matches_with(sought, text, own, start, work, steps);
+        return matches_with(sought, text, own, start, steps);
     }
     desk.shared.fit(&sought.prepared);
-    matches_with(sought, text, &mut desk.shared, start, work, steps)
+    matches_with(sought, text, &mut desk.shared, start, steps)
 }
 
 /// The groups of a match of an expression without groups.

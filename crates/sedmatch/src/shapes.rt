@@ -1,21 +1,17 @@
 //! Which expressions are a stretch: a byte, a run of bytes, or both, anywhere or at the ends of the text.
-ghost use Rattle.std.specs.Prelude.{◌≡◌, ℕ, List, [], ◌∷◌, ◌≤◌, ◌↔◌, ◌⊎◌, length, IfOk, IfSome, IsTrue};
-ghost use Rattle.std.specs.List.{All};
-ghost use Rattle.sedre.specs.Tree.{expression_tree};
+ghost use Rattle.std.specs.Prelude.{◌≡◌, ℕ, List, ◌≤◌, ◌↔◌, ◌⊎◌, length, IfSome, IsTrue};
 ghost use Rattle.sedre.specs.declared.types.Node.{Node};
-ghost use Rattle.sedtext.specs.Links.{ChainLeads, IsChain, IsWithin, LinkLeads};
+ghost use Rattle.sedtext.specs.Links.{ChainLeads, LinkLeads};
 ghost use Rattle.sedtext.specs.Bytes.{AreBytes};
-ghost use Rattle.sedtext.specs.declared.links.Link.TheVariants.{Either};
-ghost use Rattle.sedmatch.specs.Direct.{FormSpans, SpannedAs};
+ghost use Rattle.sedmatch.specs.Direct.{FormSpans, LeadsAs};
 ghost use Rattle.sedmatch.specs.Shapes.{AreEither, IsFirst, IsPlaced, StemBytes, StemLeads};
 ghost use Rattle.sedmatch.specs.Stretches.{IsAnchored};
 
 use crate::direct::DirectForm;
 use crate::stretches::{Anchoring, First, Stretch};
-use sedre::{ByteSet, Expr, Steps};
+use sedre::ByteSet;
 use sedtext::counted::few::members_of;
-use sedtext::links::{Link, links_after};
-use std::alloc::{AllocError, Global};
+use sedtext::links::Link;
 
 /// A byte of the one set, if there is one, and bytes of the other, any number of them, if there is one.
 #[derive(Clone, Copy)]
@@ -152,7 +148,7 @@ fn anchoring_of(stem: &Stem) -> Option<Anchoring>
 }
 
 /// The form of two alternatives that are the same stem, at the beginning of the text and at its end.
-fn form_at_ends(left: &[Link], right: &[Link]) -> Option<DirectForm>
+pub fn form_at_ends(left: &[Link], right: &[Link]) -> Option<DirectForm>
     ensures { IfSome result (λ f. (nodes : List Node) (w : List ℕ) → AreBytes w → (i j : ℕ) → i ≤ length w →
         (ChainLeads nodes w left.now i j ⊎ ChainLeads nodes w right.now i j) ↔ FormSpans f w i j) }
 {
@@ -160,34 +156,10 @@ fn form_at_ends(left: &[Link], right: &[Link]) -> Option<DirectForm>
     Some(form_of(&stem, Some(Anchoring::AtEitherEnd)))
 }
 
-/// The alternatives that the chain is, if it is nothing else.
-fn alternatives_of(chain: &[Link]) -> Option<(usize, usize)>
-    ensures { IfSome result (λ p. chain.now ≡ Either p.0 p.1 ∷ []) }
+/// The form of the chain, if what it leads over is a stretch.
+pub fn stretch_of(chain: &[Link]) -> Option<DirectForm>
+    ensures { IfSome result (LeadsAs chain.now) }
 {
-    match chain.first() {
-        Some(Link::Either(left, right)) if chain.len() == 1 => Some((*left, *right)),
-        _ => None,
-    }
-}
-
-/// The form of the expression whose chain this is, if its matches are a stretch. It fails only where a request for memory was refused.
-pub fn stretch_of(
-    alloc: Global,
-    expr: &Expr,
-    chain: &[Link],
-    steps: &mut Steps,
-) -> Result<Option<DirectForm>, AllocError>
-    requires chain { IsChain expr.now.nodes (expression_tree expr.now) chain.now }
-    requires within { All (IsWithin (length expr.now.nodes)) chain.now }
-    ensures spans { IfOk result (λ r. IfSome r (SpannedAs (expression_tree expr.now))) }
-{
-    if let Some(stem) = stem_of(chain) {
-        return Ok(Some(form_of(&stem, anchoring_of(&stem))));
-    }
-    let Some((left, right)) = alternatives_of(chain) else {
-        return Ok(None);
-    };
-    let left = links_after(alloc, &[], expr, left, steps)?;
-    let right = links_after(alloc, &[], expr, right, steps)?;
-    Ok(form_at_ends(&left, &right))
+    let stem = stem_of(chain)?;
+    Some(form_of(&stem, anchoring_of(&stem)))
 }

@@ -35,12 +35,12 @@ pub record IsChain (nodes : List Node) (e : Tree) (links : List Link) : Type 0 w
   pub spans : (w : List ℕ) (i j : ℕ) → Matches e w i j ↔ ChainLeads nodes w links i j
   pub within : All (IsWithin (length nodes)) links
 
--- the links lead as those before do, and the node after them
+-- the links lead as those before do, and the node after them; alternatives of theirs are nodes
 pub record IsContinuation (nodes : List Node) (before : List Link) (x : ℕ) (links : List Link) : Type 0 where
   pub spans : (w : List ℕ) (i j : ℕ) → ChainLeads nodes w (before ++ (Other x ∷ [])) i j ↔ ChainLeads nodes w links i j
   pub within : All (IsWithin (length nodes)) links
 
--- where the links lead one of the two chains does
+-- the links lead as one of the two chains does, of which alternatives are nodes
 pub record AreAlternatives (nodes : List Node) (links left right : List Link) : Type 0 where
   pub spans : (w : List ℕ) (i j : ℕ) → ChainLeads nodes w links i j ↔ (ChainLeads nodes w left i j ⊎ ChainLeads nodes w right i j)
   pub within : All (IsWithin (length nodes)) left × All (IsWithin (length nodes)) right
