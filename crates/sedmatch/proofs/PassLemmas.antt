@@ -209,10 +209,6 @@ pub all_used : (m : ℕ) (p : Prepared) (t fitted after : PassTables) → HavePa
 all_used m p t fitted after roomy fit same are =
     (used _ m p t.forward_any fitted.forward_any after.forward_any roomy.0 fit.0 same.0 are.0, groups_used m p t.groups fitted.groups after.groups roomy.1 fit.1 same.1 are.2.reverse_one are.2.forward_one)
 
--- other marks take none of the room
-pub worked : (kept : Kept) (work : Work) → SameSpace kept (record kept { work = work })
-worked kept work = record { places = refl; edges = refl; marks = λ q. refl }
-
 -- the desk after a search, or after groups were decided
 pub desk_again : (d : Desk) (room : GroupRoom) (reverse_any : Table) (shared : PassTables) → IsDesk d → SameSpace d.room.kept room.kept → room.tasks.items ≡ [] → vec_capacity d.room.tasks ≤ vec_capacity room.tasks →
     IsRoomyWay reverse_any_way d.max_nodes reverse_any → HavePassRoom d.max_nodes shared → reverse_any.room ≡ d.reverse_any.room → shared.groups.reverse_one.room ≡ d.shared.groups.reverse_one.room →

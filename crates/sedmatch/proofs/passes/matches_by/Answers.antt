@@ -1,6 +1,7 @@
 use Rattle.std.proofs.Common.{◌∙◌, length, refl, arith}
 use Rattle.sedre.specs.Tree.{expression_tree}
-use Rattle.sedmatch.proofs.PassLemmas.{all_used, desk_again, passes_fewer, shown_past, worked}
+use Rattle.sedmatch.proofs.PassLemmas.{all_used, desk_again, passes_fewer, shown_past}
+use Rattle.sedpass.proofs.KeptLemmas.{space_same}
 use Rattle.sedmatch.proofs.passes.matches_by.Goals as goal
 
 pub matches_with-requires-clause-from : goal.matches_with-requires-clause-from
@@ -27,7 +28,7 @@ returns-clause-desk c =
     let is = c.requires.desk.0 in
     let new = c.matches_with-2.new in
     let done = c.matches_with-2.ensures in
-    desk_again d (record d.room { kept = record d.room.kept { work = new.work } }) d.reverse_any new.tables is (worked d.room.kept new.work) is.space.none (omega arith) is.reverse_any
+    desk_again d d.room d.reverse_any new.tables is (space_same d.room.kept) is.space.none (omega arith) is.reverse_any
     (all_used d.max_nodes c.args.passes.now.sought.prepared d.shared c.fit.new.self new.tables is.shared c.fit.ensures.room done.room done.tables) refl (done.room.1.reverse_one.1 ∙ c.fit.ensures.room.1.reverse_one.1)
 
 pub returns-clause-answered : goal.returns-clause-answered
