@@ -25,7 +25,6 @@ use Rattle.sedpass.specs.declared.kept.Kept.{Kept}
 use Rattle.sedpass.specs.declared.kept.Subject.{Subject}
 use Rattle.sedpass.specs.declared.nodes.Prepared.{Prepared}
 use Rattle.sedpass.specs.declared.rows.Way.{Way}
-use Rattle.sedpass.specs.declared.rows.Work.{Work}
 use Rattle.sedpass.specs.declared.table.Table.{Table}
 use Rattle.sedpass.proofs.DecideLemmas.{has_desk, space_again}
 use Rattle.sedpass.proofs.TableLemmas.{roomy_fewer, roomy_still}

@@ -99,13 +99,15 @@ impl Table {
         let mut at = from;
         while !at.over && at.place < to {
             let byte = text.byte(at.place, steps);
-            steps.add(1);
             let cell = self.known(prepared, at.offset, byte, false);
             if cell == 0 {
-                break;
+                steps.add(at.place - from.place + 1);
+                return at;
             }
             at = self.arrive(prepared, text, cell, at.place + 1, at.end);
         }
+        // A look at a cell for each byte; in the loop it would take as long as the byte's.
+        steps.add(at.place - from.place);
         at
     }
 

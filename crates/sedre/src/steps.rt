@@ -42,21 +42,21 @@ impl Steps {
         ensures cost { Takes self.old self.new n }
         ensures counts { TakesExactly self.old self.new n }
     {
-        match self.low.checked_add(n as u64) {
-            Some(low) => self.low = low,
-            None => (self.low, self.high) = carried(self.low, self.high, n as u64),
+        self.low = self.low.wrapping_add(n as u64);
+        if self.low < n as u64 {
+            (self.low, self.high) = carried(self.low, self.high);
         }
     }
 }
 
-/// The halves of a count and `n` more, where the low one has no room for these.
+/// The halves of a count, where one more is to be added to the high one.
+#[cold]
 #[inline(never)]
-fn carried(low: u64, high: u64, n: u64) -> (u64, u64)
-    requires { 2 ^ 64 ≤ low + n }
-    ensures { result.0 + 2 ^ 64 * result.1 ≡ min (low + 2 ^ 64 * high + n) (2 ^ 128 - 1) }
+fn carried(low: u64, high: u64) -> (u64, u64)
+    ensures { result.0 + 2 ^ 64 * result.1 ≡ min (low + 2 ^ 64 * (high + 1)) (2 ^ 128 - 1) }
 {
     if high < u64::MAX {
-        (low.wrapping_add(n), high + 1)
+        (low, high + 1)
     } else {
         (u64::MAX, u64::MAX)
     }

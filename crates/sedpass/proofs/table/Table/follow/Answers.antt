@@ -19,7 +19,6 @@ loop-at-preserved c =
     let old = c.loop-at.invariant in
     let next = c.arrive-at.ensures in
     let one = c.byte-byte.ensures in
-    let two = c.add.ensures in
     record {
       offset = next.offset;
       after = omega (arith, old.after, next.place);
@@ -27,10 +26,16 @@ loop-at-preserved c =
       moved = λ over. omega (arith, old.after, next.place);
       passes = λ start pass. follows_on c.args.prepared.now c.args.self.now c.args.text.now start c.byte-byte.result c.known-cell.result c.loop-at.at.place c.loop-at.at c.arrive-at.result refl
           (omega (arith, c.if-at-to.true, c.requires.to)) (old.passes start pass) one.byte (c.known-cell.ensures (omega (arith, c.if-cell-eq0.false))) (next.passes start);
-      cost = (omega (arith, old.cost.0, one.cost.0, two.cost.0), omega (arith, old.cost.1, one.cost.1, two.cost.1, next.place));
-      counts = least_both _ _ _ _ 1 _ (least_both _ _ _ _ 1 (2 * (c.loop-at.at.place - c.args.from.place) + 1) old.counts (least_counted _ _ 1 1 one.counts (omega arith)) (omega arith))
-          (least_counted _ _ 1 1 two.counts (omega arith)) (omega (arith, old.after, next.place));
+      cost = (omega (arith, old.cost.0, one.cost.0), omega (arith, old.cost.1, one.cost.1, next.place));
+      counts = least_both _ _ _ _ 1 _ old.counts (least_counted _ _ 1 1 one.counts (omega arith)) (omega (arith, old.after, next.place));
     }
 
 pub returns-then-cell-eq0-clause-counts : goal.returns-then-cell-eq0-clause-counts
-returns-then-cell-eq0-clause-counts c = least_up _ c.loop-at.steps _ _ c.loop-at.invariant.counts (omega (arith, c.byte-byte.ensures.cost.0, c.add.ensures.cost.0))
+returns-then-cell-eq0-clause-counts c =
+    let gone = c.loop-at.at.place - c.args.from.place in
+    least_both _ c.byte-byte.new.steps _ gone gone (2 * gone) (least_up _ c.loop-at.steps _ gone c.loop-at.invariant.counts c.byte-byte.ensures.cost.0) (least_counted _ _ (gone + 1) gone c.add.ensures.counts (omega arith)) (omega arith)
+
+pub returns-clause-counts : goal.returns-clause-counts
+returns-clause-counts c =
+    let gone = c.loop-at.at.place - c.args.from.place in
+    least_both _ c.loop-at.steps _ gone gone (2 * gone) c.loop-at.invariant.counts (least_counted _ _ gone gone c.add-2.ensures.counts (omega arith)) (omega arith)

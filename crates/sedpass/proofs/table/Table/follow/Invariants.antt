@@ -1,4 +1,4 @@
-use Rattle.std.proofs.Common.{ℕ, ◌-◌, ◌*◌, ◌<◌, ◌≤◌, IsTrue}
+use Rattle.std.proofs.Common.{ℕ, ◌-◌, ◌<◌, ◌≤◌, IsTrue}
 use Rattle.sedpass.specs.Table.{IsOffset}
 use Rattle.sedpass.specs.Forwards.{PassIs}
 use Rattle.sedpass.proofs.Words.{CostsWithin, TakesAtLeast}
@@ -11,8 +11,8 @@ invariant-loop-at l = record {
   within : l.at.place ≤ l.to;
   moved : IsTrue l.at.over → l.fn.from.place < l.at.place;
   passes : (start : ℕ) → PassIs l.prepared l.self l.text start l.fn.from → PassIs l.prepared l.self l.text start l.at;
-  cost : CostsWithin l.initial.steps l.steps (2 * l.at.place) (2 * l.fn.from.place);
-  counts : TakesAtLeast l.initial.steps l.steps (2 * (l.at.place - l.fn.from.place));
+  cost : CostsWithin l.initial.steps l.steps l.at.place l.fn.from.place;
+  counts : TakesAtLeast l.initial.steps l.steps (l.at.place - l.fn.from.place);
 }
 
 abbrev pub decreases-loop-at : goal.decreases-loop-at

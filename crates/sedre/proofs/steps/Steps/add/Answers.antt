@@ -1,15 +1,17 @@
-use Rattle.std.proofs.Common.{◌≡◌, ◌+◌, ◌*◌, ◌^◌, sym, arith}
+use Rattle.std.proofs.Common.{◌≡◌, ◌+◌, ◌*◌, ◌%◌, ◌^◌, ◌-◌, min, sym, ap, ◌∙◌, arith}
 use Rattle.sedre.specs.Steps.{TakesExactly}
 use Rattle.sedre.proofs.steps.Steps.add.Goals as goal
 
-pub returns-in-Some-clause-counts : goal.returns-in-Some-clause-counts
+pub returns-then-self-n-clause-counts : goal.returns-then-self-n-clause-counts
 unfolding TakesExactly
-returns-in-Some-clause-counts c =
+returns-then-self-n-clause-counts c =
     let was : c.args.self.now ≡ c.self.inside.low + 2 ^ 64 * c.self.inside.high = sym c.self.view_is in
-    let sum = c.in-Some.ensures in
-    let new : c.in-Some.low + 2 ^ 64 * c.self.inside.high ≡ c.args.self.now + c.args.n = omega (arith, was, sum.1) in
-    grind (arith, new, was, c.self.invariant, sum.0)
+    let sum : (c.self.inside.low + c.args.n) % 2 ^ 64 + 2 ^ 64 * (c.self.inside.high + 1) ≡ c.args.self.now + c.args.n = omega (arith, was, c.if-self-n.true, c.self.ranges, c.ranges.n) in
+    c.carried.ensures ∙ ap (λ v. min v (2 ^ 128 - 1)) sum
 
-pub returns-in-None-clause-counts : goal.returns-in-None-clause-counts
+pub returns-else-self-n-clause-counts : goal.returns-else-self-n-clause-counts
 unfolding TakesExactly
-returns-in-None-clause-counts c = rw c.self.view_is at c.carried.ensures
+returns-else-self-n-clause-counts c =
+    let was : c.args.self.now ≡ c.self.inside.low + 2 ^ 64 * c.self.inside.high = sym c.self.view_is in
+    let sum : (c.self.inside.low + c.args.n) % 2 ^ 64 + 2 ^ 64 * c.self.inside.high ≡ c.args.self.now + c.args.n = omega (arith, was, c.if-self-n.false, c.self.ranges, c.ranges.n) in
+    grind (arith, sum, was, c.self.invariant, c.self.ranges)
