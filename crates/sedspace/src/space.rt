@@ -180,7 +180,14 @@ impl Space {
         ensures { self.new ≡ record self.old { bytes = self.old.bytes ++ bytes.now } }
     {
         let count = bytes.len();
-        let (front, end) = append_to(&mut self.held, self.front, self.end, self.most, bytes, count);
+        let (front, end) = append_to(
+            &mut self.held,
+            self.front,
+            self.end,
+            self.most,
+            bytes,
+            count,
+        );
         self.front = front;
         self.end = end;
         self.clear_last = 0;
