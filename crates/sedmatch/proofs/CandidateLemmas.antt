@@ -1,12 +1,12 @@
 -- Where in a text of many lines a line may have a match.
-use Rattle.std.proofs.Common.{◌≡◌, ℕ, ◌+◌, ◌<◌, ◌≤◌, List, ◌++◌, length, length-append, get_or, Option, Some, None, sym, subst, ap, ◌∙◌, arith}
+use Rattle.std.proofs.Common.{◌≡◌, ℕ, ◌+◌, ◌<◌, ◌≤◌, Bool, List, ◌++◌, length, length-append, get_or, Option, Some, None, sym, subst, ap, ◌∙◌, arith}
 use Rattle.std.specs.Prelude.{slice_get}
 use Rattle.std.proofs.lemmas.List.{get_or-append-add, get_or_append_left}
 use Rattle.std.proofs.lemmas.Option.{slice_get_within, slice_get-get_or, get_or_from_slice_get}
 use Rattle.memchr.specs.Find.{OccursAt}
 use Rattle.sedre.specs.Tree.{Tree}
 use Rattle.sedtext.specs.Spans.{Matches}
-use Rattle.sedtext.specs.Bytes.{AreBytes, FirstFrom}
+use Rattle.sedtext.specs.Bytes.{FirstFrom}
 use Rattle.sedtext.specs.Beginnings.{AllBegin}
 use Rattle.sedtext.specs.Sieve.{NoneBefore, PassesSieve, FixedAt}
 use Rattle.sedtext.specs.declared.beginnings.Begins.TheVariants.{Before}
@@ -19,8 +19,6 @@ use Rattle.sedmatch.specs.Direct.{SpannedAs}
 use Rattle.sedmatch.specs.Stretches.{ComesFirst}
 use Rattle.sedmatch.specs.declared.direct.DirectForm.TheVariants.{Stretch as StretchForm, Anchored, Literal}
 use Rattle.sedmatch.specs.declared.stretches.Anchoring.{Anchoring}
-use Rattle.sedmatch.specs.declared.stretches.First.{First}
-use Rattle.sedmatch.specs.declared.stretches.First.TheVariants.{Nothing, Among, Member}
 use Rattle.sedmatch.specs.declared.stretches.Stretch.{Stretch}
 
 -- A part of a text.
@@ -39,9 +37,6 @@ module _ (before line behind : List ℕ) where
       let less : i < length line = slice_get_within line i c is in
       slice_get-get_or whole (length before + i) c (omega (arith, length_whole)) ∙ ap Some (same_at i c less ∙ get_or_from_slice_get line i c c is)
 
-  pub bytes_here : AreBytes whole → AreBytes line
-  bytes_here bytes i c is = bytes (length before + i) c (byte_there i c is)
-
   pub occurs_there : (x : List ℕ) (p : ℕ) → OccursAt line x p → OccursAt whole x (length before + p)
   occurs_there x p h = record {
     fits = omega (arith, h.fits, length_whole);
@@ -50,10 +45,9 @@ module _ (before line behind : List ℕ) where
         ap (λ k. get_or whole k 0) place ∙ same_at (p + j) 0 (omega (arith, h.fits)) ∙ h.reads j less;
   }
 
-  comes_there : (first : First) (i : ℕ) → ComesFirst first line i → ComesFirst first whole (length before + i)
-  comes_there Nothing i within = omega (arith, within, length_whole)
-  comes_there (Among few) i (c, is, comes) = (c, byte_there i c is, comes)
-  comes_there (Member set) i (c, is, comes) = (c, byte_there i c is, comes)
+  comes_there : (first : Option (List Bool)) (i : ℕ) → ComesFirst first line i → ComesFirst first whole (length before + i)
+  comes_there None i comes = tt
+  comes_there (Some set) i (c, is, comes) = (c, byte_there i c is, comes)
 
   stands_there : (f : Fixed) (i : ℕ) → FixedAt f line i → FixedAt f whole (length before + i)
   stands_there f i (c, is, has) = (c, subst (λ k. slice_get whole k ≡ Some c) (omega arith) (byte_there (i + f.offset) c is), has)
@@ -74,22 +68,22 @@ required_before e n w r required first = λ before line behind is ends found.
     first_after (OccursAt w n.finder) r (length before + held.0) (length before + length line) first occurs (omega (arith, held.3.fits)) ends
 
 -- what holds in each part of a text where a match of the part begins
-module _ (e : Tree) (w : List ℕ) (r : Option ℕ) (bytes : AreBytes w) where
+module _ (e : Tree) (w : List ℕ) (r : Option ℕ) where
   shown_before : (P : List ℕ → ℕ → Type 0) → ((before line behind : List ℕ) (i : ℕ) → P line i → P (before ++ (line ++ behind)) (length before + i)) →
-      ((v : List ℕ) → AreBytes v → (i j : ℕ) → i ≤ length v → Matches e v i j → P v i) → FirstFrom (P w) 0 r → NoMatchBefore e w r
+      ((v : List ℕ) (i j : ℕ) → i ≤ length v → Matches e v i j → P v i) → FirstFrom (P w) 0 r → NoMatchBefore e w r
   shown_before P there all first = λ before line behind is ends found.
-      let here = all line (bytes_here before line behind (subst AreBytes is bytes)) found.0 found.1 found.3 found.4 in
+      let here = all line found.0 found.1 found.3 found.4 in
       let at : P w (length before + found.0) = subst (λ (w : List ℕ). P w (length before + found.0)) (sym is) (there before line behind found.0 here) in
       first_after (P w) r (length before + found.0) (length before + length line) first at (omega (arith, found.3)) ends
 
   pub stretch_before : (s : Stretch) → SpannedAs e (StretchForm s) → FirstFrom (ComesFirst s.first w) 0 r → NoMatchBefore e w r
-  stretch_before s form first = shown_before (ComesFirst s.first) (λ before line behind. comes_there before line behind s.first) (λ v within i j low at. ((form v within i j low).0 at).0) first
+  stretch_before s form first = shown_before (ComesFirst s.first) (λ before line behind. comes_there before line behind s.first) (λ v i j low at. ((form v i j low).0 at).0.0) first
 
   pub anchored_before : (s : Stretch) (ends : Anchoring) → SpannedAs e (Anchored s ends) → FirstFrom (ComesFirst s.first w) 0 r → NoMatchBefore e w r
-  anchored_before s ends form first = shown_before (ComesFirst s.first) (λ before line behind. comes_there before line behind s.first) (λ v within i j low at. ((form v within i j low).0 at).0) first
+  anchored_before s ends form first = shown_before (ComesFirst s.first) (λ before line behind. comes_there before line behind s.first) (λ v i j low at. ((form v i j low).0 at).0.0) first
 
   pub literal_before : (literal : List ℕ) → SpannedAs e (Literal literal) → FirstLiteral w literal 0 r → NoMatchBefore e w r
-  literal_before literal form first = shown_before (λ v. OccursAt v literal) (λ before line behind. occurs_there before line behind literal) (λ v within i j low at. ((form v within i j low).0 at).0) first
+  literal_before literal form first = shown_before (λ v. OccursAt v literal) (λ before line behind. occurs_there before line behind literal) (λ v i j low at. ((form v i j low).0 at).0) first
 
 -- bytes of the three sets of a sieve
 pub sieve_before : (e : Tree) (s : Sieve) (w : List ℕ) (r : Option ℕ) → AllBegin e (Before s) → NoneBefore (PassesSieve s w) 0 r → NoMatchBefore e w r

@@ -4,7 +4,6 @@ use Rattle.std.specs.Prelude.{IfSome, is_some}
 use Rattle.sedre.specs.Tree.{Tree, WrittenExpression, expression_tree}
 use Rattle.sedre.specs.Steps.{Takes, TakesAtLeast}
 use Rattle.sedtext.specs.Answer.{SpanAnswer}
-use Rattle.sedtext.specs.Bytes.{AreBytes}
 use Rattle.sedtext.specs.Costs.{CostsWithin}
 use Rattle.sedtext.specs.Following.{CanEndEarly, LooksPast}
 use Rattle.sedtext.specs.Required.{FirstLiteral}
@@ -12,14 +11,14 @@ use Rattle.sedtext.specs.Runs.{SetRepeats}
 use Rattle.sedtext.specs.Spans.{SomeFound}
 use Rattle.sedtext.specs.FixedRuns.{FirstFixedRun}
 use Rattle.sedmatch.specs.Direct.{FirstSpan, FormSpans, IsDirect, SpannedAs, bytes_looked_at}
-use Rattle.sedmatch.specs.Stretches.{IsAnchored, bytes_sought, end_or, width}
+use Rattle.sedmatch.specs.Stretches.{IsAnchored, behind_first, bytes_sought, end_or}
 use Rattle.sedmatch.specs.declared.direct.DirectForm.{DirectForm}
 use Rattle.sedmatch.specs.declared.direct.DirectForm.TheVariants.{Stretch, Anchored, FixedRun, Literal}
 use Rattle.sedmatch.specs.declared.stretches.Anchoring.{Anchoring}
 use Rattle.sedmatch.specs.declared.stretches.Anchoring.TheVariants.{AtEnd}
 use Rattle.sedtext.proofs.CountLemmas.{least_less}
 use Rattle.sedtext.proofs.SpanLemmas.{Matches-forward}
-use Rattle.sedmatch.proofs.StretchLemmas.{follow_on}
+use Rattle.sedmatch.proofs.StretchLemmas.{first_forward, follow_on}
 
 -- where one of the longest begins and ends
 pub span_times : (members : List Bool) (count : ℕ) (w : List ℕ) (p i j : ℕ) → FirstFixedRun members count w p (Some i) → j ≡ i + count → FirstSpan (FixedRun members count) w p (Some (i, j))
@@ -32,10 +31,10 @@ span_literal literal w p i j here is =
 
 -- a match ends where it begins or after it
 ends_on : (form : DirectForm) (w : List ℕ) (i j : ℕ) → FormSpans form w i j → i ≤ j
-ends_on (Stretch t) w i j s = let on = follow_on t.rest w (i + width t.first) j s.1 in omega (arith, on)
+ends_on (Stretch t) w i j s = let on = follow_on t.rest w (behind_first t.first i) j s.0.1 in omega (arith, on, first_forward t.first i)
 ends_on (FixedRun members count) w i j s = omega (arith, s.1)
 ends_on (Literal literal) w i j s = omega (arith, s.1)
-ends_on (Anchored t ends) w i j s = let on = follow_on t.rest w (i + width t.first) j s.1 in omega (arith, on)
+ends_on (Anchored t ends) w i j s = let on = follow_on t.rest w (behind_first t.first i) j s.0.1 in omega (arith, on, first_forward t.first i)
 
 pub span_lies : (form : DirectForm) (w : List ℕ) (p : ℕ) (r : Option (ℕ × ℕ)) → FirstSpan form w p r → IfSome r (λ f. (p ≤ f.0) × (f.0 ≤ f.1) × (f.1 ≤ length w))
 span_lies form w p None none = tt
@@ -61,10 +60,10 @@ sought_from AtEnd p i j early = absurd (early refl)
 sought_from _ p i j early = omega arith
 
 looked_from : (e : Tree) (form : DirectForm) (p i j : ℕ) → SpannedAs e form → CanEndEarly e → j - p ≤ bytes_looked_at form p (i, j)
-looked_from e (Anchored s ends) p i j is (v, bytes, h, k, early, spans) =
+looked_from e (Anchored s ends) p i j is (v, h, k, early, spans) =
     let low = Matches-forward e v h k spans in
-    let at = (is v bytes h k (omega (arith, low, early))).0 spans in
-    sought_from ends p i j (λ last. let end : k ≡ length v = subst (λ z. IsAnchored (Some z) v h k) last at.2 in omega (arith, early, end))
+    let at = (is v h k (omega (arith, low, early))).0 spans in
+    sought_from ends p i j (λ last. let end : k ≡ length v = subst (λ z. IsAnchored (Some z) v h k) last at.1 in omega (arith, early, end))
 looked_from e _ p i j is early = omega arith
 
 pub looks_from : (e : Tree) (form : DirectForm) (p s t : ℕ) (r : Option (ℕ × ℕ)) → SpannedAs e form → CanEndEarly e → IfSome r (λ f. TakesAtLeast s t (bytes_looked_at form p f)) →
@@ -73,17 +72,17 @@ looks_from e form p s t None is early looks = tt
 looks_from e form p s t (Some (i, j)) is early looks = least_less s t (bytes_looked_at form p (i, j)) (j - p) looks (looked_from e form p i j is early)
 
 -- an expression of the form
-pub direct_answer : (e : WrittenExpression) (form : DirectForm) → IsDirect e form → (w : List ℕ) → AreBytes w → (p : ℕ) (r : Option (ℕ × ℕ)) → FirstSpan form w p r → SpanAnswer (expression_tree e) w p r
-direct_answer e form is w bytes p None none = (tt, (λ i k low within s. none i k low within ((is.0 w bytes i k within).0 s)), tt)
-direct_answer e form is w bytes p (Some f) span =
+pub direct_answer : (e : WrittenExpression) (form : DirectForm) → IsDirect e form → (w : List ℕ) (p : ℕ) (r : Option (ℕ × ℕ)) → FirstSpan form w p r → SpanAnswer (expression_tree e) w p r
+direct_answer e form is w p None none = (tt, (λ i k low within s. none i k low within ((is.0 w i k within).0 s)), tt)
+direct_answer e form is w p (Some f) span =
     let on = ends_on form w f.0 f.1 span.1 in
     let within = span.2 in
     let inside : f.0 ≤ length w = omega (arith, on, within) in (
       record {
         after = span.0;
-        spans = (is.0 w bytes f.0 f.1 inside).1 span.1;
-        longest = λ k s. span.3 k ((is.0 w bytes f.0 k inside).0 s);
-        leftmost = λ h k low lt s. span.4 h k low lt ((is.0 w bytes h k (omega (arith, lt, inside))).0 s);
+        spans = (is.0 w f.0 f.1 inside).1 span.1;
+        longest = λ k s. span.3 k ((is.0 w f.0 k inside).0 s);
+        leftmost = λ h k low lt s. span.4 h k low lt ((is.0 w h k (omega (arith, lt, inside))).0 s);
       },
       tt,
       (on, within),

@@ -27,15 +27,15 @@ use Rattle.sedpass.specs.Search.{owed_behind}
 pub direct_is : (m : SearchMethod) (v e : WrittenExpression) (form : DirectForm) → searched_expression m ≡ v → IsEngine m → m ≡ Direct e form → IsDirect v form
 direct_is m v e form view inv is = subst (λ x. IsDirect x form) (sym (ap searched_expression is) ∙ view) (subst IsEngine is inv)
 
-pub passes_are : (m : SearchMethod) (v : WrittenExpression) (p q : Passes) → searched_expression m ≡ v → searched_expression m ≡ q.sought.prepared.arena.expr → p ≡ q → p.sought.prepared.arena.expr ≡ v
-passes_are m v p q view is same = ap (λ (x : Passes). x.sought.prepared.arena.expr) same ∙ sym is ∙ view
+pub passes_are : (m : SearchMethod) (v : WrittenExpression) (p q : Passes) → searched_expression m ≡ v → searched_expression m ≡ q.prepared.arena.expr → p ≡ q → p.prepared.arena.expr ≡ v
+passes_are m v p q view is same = ap (λ (x : Passes). x.prepared.arena.expr) same ∙ sym is ∙ view
 
 pub written_is : (m : SearchMethod) (v e : WrittenExpression) (form : DirectForm) → searched_expression m ≡ v → m ≡ Direct e form → e ≡ v
 written_is m v e form view is = sym (ap searched_expression is) ∙ view
 
 -- passes that were made for the expression, and put elsewhere
-pub passes_made : (e : WrittenExpression) (made p : Passes) → ArePasses e made → p ≡ made → ArePasses p.sought.prepared.arena.expr p × (p.sought.prepared.arena.expr ≡ e)
-passes_made e made p are same = (subst (λ q. ArePasses q.sought.prepared.arena.expr q) (sym same) (subst (λ v. ArePasses v made) (sym are.0.expr) are), ap (λ (q : Passes). q.sought.prepared.arena.expr) same ∙ are.0.expr)
+pub passes_made : (e : WrittenExpression) (made p : Passes) → ArePasses e made → p ≡ made → ArePasses p.prepared.arena.expr p × (p.prepared.arena.expr ≡ e)
+passes_made e made p are same = (subst (λ q. ArePasses q.prepared.arena.expr q) (sym same) (subst (λ v. ArePasses v made) (sym are.0.expr) are), ap (λ (q : Passes). q.prepared.arena.expr) same ∙ are.0.expr)
 
 -- a form that was found for the expression, beside a copy of that
 pub form_found : (e copy : WrittenExpression) (found : Option DirectForm) (form : DirectForm) → IfSome found (IsDirect e) → found ≡ Some form → copy ≡ e → IsDirect copy form

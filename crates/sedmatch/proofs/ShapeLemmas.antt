@@ -5,14 +5,13 @@ use Rattle.std.proofs.lemmas.List.{take_all}
 use Rattle.std.proofs.lemmas.Option.{IfSome_then}
 use Rattle.sedre.specs.Tree.{WrittenExpression, expression_tree}
 use Rattle.sedre.specs.declared.types.Node.{Node}
-use Rattle.sedtext.specs.Bytes.{AreBytes}
 use Rattle.sedtext.specs.Links.{AreAlternatives, ChainLeads, IsChain, LinkLeads}
 use Rattle.sedtext.specs.Runs.{SetRepeats}
 use Rattle.sedtext.specs.declared.links.Link.{Link}
-use Rattle.sedtext.specs.declared.links.Link.TheVariants.{Run}
+use Rattle.sedtext.specs.declared.links.Link.TheVariants.{Byte, Run}
 use Rattle.sedmatch.specs.Direct.{FormSpans, IsDirect}
-use Rattle.sedmatch.specs.Shapes.{ByteLeads, StemLeads}
-use Rattle.sedmatch.specs.Stretches.{Follow}
+use Rattle.sedmatch.specs.Shapes.{IsPlaced, StemLeads}
+use Rattle.sedmatch.specs.Stretches.{Follow, StretchBytes}
 use Rattle.sedmatch.specs.declared.direct.DirectForm.{DirectForm}
 use Rattle.sedmatch.specs.declared.shapes.Stem.{Stem}
 
@@ -20,22 +19,34 @@ use Rattle.sedmatch.specs.declared.shapes.Stem.{Stem}
 abbrev IsWith : Link → Stem → Stem → Type 0
 IsWith link behind stem = (nodes : List Node) (w : List ℕ) (i j : ℕ) → StemLeads stem w i j ↔ ((k : ℕ) × LinkLeads nodes w link i k × StemLeads behind w k j)
 
--- a run before the end of the text, or before nothing
-pub with_run : (link : Link) (behind : Stem) (s : List Bool) → link ≡ Run s → behind.at_start ≡ false → behind.first ≡ None → behind.rest ≡ None →
-    IsWith link behind (record { at_start = behind.at_start; first = behind.first; rest = Some s; at_end = behind.at_end })
-with_run link behind s is anywhere first rest nodes w i j = (
-  λ h.
-      let from = subst (λ v. ByteLeads v w i h.0.0) first h.0.1 in (
-        j,
-        subst (λ v. LinkLeads nodes w v i j) (sym is) (subst (λ k. SetRepeats s w k j) from h.0.2),
-        ((j, subst (λ v. ByteLeads v w j j) (sym first) refl, subst (λ v. Follow v w j j) (sym rest) refl), ((λ t. absurd (true≢false (sym t ∙ anywhere))), h.1.1)),
-      ),
-  λ f.
-      let from = subst (λ v. ByteLeads v w f.0 f.2.0.0) first f.2.0.1 in
-      let to = subst (λ v. Follow v w f.2.0.0 j) rest f.2.0.2 in
-      let run = subst (λ v. LinkLeads nodes w v i f.0) is f.1 in
-      ((i, subst (λ v. ByteLeads v w i i) (sym first) refl, subst (SetRepeats s w i) (sym (to ∙ from)) run), ((λ t. absurd (true≢false (sym t ∙ anywhere))), f.2.1.1)),
-)
+-- before a stem that is not at the beginning of the text, and in which no byte comes first
+module _ (link : Link) (behind : Stem) (s : List Bool) (anywhere : behind.at_start ≡ false) (first : behind.first ≡ None) where
+  placed : (w : List ℕ) (k i j : ℕ) → IsPlaced behind w k j → IsPlaced behind w i j
+  placed w k i j at = ((λ t. absurd (true≢false (sym t ∙ anywhere))), at.1)
+
+  following : (rest : Option (List Bool)) (w : List ℕ) (i j : ℕ) → StretchBytes behind.first rest w i j ↔ Follow rest w i j
+  following rest w i j = ((λ at. (subst (λ v. StretchBytes v rest w i j) first at).1), (λ on. subst (λ v. StretchBytes v rest w i j) (sym first) (tt, on)))
+
+  -- a byte
+  pub with_byte : link ≡ Byte s → IsWith link behind (record { at_start = behind.at_start; first = Some s; rest = behind.rest; at_end = behind.at_end })
+  with_byte is nodes w i j = (
+    (λ h. (i + 1, subst (λ v. LinkLeads nodes w v i (i + 1)) (sym is) (h.0.0, refl), ((following behind.rest w (i + 1) j).1 h.0.1, placed w i (i + 1) j h.1))),
+    λ f.
+        let at = subst (λ v. LinkLeads nodes w v i f.0) is f.1 in
+        ((at.0, subst (λ k. Follow behind.rest w k j) at.1 ((following behind.rest w f.0 j).0 f.2.0)), placed w f.0 i j f.2.1),
+  )
+
+  -- a run, where none follows
+  pub with_run : link ≡ Run s → behind.rest ≡ None → IsWith link behind (record { at_start = behind.at_start; first = behind.first; rest = Some s; at_end = behind.at_end })
+  with_run is rest nodes w i j = (
+    λ h.
+        let none = (following behind.rest w j j).1 (subst (λ v. Follow v w j j) (sym rest) refl) in
+        (j, subst (λ v. LinkLeads nodes w v i j) (sym is) ((following (Some s) w i j).0 h.0), (none, placed w i j j h.1)),
+    λ f.
+        let to = subst (λ v. Follow v w f.0 j) rest ((following behind.rest w f.0 j).0 f.2.0) in
+        let run = subst (λ v. LinkLeads nodes w v i f.0) is f.1 in
+        ((following (Some s) w i j).1 (subst (SetRepeats s w i) (sym to) run), placed w f.0 i j f.2.1),
+  )
 
 -- a chain and the link before it
 pub one_link_more : (links : List Link) (x : ℕ) (link : Link) (behind stem : Stem) → x + 1 ≤ length links → link ≡ slice_index_or links x link → IsWith link behind stem →
@@ -49,16 +60,16 @@ one_link_more links x link behind stem inside here is rest nodes w i j =
 
 -- two alternatives whose chains lead as the form does
 abbrev LeadAs : List Link → List Link → DirectForm → Type 0
-LeadAs left right form = (nodes : List Node) (w : List ℕ) → AreBytes w → (i j : ℕ) → i ≤ length w → (ChainLeads nodes w left i j ⊎ ChainLeads nodes w right i j) ↔ FormSpans form w i j
+LeadAs left right form = (nodes : List Node) (w : List ℕ) (i j : ℕ) → (ChainLeads nodes w left i j ⊎ ChainLeads nodes w right i j) ↔ FormSpans form w i j
 
 pub either_direct : (e : WrittenExpression) (links left right : List Link) (form : Option DirectForm) → IsChain e.nodes (expression_tree e) links → length links ≤ 1 →
     AreAlternatives e.nodes (take 1 links) left right → IfSome form (LeadAs left right) → e.groups ≡ 0 → 1 ≤ length e.nodes → IfSome form (IsDirect e)
 either_direct e links left right form chain alone ways lead none some =
     let spans = (subst (λ v. AreAlternatives e.nodes v left right) (take_all 1 links alone) ways).spans in
     IfSome_then form lead (λ f leads. (
-      (λ w bytes i j within. (
-        (λ at. (leads e.nodes w bytes i j within).0 ((spans w i j).0 ((chain.spans w i j).0 at))),
-        (λ at. (chain.spans w i j).1 ((spans w i j).1 ((leads e.nodes w bytes i j within).1 at))),
+      (λ w i j within. (
+        (λ at. (leads e.nodes w i j).0 ((spans w i j).0 ((chain.spans w i j).0 at))),
+        (λ at. (chain.spans w i j).1 ((spans w i j).1 ((leads e.nodes w i j).1 at))),
       )),
       none,
       some,

@@ -4,7 +4,6 @@ use Rattle.std.specs.Prelude.{◌≡◌, ℕ, ◌+◌, ◌-◌, ◌≤◌, ◌�
 use Rattle.memchr.specs.Find.{OccursAt}
 use Rattle.sedre.specs.declared.types.Node.{Node}
 use Rattle.sedre.specs.Tree.{WrittenExpression, expression_tree, Tree}
-use Rattle.sedtext.specs.Bytes.{AreBytes}
 use Rattle.sedtext.specs.Spans.{Matches}
 use Rattle.sedtext.specs.Links.{ChainLeads}
 use Rattle.sedtext.specs.FixedRuns.{IsFixedRun}
@@ -24,13 +23,13 @@ FormSpans (Anchored s ends) w i j = StretchSpans s (Some ends) w i j
 FormSpans (FixedRun members count) w i j = IsFixedRun members count w i j
 FormSpans (Literal literal) w i j = LiteralSpans literal w i j
 
--- the chain leads over these in a text of bytes
+-- the chain leads over these
 abbrev pub LeadsAs : List Link → DirectForm → Type 0
-LeadsAs links form = (nodes : List Node) (w : List ℕ) → AreBytes w → (i j : ℕ) → i ≤ length w → ChainLeads nodes w links i j ↔ FormSpans form w i j
+LeadsAs links form = (nodes : List Node) (w : List ℕ) (i j : ℕ) → i ≤ length w → ChainLeads nodes w links i j ↔ FormSpans form w i j
 
--- the spans of the expression in a text of bytes are these
+-- the spans of the expression are these
 abbrev pub SpannedAs : Tree → DirectForm → Type 0
-SpannedAs e form = (w : List ℕ) → AreBytes w → (i j : ℕ) → i ≤ length w → Matches e w i j ↔ FormSpans form w i j
+SpannedAs e form = (w : List ℕ) (i j : ℕ) → i ≤ length w → Matches e w i j ↔ FormSpans form w i j
 
 -- how many bytes are looked at at least where such a match is found from p on
 abbrev pub bytes_looked_at : DirectForm → ℕ → ℕ × ℕ → ℕ

@@ -18,7 +18,6 @@ use Rattle.sedpass.specs.declared.table.Table.{Table}
 use Rattle.sedmatch.specs.Direct.{IsDirect}
 use Rattle.sedmatch.specs.declared.passes.PassTables.{PassTables}
 use Rattle.sedmatch.specs.declared.passes.Passes.{Passes}
-use Rattle.sedmatch.specs.declared.passes.Sought.{Sought}
 use Rattle.sedmatch.specs.declared.scratch.Desk.{Desk}
 use Rattle.sedmatch.specs.declared.table_matcher.SearchMethod.{SearchMethod}
 use Rattle.sedmatch.specs.declared.table_matcher.SearchMethod.TheVariants.{Direct, Passes as ByPasses}
@@ -31,11 +30,11 @@ forward_any_way = record { mirrored = false; all_starts = true }
 abbrev pub reverse_any_way : Way
 reverse_any_way = record { mirrored = true; all_starts = true }
 
--- what was found out is right for the expression
-pub record IsSought (e : WrittenExpression) (s : Sought) : Type 0 where
-  pub expr : s.prepared.arena.expr ≡ e
-  pub begins : AllBegin (expression_tree e) s.begins
-  pub required : IsRequired (expression_tree e) s.required
+-- the expression was made ready, and what was found out of its matches is right
+pub record IsSought (e : WrittenExpression) (p : Prepared) : Type 0 where
+  pub expr : p.arena.expr ≡ e
+  pub begins : AllBegin (expression_tree e) p.begins
+  pub required : IsRequired (expression_tree e) p.required
 
 -- the tables serve the expression
 abbrev pub ArePassTables : Prepared → PassTables → Type 0
@@ -55,20 +54,20 @@ SamePassRoom old new = SameRoom old.forward_any new.forward_any × SameRooms old
 
 -- what was found out is right, and the tables are for the expression, where it has some of its own
 abbrev pub ArePasses : WrittenExpression → Passes → Type 0
-ArePasses e p = IsSought e p.sought × IfSome p.own (ArePassTables p.sought.prepared)
+ArePasses e p = IsSought e p.prepared × IfSome p.own (ArePassTables p.prepared)
 
 -- what was found out is the same, and its own tables are still for it
 abbrev pub KeepsPasses : Passes → Passes → Type 0
-KeepsPasses old new = (new.sought ≡ old.sought) × IfSome new.own (ArePassTables new.sought.prepared)
+KeepsPasses old new = (new.prepared ≡ old.prepared) × IfSome new.own (ArePassTables new.prepared)
 
 -- the expression that is searched, and that it is searched rightly
 abbrev pub searched_expression : SearchMethod → WrittenExpression
 searched_expression (Direct e form) = e
-searched_expression (ByPasses p) = p.value.sought.prepared.arena.expr
+searched_expression (ByPasses p) = p.value.prepared.arena.expr
 
 abbrev pub IsEngine : SearchMethod → Type 0
 IsEngine (Direct e form) = IsDirect e form
-IsEngine (ByPasses p) = ArePasses p.value.sought.prepared.arena.expr p.value
+IsEngine (ByPasses p) = ArePasses p.value.prepared.arena.expr p.value
 
 -- Passes can be made there over texts of at most `max_text` bytes, for expressions of at most `max_nodes` nodes, by the tables that
 -- serve all.

@@ -2,29 +2,29 @@
 -- A byte that comes first, or none, and bytes of a set that follow, or none, and where they are.
 use Rattle.std.specs.Prelude.{◌≡◌, ℕ, ◌+◌, ◌-◌, ◌<◌, ◌≤◌, ◌⊎◌, Bool, List, length, Option, Some, None}
 use Rattle.sedtext.specs.Bytes.{MemberAt}
-use Rattle.sedtext.specs.Few.{FewAt}
 use Rattle.sedtext.specs.Runs.{SetRepeats}
-use Rattle.sedmatch.specs.declared.stretches.First.{First}
-use Rattle.sedmatch.specs.declared.stretches.First.TheVariants.{Nothing, Among, Member}
 use Rattle.sedmatch.specs.declared.stretches.Anchoring.{Anchoring}
 use Rattle.sedmatch.specs.declared.stretches.Anchoring.TheVariants.{AtStart, AtEnd, Whole, AtEitherEnd}
 use Rattle.sedmatch.specs.declared.stretches.Stretch.{Stretch}
 
--- what comes first is at the place
-abbrev pub ComesFirst : First → List ℕ → ℕ → Type 0
-ComesFirst Nothing w i = i ≤ length w
-ComesFirst (Among few) w i = FewAt few w i
-ComesFirst (Member set) w i = MemberAt set w i
+-- what comes first is at the place: a byte of the set, if there is one
+abbrev pub ComesFirst : Option (List Bool) → List ℕ → ℕ → Type 0
+ComesFirst None w i = Unit {0}
+ComesFirst (Some set) w i = MemberAt set w i
 
--- how many bytes come first
-abbrev pub width : First → ℕ
-width Nothing = 0
-width other = 1
+-- the place behind what comes first at the place i
+abbrev pub behind_first : Option (List Bool) → ℕ → ℕ
+behind_first None i = i
+behind_first (Some set) i = i + 1
 
 -- the bytes from i up to j are such as follow
 abbrev pub Follow : Option (List Bool) → List ℕ → ℕ → ℕ → Type 0
 Follow None w i j = j ≡ i
 Follow (Some members) w i j = SetRepeats members w i j
+
+-- the bytes from i up to j are what comes first, and such as follow
+abbrev pub StretchBytes : Option (List Bool) → Option (List Bool) → List ℕ → ℕ → ℕ → Type 0
+StretchBytes first rest w i j = ComesFirst first w i × Follow rest w (behind_first first i) j
 
 -- a span from i to j is where it is anchored, if it is
 abbrev pub IsAnchored : Option Anchoring → List ℕ → ℕ → ℕ → Type 0
@@ -36,7 +36,7 @@ IsAnchored (Some AtEitherEnd) w i j = (i ≡ 0) ⊎ (j ≡ length w)
 
 -- the spans of a stretch that is anchored so
 abbrev pub StretchSpans : Stretch → Option Anchoring → List ℕ → ℕ → ℕ → Type 0
-StretchSpans s anchoring w i j = ComesFirst s.first w i × Follow s.rest w (i + width s.first) j × IsAnchored anchoring w i j
+StretchSpans s anchoring w i j = StretchBytes s.first s.rest w i j × IsAnchored anchoring w i j
 
 -- the longest of the spans that begin first from p on, in a text of n bytes, if there is one
 abbrev pub FirstOf : (ℕ → ℕ → Type 0) → ℕ → ℕ → Option (ℕ × ℕ) → Type 0
@@ -56,10 +56,10 @@ FollowTo rest w i j = (j ≤ length w) × Follow rest w i j × ((k : ℕ) → Fo
 abbrev pub FollowFrom : Option (List Bool) → List ℕ → ℕ → ℕ → Type 0
 FollowFrom rest w p i = (p ≤ i) × (i ≤ length w) × Follow rest w i (length w) × ((h : ℕ) → p ≤ h → h < i → Follow rest w h (length w) → ⊥)
 
--- a place after what comes first, or the end n of the text
-abbrev pub behind_first : First → ℕ → Option ℕ → ℕ
-behind_first first n None = n
-behind_first first n (Some k) = k + width first
+-- the place behind what comes first where it was found, or the end n of the text
+abbrev pub passed_first : Option (List Bool) → ℕ → Option ℕ → ℕ
+passed_first first n None = n
+passed_first first n (Some k) = behind_first first k
 
 -- where the match found ends, or the end n of the text
 abbrev pub end_or : ℕ → Option (ℕ × ℕ) → ℕ

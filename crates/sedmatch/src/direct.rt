@@ -22,11 +22,11 @@ ghost use Rattle.sedmatch.specs.declared.direct.DirectForm.TheVariants.{FixedRun
 
 use crate::Span;
 use crate::shapes::{form_at_ends, stretch_of};
-use crate::stretches::{Anchoring, Stretch, anchored_span, stretch_span};
+use crate::stretches::{Anchoring, Stretch, anchored_span, find_first, stretch_span};
 use memchr::memmem::Finder;
 use sedre::{ByteSet, Expr, Steps};
+use sedtext::counted::Text;
 use sedtext::counted::lookups::find_literal;
-use sedtext::counted::{Text, are_bytes};
 use sedtext::fixed_runs::{find_fixed_run, fixed_run_of};
 use sedtext::links::{Link, alternatives_at};
 use sedtext::required::literal_at;
@@ -88,7 +88,7 @@ pub fn direct_form_of(
     if let Some((set, count)) = fixed_run_of(chain) {
         return Ok(Some(DirectForm::FixedRun(set, count)));
     }
-    if chain.len() > 1 {
+    if chain.len() != 1 {
         return Ok(None);
     }
     match alternatives_at(alloc, expr, chain, 0, steps)? {
@@ -158,7 +158,6 @@ pub fn direct_span(form: &DirectForm, text: &Text, from: usize, steps: &mut Step
     ensures counts { IfSome result (λ f. TakesAtLeast steps.old steps.new (f.1 - f.0)) }
     ensures passes { (e : WrittenExpression) → IsDirect e form.now → CanEndEarly (expression_tree e) → IfSome result (λ f. TakesAtLeast steps.old steps.new (f.1 - from)) }
 {
-    are_bytes(text);
     form_span(form, text, from, steps)
 }
 
@@ -171,16 +170,14 @@ pub fn direct_matches(form: &DirectForm, text: &Text, from: usize, steps: &mut S
 }
 
 /// A place of the text before which no line has a match of this form, or None where no line has one.
-#[tactic(auto, using(crate::proofs::StretchLemmas::comes_within), unfolding(sedre::specs::Steps::TakesAtLeast, sedre::specs::Steps::TakesExactly))]
 pub fn direct_candidate(form: &DirectForm, text: &Text, steps: &mut Steps) -> Option<usize>
     ensures before { (e : WrittenExpression) → IsDirect e form.now → NoMatchBefore (expression_tree e) text.now result }
     ensures cost { Takes steps.old steps.new (25 * (length text.now + 1)) }
     ensures counts { IfSome result (λ k. TakesAtLeast steps.old steps.new k) }
 {
-    are_bytes(text);
     match form {
-        DirectForm::Stretch(stretch) => stretch.first.find(text, 0, steps),
-        DirectForm::Anchored(stretch, _) => stretch.first.find(text, 0, steps),
+        DirectForm::Stretch(stretch) => find_first(&stretch.first, text, 0, steps),
+        DirectForm::Anchored(stretch, _) => find_first(&stretch.first, text, 0, steps),
         DirectForm::Literal(finder) => find_literal(text, finder, 0, steps),
         DirectForm::FixedRun(_, _) => Some(0),
     }

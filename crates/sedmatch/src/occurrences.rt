@@ -12,7 +12,7 @@ ghost use Rattle.sedmatch.specs.Occurrences.{HasTable, HaveOwn, IsReverseAny, Is
 ghost use Rattle.sedmatch.specs.Passes.{IsSought};
 
 use crate::Span;
-use crate::passes::{REVERSE_ANY, Sought, has_blocks};
+use crate::passes::{REVERSE_ANY, has_blocks};
 use crate::table_matcher::TableMatcher;
 use sedpass::kept::{Kept, Subject};
 use sedpass::nodes::Prepared;
@@ -194,7 +194,7 @@ pub fn is_null_at(span: Option<Span>, at: usize) -> bool
 /// The next occurrence after the one that ended at `last`, or the first one, by these tables: a byte further where the next match is
 /// that of the null string there.
 fn next_with(
-    sought: &Sought,
+    prepared: &Prepared,
     text: &Text,
     forward_one: &mut Table,
     reverse_any: &mut Table,
@@ -202,81 +202,56 @@ fn next_with(
     last: Option<usize>,
     steps: &mut Steps,
 ) -> Option<Span>
-    requires sought { IsSought sought.now.prepared.arena.expr sought.now }
+    requires sought { IsSought prepared.now.arena.expr prepared.now }
     requires last { EndsWithin (length text.now) last }
-    requires ready { MaySearch sought.now.prepared text.now sought.now.begins forward_one.old reverse_any.old seeking.old }
-    ensures searched { Searched sought.now.prepared text.now forward_one.old forward_one.new reverse_any.old reverse_any.new seeking.old seeking.new }
-    ensures next { result ≡ next_span (leftmost_longest (expression_tree sought.now.prepared.arena.expr) text.now) (length text.now) last }
-    ensures occurs { IfSome result (OccursAfter (expression_tree sought.now.prepared.arena.expr) text.now last) }
-    ensures cost { let m = length sought.now.prepared.arena.expr.nodes in let n = length text.now in
+    requires ready { MaySearch prepared.now text.now forward_one.old reverse_any.old seeking.old }
+    ensures searched { Searched prepared.now text.now forward_one.old forward_one.new reverse_any.old reverse_any.new seeking.old seeking.new }
+    ensures next { result ≡ next_span (leftmost_longest (expression_tree prepared.now.arena.expr) text.now) (length text.now) last }
+    ensures occurs { IfSome result (OccursAfter (expression_tree prepared.now.arena.expr) text.now last) }
+    ensures cost { let m = length prepared.now.arena.expr.nodes in let n = length text.now in
         CostsWithin steps.old steps.new (owed_search m n last seeking.old) (owed_after_search (owed_behind m n seeking.new) result) }
-    ensures looks { SearchTakes (length sought.now.prepared.arena.expr.nodes) (length text.now) (unwrap_or last 0) steps.old steps.new result }
+    ensures looks { SearchTakes (length prepared.now.arena.expr.nodes) (length text.now) (unwrap_or last 0) steps.old steps.new result }
 {
-    let (prepared, begins) = (&sought.prepared, &sought.begins);
     let subject = Subject { prepared, text };
     let Some(at) = last else {
-        let start = skip_to_literal(&sought.required, text, 0, steps)?;
-        return next_match(
-            subject,
-            begins,
-            forward_one,
-            reverse_any,
-            seeking,
-            start,
-            steps,
-        );
+        let start = skip_to_literal(&prepared.required, text, 0, steps)?;
+        return next_match(subject, forward_one, reverse_any, seeking, start, steps);
     };
-    let first = next_match(
-        subject,
-        begins,
-        forward_one,
-        reverse_any,
-        seeking,
-        at,
-        steps,
-    );
+    let first = next_match(subject, forward_one, reverse_any, seeking, at, steps);
     if !is_null_at(first, at) {
         return first;
     }
     if at >= text.len() {
         return None;
     }
-    next_match(
-        subject,
-        begins,
-        forward_one,
-        reverse_any,
-        seeking,
-        at + 1,
-        steps,
-    )
+    next_match(subject, forward_one, reverse_any, seeking, at + 1, steps)
 }
 
 /// The next occurrence after the one that ended at `last`, or the first one.
 pub fn next_by(
-    sought: &Sought,
+    prepared: &Prepared,
     text: &Text,
     forward_one: &mut Table,
     occurrences: &mut Occurrences,
     last: Option<usize>,
     steps: &mut Steps,
 ) -> Option<Span>
-    requires sought { IsSought sought.now.prepared.arena.expr sought.now }
-    requires forward_one { IsForwardOne sought.now.prepared forward_one.old }
+    requires sought { IsSought prepared.now.arena.expr prepared.now }
+    requires forward_one { IsForwardOne prepared.now forward_one.old }
     requires last { EndsWithin (length text.now) last }
-    requires serves { ServesFrom sought.now.prepared.arena.expr text.now last occurrences.old }
-    ensures forward_one { IsForwardOne sought.now.prepared forward_one.new }
+    requires serves { ServesFrom prepared.now.arena.expr text.now last occurrences.old }
+    ensures forward_one { IsForwardOne prepared.now forward_one.new }
     ensures forward_one_shape { SameShape forward_one.old forward_one.new }
-    ensures answered { AnswersNext sought.now.prepared.arena.expr text.now last occurrences.old occurrences.new steps.old steps.new result }
+    ensures answered { AnswersNext prepared.now.arena.expr text.now last occurrences.old occurrences.new steps.old steps.new result }
 {
-    occurrences.make_ready(&sought.prepared, text);
+    occurrences.make_ready(prepared, text);
     let seeking = &mut occurrences.seeking;
     if !occurrences.by_own {
-        let reverse_any = &mut occurrences.shared;
-        return next_with(sought, text, forward_one, reverse_any, seeking, last, steps);
+        let reverse = &mut occurrences.shared;
+        return next_with(prepared, text, forward_one, reverse, seeking, last, steps);
     }
-    let Some(reverse_any) = &mut occurrences.own[occurrences.number] else {
+    let Some(reverse) = &mut occurrences.own[occurrences.number] else {
         unreachable!()
     };
-    next_with(sought, text, forward_one, reverse_any, seeking, last, steps)
+    next_with(prepared, text, forward_one, reverse, seeking, last, steps)
 }

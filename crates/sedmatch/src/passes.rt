@@ -26,19 +26,8 @@ use sedtext::beginnings::{Begins, how_begins, next_start};
 use sedtext::counted::Text;
 use sedtext::counted::lookups::{find_literal, sift};
 use sedtext::links::Link;
-use sedtext::required::{RequiredLiteral, find_required, skip_to_literal};
+use sedtext::required::{find_required, skip_to_literal};
 use std::alloc::{AllocError, Global};
-
-/// What is found out of an expression once.
-#[derive(Drop)]
-pub struct Sought {
-    /// The expression, made ready for passes.
-    pub prepared: Prepared,
-    /// How its matches begin.
-    pub begins: Begins,
-    /// A literal that they contain.
-    pub required: Option<RequiredLiteral>,
-}
 
 /// The tables by which an expression is searched.
 #[derive(Drop)]
@@ -52,8 +41,8 @@ pub struct PassTables {
 /// An expression that is searched by passes.
 #[derive(Drop)]
 pub struct Passes {
-    /// What is found out of it once.
-    pub sought: Sought,
+    /// The expression, made ready for them.
+    pub prepared: Prepared,
     /// Its own tables, if there is room for them.
     pub own: Option<PassTables>,
 }
@@ -136,23 +125,18 @@ pub fn new_passes(
     requires chain { IsChain expr.now.nodes (expression_tree expr.now) chain.now }
     ensures { IfOk result (ArePasses expr.now) }
 {
-    let begins = how_begins(alloc, expr, chain, steps)?;
-    let required = find_required(alloc, chain)?;
-    let prepared = Prepared::new(alloc, expr, steps)?;
+    let mut prepared = Prepared::new(alloc, expr, steps)?;
+    prepared.begins = how_begins(alloc, expr, chain, steps)?;
+    prepared.required = find_required(alloc, chain)?;
     let own = own_tables(alloc, &prepared, room)?;
-    let sought = Sought {
-        prepared,
-        begins,
-        required,
-    };
-    Ok(Passes { sought, own })
+    Ok(Passes { prepared, own })
 }
 
 impl Passes {
     /// How many bytes its own tables take at most.
     pub fn size_of_tables(&self) -> usize {
         match &self.own {
-            Some(own) => size_of(self.sought.prepared.nodes(), own.forward_any.room),
+            Some(own) => size_of(self.prepared.nodes(), own.forward_any.room),
             None => 0,
         }
     }
@@ -160,15 +144,15 @@ impl Passes {
 
 /// A place of the text before which no line has a match, or None where no line has one, as these show.
 #[tactic(auto, unfolding(sedre::specs::Steps::TakesAtLeast, sedre::specs::Steps::TakesExactly))]
-pub fn candidate_by(sought: &Sought, text: &Text, steps: &mut Steps) -> Option<usize>
-    ensures before { (e : Tree) → IsRequired e sought.now.required → AllBegin e sought.now.begins → NoMatchBefore e text.now result }
+pub fn candidate_by(prepared: &Prepared, text: &Text, steps: &mut Steps) -> Option<usize>
+    ensures before { (e : Tree) → IsRequired e prepared.now.required → AllBegin e prepared.now.begins → NoMatchBefore e text.now result }
     ensures cost { Takes steps.old steps.new (25 * (length text.now + 1)) }
     ensures counts { IfSome result (λ k. TakesAtLeast steps.old steps.new k) }
 {
-    if let Some(required) = &sought.required {
+    if let Some(required) = &prepared.required {
         return find_literal(text, &required.finder, 0, steps);
     }
-    match &sought.begins {
+    match &prepared.begins {
         Begins::Before(sieve) => sift(text, sieve, 0, steps),
         _ => Some(0),
     }
@@ -176,27 +160,26 @@ pub fn candidate_by(sought: &Sought, text: &Text, steps: &mut Steps) -> Option<u
 
 /// Whether any match begins at a place or later, by these tables.
 fn matches_with(
-    sought: &Sought,
+    prepared: &Prepared,
     text: &Text,
     tables: &mut PassTables,
     from: usize,
     steps: &mut Steps,
 ) -> bool
-    requires begins { AllBegin (expression_tree sought.now.prepared.arena.expr) sought.now.begins }
-    requires tables { ArePassTables sought.now.prepared tables.old }
+    requires begins { AllBegin (expression_tree prepared.now.arena.expr) prepared.now.begins }
+    requires tables { ArePassTables prepared.now tables.old }
     requires from { from ≤ length text.now }
-    ensures tables { ArePassTables sought.now.prepared tables.new }
+    ensures tables { ArePassTables prepared.now tables.new }
     ensures room { SamePassRoom tables.old tables.new }
-    ensures matches { IsTrue result ↔ SomeFound (expression_tree sought.now.prepared.arena.expr) text.now from }
-    ensures passes { IsTrue result → LooksPast (expression_tree sought.now.prepared.arena.expr) text.now from steps.old steps.new }
-    ensures cost { Takes steps.old steps.new (43 * length sought.now.prepared.arena.expr.nodes * (length text.now + 1)) }
+    ensures matches { IsTrue result ↔ SomeFound (expression_tree prepared.now.arena.expr) text.now from }
+    ensures passes { IsTrue result → LooksPast (expression_tree prepared.now.arena.expr) text.now from steps.old steps.new }
+    ensures cost { Takes steps.old steps.new (43 * length prepared.now.arena.expr.nodes * (length text.now + 1)) }
 {
-    let prepared = &sought.prepared;
-    let Some(start) = next_start(&sought.begins, text, from, steps) else {
+    let Some(start) = next_start(&prepared.begins, text, from, steps) else {
         return false;
     };
     let (any, one) = (&mut tables.forward_any, &mut tables.groups.forward_one);
-    match &sought.begins {
+    match &prepared.begins {
         // The first place alone is a start, and a pass from it can end early.
         Begins::AtStart => one.run(prepared, text, start, steps).end.is_some(),
         _ => any.run(prepared, text, start, steps).end.is_some(),
@@ -212,21 +195,21 @@ pub fn matches_by(
     steps: &mut Steps,
 ) -> bool
     requires from { from ≤ length text.now }
-    requires passes { ArePasses passes.old.sought.prepared.arena.expr passes.old }
-    requires desk { IsDeskFor passes.old.sought.prepared.arena.expr text.now desk.old }
+    requires passes { ArePasses passes.old.prepared.arena.expr passes.old }
+    requires desk { IsDeskFor passes.old.prepared.arena.expr text.now desk.old }
     ensures passes { KeepsPasses passes.old passes.new }
     ensures desk { KeepsDesk desk.old desk.new }
-    ensures answered { AnswersMatch passes.old.sought.prepared.arena.expr text.now from steps.old steps.new result }
+    ensures answered { AnswersMatch passes.old.prepared.arena.expr text.now from steps.old steps.new result }
 {
-    let sought = &passes.sought;
-    let Some(start) = skip_to_literal(&sought.required, text, from, steps) else {
+    let prepared = &passes.prepared;
+    let Some(start) = skip_to_literal(&prepared.required, text, from, steps) else {
         return false;
     };
     if let Some(own) = &mut passes.own {
-        return matches_with(sought, text, own, start, steps);
+        return matches_with(prepared, text, own, start, steps);
     }
-    desk.shared.fit(&sought.prepared);
-    matches_with(sought, text, &mut desk.shared, start, steps)
+    desk.shared.fit(prepared);
+    matches_with(prepared, text, &mut desk.shared, start, steps)
 }
 
 /// The groups of a match of an expression without groups.
@@ -295,14 +278,14 @@ pub fn groups_by(
     steps: &mut Steps,
 ) -> GroupSpans
     requires order { Ascending span.0 span.1 (length text.now) }
-    requires spans { Matches (expression_tree passes.old.sought.prepared.arena.expr) text.now span.0 span.1 }
-    requires passes { ArePasses passes.old.sought.prepared.arena.expr passes.old }
-    requires desk { IsDeskFor passes.old.sought.prepared.arena.expr text.now desk.old }
+    requires spans { Matches (expression_tree passes.old.prepared.arena.expr) text.now span.0 span.1 }
+    requires passes { ArePasses passes.old.prepared.arena.expr passes.old }
+    requires desk { IsDeskFor passes.old.prepared.arena.expr text.now desk.old }
     ensures passes { KeepsPasses passes.old passes.new }
     ensures desk { KeepsDesk desk.old desk.new }
-    ensures answered { AnswersGroups passes.old.sought.prepared.arena.expr text.now span steps.old steps.new result }
+    ensures answered { AnswersGroups passes.old.prepared.arena.expr text.now span steps.old steps.new result }
 {
-    let prepared = &passes.sought.prepared;
+    let prepared = &passes.prepared;
     let subject = Subject { prepared, text };
     if let Some(own) = &mut passes.own {
         if has_blocks(&desk.room.kept, own.groups.reverse_one.room, text.len()) {

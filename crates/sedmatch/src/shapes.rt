@@ -1,16 +1,15 @@
 //! Which expressions are a stretch: a byte, a run of bytes, or both, anywhere or at the ends of the text.
-ghost use Rattle.std.specs.Prelude.{◌≡◌, ℕ, List, ◌≤◌, ◌↔◌, ◌⊎◌, length, IfSome, IsTrue};
+ghost use Rattle.std.specs.Prelude.{◌≡◌, ℕ, List, ◌↔◌, ◌⊎◌, IfSome, IsTrue};
 ghost use Rattle.sedre.specs.declared.types.Node.{Node};
 ghost use Rattle.sedtext.specs.Links.{ChainLeads, LinkLeads};
-ghost use Rattle.sedtext.specs.Bytes.{AreBytes};
 ghost use Rattle.sedmatch.specs.Direct.{FormSpans, LeadsAs};
-ghost use Rattle.sedmatch.specs.Shapes.{AreEither, IsFirst, IsPlaced, StemBytes, StemLeads};
-ghost use Rattle.sedmatch.specs.Stretches.{IsAnchored};
+ghost use Rattle.sedmatch.specs.Shapes.{AreEither, IsPlaced, StemLeads};
+ghost use Rattle.sedmatch.specs.Stretches.{IsAnchored, StretchBytes};
 
 use crate::direct::DirectForm;
-use crate::stretches::{Anchoring, First, Stretch};
+use crate::stretches::{Anchoring, Stretch};
 use sedre::ByteSet;
-use sedtext::counted::few::members_of;
+use sedtext::counted::set_finder::SetFinder;
 use sedtext::links::Link;
 
 /// A byte of the one set, if there is one, and bytes of the other, any number of them, if there is one.
@@ -34,41 +33,27 @@ const NO_BYTE: Stem = Stem {
     at_end: false,
 };
 
-/// The stem that the link and the one behind it are together, if they are one.
-fn stem_with(link: &Link, behind: Stem) -> Option<Stem>
+/// The stem that the link and the stem behind it are together, if they are one.
+fn stem_with(link: &Link, stem: Stem) -> Option<Stem>
     ensures { IfSome result (λ s. (nodes : List Node) (w : List ℕ) (i j : ℕ) →
-        StemLeads s w i j ↔ ((k : ℕ) × LinkLeads nodes w link.now i k × StemLeads behind w k j)) }
+        StemLeads s w i j ↔ ((k : ℕ) × LinkLeads nodes w link.now i k × StemLeads stem w k j)) }
 {
-    let Stem {
-        at_start,
-        first,
-        rest,
-        at_end,
-    } = behind;
-    match (link, at_start, first, rest, at_end) {
+    match (link, stem.at_start, stem.first, stem.rest, stem.at_end) {
         (Link::Start, _, _, _, _) => Some(Stem {
             at_start: true,
-            first,
-            rest,
-            at_end,
+            ..stem
         }),
         (Link::Byte(set), false, None, _, _) => Some(Stem {
-            at_start,
             first: Some(*set),
-            rest,
-            at_end,
+            ..stem
         }),
         (Link::Run(set), false, None, None, _) => Some(Stem {
-            at_start,
-            first,
             rest: Some(*set),
-            at_end,
+            ..stem
         }),
         (Link::End, false, None, None, false) => Some(Stem {
-            at_start,
-            first,
-            rest,
             at_end: true,
+            ..stem
         }),
         _ => None,
     }
@@ -108,25 +93,12 @@ fn either_stem(left: Stem, right: Stem) -> Option<Stem>
     }
 }
 
-/// What comes first, as it is sought.
-fn first_of(set: &Option<ByteSet>) -> First
-    ensures { IsFirst set.now result }
-{
-    match set {
-        None => First::Nothing,
-        Some(members) => match members_of(members) {
-            Some(few) => First::Among(few),
-            None => First::Member(*members),
-        },
-    }
-}
-
 /// The form of the stem's matches, where they are anchored so.
 fn form_of(stem: &Stem, anchoring: Option<Anchoring>) -> DirectForm
-    ensures { (w : List ℕ) → AreBytes w → (i j : ℕ) → i ≤ length w → FormSpans result w i j ↔ (StemBytes stem.now w i j × IsAnchored anchoring w i j) }
+    ensures { (w : List ℕ) (i j : ℕ) → FormSpans result w i j ↔ (StretchBytes stem.now.first stem.now.rest w i j × IsAnchored anchoring w i j) }
 {
     let stretch = Stretch {
-        first: first_of(&stem.first),
+        first: stem.first.as_ref().map(SetFinder::of),
         rest: stem.rest,
     };
     match anchoring {
@@ -149,7 +121,7 @@ fn anchoring_of(stem: &Stem) -> Option<Anchoring>
 
 /// The form of two alternatives that are the same stem, at the beginning of the text and at its end.
 pub fn form_at_ends(left: &[Link], right: &[Link]) -> Option<DirectForm>
-    ensures { IfSome result (λ f. (nodes : List Node) (w : List ℕ) → AreBytes w → (i j : ℕ) → i ≤ length w →
+    ensures { IfSome result (λ f. (nodes : List Node) (w : List ℕ) (i j : ℕ) →
         (ChainLeads nodes w left.now i j ⊎ ChainLeads nodes w right.now i j) ↔ FormSpans f w i j) }
 {
     let stem = either_stem(stem_of(left)?, stem_of(right)?)?;

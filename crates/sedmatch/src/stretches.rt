@@ -6,26 +6,14 @@ ghost use Rattle.std.specs.Prelude.{◌≡◌, ℕ, ◌+◌, ◌-◌, ◌*◌, �
 ghost use Rattle.sedre.specs.Steps.{Takes, TakesAtLeast};
 ghost use Rattle.sedtext.specs.Bytes.{FirstFrom};
 ghost use Rattle.sedtext.specs.Costs.{CostsWithin};
-ghost use Rattle.sedmatch.specs.Stretches.{ComesFirst, FirstStretch, FollowFrom, FollowTo, behind_first, bytes_sought, end_or, width};
+ghost use Rattle.sedmatch.specs.Stretches.{ComesFirst, FirstStretch, FollowFrom, FollowTo, behind_first, bytes_sought, end_or, passed_first};
 ghost use Rattle.sedmatch.specs.declared.stretches.Anchoring.TheVariants.{AtEitherEnd, AtEnd, AtStart, Whole};
 
 use crate::Span;
 use sedre::{ByteSet, Steps};
 use sedtext::counted::Text;
-use sedtext::counted::few::Few;
-use sedtext::counted::lookups::find_few;
-use sedtext::counted::members::{find_member, run_begin, run_end};
-
-/// What comes first, as it is sought.
-#[derive(Clone, Copy)]
-pub enum First {
-    /// No byte: what follows is alone.
-    Nothing,
-    /// One of these few.
-    Among(Few),
-    /// One of this set.
-    Member(ByteSet),
-}
+use sedtext::counted::members::{run_begin, run_end};
+use sedtext::counted::set_finder::SetFinder;
 
 /// At which ends of the text a stretch is anchored.
 #[derive(Clone, Copy)]
@@ -41,54 +29,70 @@ pub enum Anchoring {
 }
 
 /// What comes first, and what follows it.
-#[derive(Clone, Copy)]
+#[derive(Drop)]
 pub struct Stretch {
-    /// What comes first.
-    pub first: First,
+    /// The set of the byte that comes first, if one does.
+    pub first: Option<SetFinder>,
     /// The set whose bytes follow, if some do.
     pub rest: Option<ByteSet>,
 }
 
-impl First {
-    /// How many bytes it has.
-    #[inline(always)]
-    fn width(&self) -> usize
-        ensures { result ≡ width self.now }
-    {
-        match self {
-            First::Nothing => 0,
-            _ => 1,
-        }
+/// The first place from `from` on at which what comes first is.
+/// Counts a look for each byte from `from` to it, or to the end where there is none.
+#[inline(always)]
+pub fn find_first(
+    first: &Option<SetFinder>,
+    text: &Text,
+    from: usize,
+    steps: &mut Steps,
+) -> Option<usize>
+    requires from { from ≤ length text.now }
+    ensures first { FirstFrom (ComesFirst first.now text.now) from result }
+    ensures inside { IfSome result (λ k. behind_first first.now k ≤ length text.now) }
+    ensures cost { CostsWithin steps.old steps.new (passed_first first.now (length text.now) result) from }
+    ensures counts { IfSome result (λ k. TakesAtLeast steps.old steps.new (behind_first first.now k - from)) }
+{
+    match first {
+        None => Some(from),
+        Some(finder) => finder.find(text, from, steps),
     }
+}
 
-    /// The first place from `from` on at which it is.
-    /// Counts a look for each byte from `from` to it, or to the end where there is none.
-    #[inline(always)]
-    pub fn find(&self, text: &Text, from: usize, steps: &mut Steps) -> Option<usize>
-        requires from { from ≤ length text.now }
-        ensures first { FirstFrom (ComesFirst self.now text.now) from result }
-        ensures cost { CostsWithin steps.old steps.new (behind_first self.now (length text.now) result) from }
-        ensures counts { IfSome result (λ k. TakesAtLeast steps.old steps.new (k + width self.now - from)) }
-    {
-        match self {
-            First::Nothing => Some(from),
-            First::Among(few) => find_few(text, few, from, steps),
-            First::Member(set) => find_member(text, set, from, steps),
-        }
+/// Whether the text begins with what comes first.
+#[inline(always)]
+fn begins_text(first: &Option<SetFinder>, text: &Text, steps: &mut Steps) -> bool
+    ensures begins { IsTrue result ↔ ComesFirst first.now text.now 0 }
+    ensures inside { IsTrue result → behind_first first.now 0 ≤ length text.now }
+    ensures cost { Takes steps.old steps.new 1 }
+    ensures counts { IsTrue result → TakesAtLeast steps.old steps.new (behind_first first.now 0) }
+{
+    match first {
+        None => true,
+        Some(finder) => text.len() > 0 && finder.has(text.byte(0, steps)),
     }
+}
 
-    /// Whether the text begins with it.
-    #[inline(always)]
-    fn begins(&self, text: &Text, steps: &mut Steps) -> bool
-        ensures begins { IsTrue result ↔ ComesFirst self.now text.now 0 }
-        ensures cost { Takes steps.old steps.new 1 }
-        ensures counts { IsTrue result → TakesAtLeast steps.old steps.new (width self.now) }
-    {
-        match self {
-            First::Nothing => true,
-            First::Among(few) => text.len() > 0 && few.has(text.byte(0, steps)),
-            First::Member(set) => text.len() > 0 && set.has(text.byte(0, steps)),
-        }
+/// The place behind what comes first at the place.
+#[inline(always)]
+fn behind_first(first: &Option<SetFinder>, text: &Text, place: usize) -> usize
+    requires { behind_first first.now place ≤ length text.now }
+    ensures { result ≡ behind_first first.now place }
+{
+    match first {
+        None => place,
+        Some(_) => text.after(place, 1),
+    }
+}
+
+/// The first place from which what comes first reaches as far as the place.
+#[inline(always)]
+fn start_before(first: &Option<SetFinder>, place: usize) -> usize
+    ensures reaches { (i : ℕ) → place ≤ behind_first first.now i ↔ result ≤ i }
+    ensures low { result ≤ place }
+{
+    match first {
+        None => place,
+        Some(_) => place.saturating_sub(1),
     }
 }
 
@@ -128,10 +132,10 @@ pub fn stretch_span(stretch: &Stretch, text: &Text, from: usize, steps: &mut Ste
     ensures cost { CostsWithin steps.old steps.new (4 * (end_or (length text.now) result + 1)) (4 * from) }
     ensures counts { IfSome result (λ f. TakesAtLeast steps.old steps.new (f.1 - from)) }
 {
-    match stretch.first.find(text, from, steps) {
+    match find_first(&stretch.first, text, from, steps) {
         None => None,
         Some(start) => {
-            let after = text.after(start, stretch.first.width());
+            let after = behind_first(&stretch.first, text, start);
             Some((start, rest_end(&stretch.rest, text, after, steps)))
         }
     }
@@ -145,13 +149,11 @@ fn start_span(stretch: &Stretch, text: &Text, from: usize, steps: &mut Steps) ->
     ensures cost { Takes steps.old steps.new (end_or 0 result + 2) }
     ensures counts { IfSome result (λ f. TakesAtLeast steps.old steps.new f.1) }
 {
-    if from > 0 || !stretch.first.begins(text, steps) {
+    if from > 0 || !begins_text(&stretch.first, text, steps) {
         return None;
     }
-    Some((
-        0,
-        rest_end(&stretch.rest, text, stretch.first.width(), steps),
-    ))
+    let after = behind_first(&stretch.first, text, 0);
+    Some((0, rest_end(&stretch.rest, text, after, steps)))
 }
 
 /// The longest stretch at the end of the text that begins at `from` or later.
@@ -163,8 +165,8 @@ fn end_span(stretch: &Stretch, text: &Text, from: usize, steps: &mut Steps) -> O
     ensures counts { IfSome result (λ f. TakesAtLeast steps.old steps.new (f.1 - f.0)) }
 {
     let rest = rest_begin(&stretch.rest, text, from, steps);
-    let start = rest.saturating_sub(stretch.first.width()).max(from);
-    match stretch.first.find(text, start, steps) {
+    let start = start_before(&stretch.first, rest).max(from);
+    match find_first(&stretch.first, text, start, steps) {
         None => None,
         Some(place) => Some((place, text.len())),
     }

@@ -113,22 +113,22 @@ fn next_by_passes(
     desk: &mut Desk,
     steps: &mut Steps,
 ) -> Option<Span>
-    requires passes { ArePasses passes.old.sought.prepared.arena.expr passes.old }
-    requires desk { IsDeskFor passes.old.sought.prepared.arena.expr text.now desk.old }
+    requires passes { ArePasses passes.old.prepared.arena.expr passes.old }
+    requires desk { IsDeskFor passes.old.prepared.arena.expr text.now desk.old }
     requires last { EndsWithin (length text.now) last }
-    requires serves { ServesFrom passes.old.sought.prepared.arena.expr text.now last occurrences.old }
+    requires serves { ServesFrom passes.old.prepared.arena.expr text.now last occurrences.old }
     ensures passes { KeepsPasses passes.old passes.new }
     ensures desk { KeepsDesk desk.old desk.new }
-    ensures answered { AnswersNext passes.old.sought.prepared.arena.expr text.now last occurrences.old occurrences.new steps.old steps.new result }
+    ensures answered { AnswersNext passes.old.prepared.arena.expr text.now last occurrences.old occurrences.new steps.old steps.new result }
 {
-    let sought = &passes.sought;
+    let prepared = &passes.prepared;
     if let Some(own) = &mut passes.own {
         let forward_one = &mut own.groups.forward_one;
-        return next_by(sought, text, forward_one, occurrences, last, steps);
+        return next_by(prepared, text, forward_one, occurrences, last, steps);
     }
     let forward_one = &mut desk.shared.groups.forward_one;
-    forward_one.fit(&sought.prepared);
-    next_by(sought, text, forward_one, occurrences, last, steps)
+    forward_one.fit(prepared);
+    next_by(prepared, text, forward_one, occurrences, last, steps)
 }
 
 impl TableMatcher {
@@ -180,7 +180,7 @@ impl TableMatcher {
             SearchMethod::Direct(_, _) => None,
             SearchMethod::Passes(passes) => match &passes.own {
                 None => None,
-                Some(_) => Some(&passes.sought.prepared),
+                Some(_) => Some(&passes.prepared),
             },
         }
     }
@@ -191,7 +191,7 @@ impl TableMatcher {
     {
         match &self.engine {
             SearchMethod::Direct(expr, _) => expr.nodes(),
-            SearchMethod::Passes(passes) => passes.sought.prepared.nodes(),
+            SearchMethod::Passes(passes) => passes.prepared.nodes(),
         }
     }
 
@@ -206,7 +206,7 @@ impl TableMatcher {
     {
         match &self.engine {
             SearchMethod::Direct(_, form) => direct_candidate(form, text, steps),
-            SearchMethod::Passes(passes) => candidate_by(&passes.sought, text, steps),
+            SearchMethod::Passes(passes) => candidate_by(&passes.prepared, text, steps),
         }
     }
 
@@ -227,15 +227,10 @@ impl TableMatcher {
         ensures passes { IsTrue result → LooksPast (expression_tree self.old) text.now from steps.old steps.new }
         ensures cost { Takes steps.old steps.new (64 * length self.old.nodes * (length text.now + 1)) }
     {
+        let desk = &mut scratch.desk;
         match &mut self.engine {
             SearchMethod::Direct(_, form) => direct_matches(form, text, from, steps),
-            SearchMethod::Passes(passes) => matches_by(
-                passes,
-                text,
-                from,
-                &mut scratch.desk,
-                steps,
-            ),
+            SearchMethod::Passes(passes) => matches_by(passes, text, from, desk, steps),
         }
     }
 

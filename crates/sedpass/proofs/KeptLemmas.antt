@@ -1,12 +1,12 @@
 -- What is kept of a pass backwards, and how it comes down by a place.
-use Rattle.std.proofs.Common.{inl, inr, ◌≡◌, ℕ, ◌+◌, ◌-◌, ◌*◌, ◌/◌, ◌^◌, ◌<◌, ◌≤◌, ◌↔◌, ◌⊎◌, ⊎_elim, length-set, mul-le-mul_left, mul-le-mul_right, Bool, true, false, zero, suc, List, [], ◌∷◌, length, Some, refl, sym, ap, ◌∙◌, subst, arith, true≢false, IsTrue, not, reverse, slice_get, slice_index_or, slice_set, vec_capacity, nat_lt}
-use Rattle.sedpass.proofs.Words.{div-mul-le_self, lt-div-mul-add, beq, length-reverse, get_or_default, get_or-set_same, get_or-set_other, IsArena, WrittenExpression, seen, Node, byte_is_in, Starts, HasSpan, IsStart, one_start, starts_to, IsPlace, get-reverse, AgreeBelow, row_of, Kept, cases_eq, cases_lt, lt-ltb, ltb-true, Prepared, Way, Table, PlaceKind, both-iff}
+use Rattle.std.proofs.Common.{inl, inr, ◌≡◌, ◌≢◌, ℕ, ◌+◌, ◌-◌, ◌*◌, ◌/◌, ◌^◌, ◌<◌, ◌≤◌, ◌↔◌, ◌⊎◌, ⊎_elim, length-set, mul-le-mul_left, mul-le-mul_right, Bool, true, false, List, length, Some, refl, sym, ap, ◌∙◌, subst, arith, true≢false, IsTrue, not, reverse, slice_get, slice_index_or, slice_set, vec_capacity, nat_lt}
+use Rattle.sedpass.proofs.Words.{div-mul-le_self, lt-div-mul-add, beq, length-reverse, get_or_default, get_or-set_same, get_or-set_other, IsArena, WrittenExpression, seen, Node, byte_is_in, Starts, HasSpan, IsStart, one_start, starts_to, IsPlace, get-reverse, KeepsRows, row_of, Kept, cases_eq, cases_lt, lt-ltb, ltb-true, Prepared, Way, Table, PlaceKind, both-iff}
 use Rattle.sedpass.specs.Regions.{IsLastIn, Opposite, ReachesEnd, MeetsAt}
-use Rattle.sedpass.specs.Rows.{bits, RowOfPlace, RowLeadsTo, IsFirstRow, SameBytes, at_begin, at_edge, nodes_of}
+use Rattle.sedpass.specs.Rows.{AreWide, leaves_row, ends_row, bits, RowOfPlace, RowLeadsTo, IsFirstRow, SameBytes, at_begin, at_edge, nodes_of}
 use Rattle.sedpass.specs.Kept.{starts_shown, ends_shown, ComesDown, RowKept, KeptAt, IsLive, IsRegion, PassesDownTo, IsEdge, AllMarked, SameKept, SameSpace, EdgesFrom, IsKept, KeepsRegion, Follows, Meet}
 use Rattle.sedpass.specs.Table.{PassState, state_of, HasRow, LeadsOn, BeginsIn, IsTable, MayBegin, SameShape, AddsStates, IsOffset}
 use Rattle.sedpass.proofs.LeaveLemmas.{last_inside, reaches_last}
-use Rattle.sedpass.proofs.RowLemmas.{behind_reaches, meet_rows, bits_agree, bits_here}
+use Rattle.sedpass.proofs.RowLemmas.{behind_reaches, meet_rows, bits_here}
 use Rattle.sedpass.proofs.MeetingLemmas.{meets_early}
 
 -- the starts of the mirrored pass are the places where its matches end
@@ -138,9 +138,9 @@ region_kept p w t after k other shape table places long edges root end within re
 }
 
 -- nor does it matter what is in the rows that were kept
-pub passes_with : (p : Prepared) (w : List ℕ) (t : Table) (k : Kept) (edges : List (List Bool)) (place offset : ℕ) → length edges ≡ length k.edges → ((q : ℕ) → length (row_of edges q) ≡ length (row_of k.edges q)) →
+pub passes_with : (P : ℕ → Type 0) (p : Prepared) (w : List ℕ) (t : Table) (k : Kept) (edges : List (List Bool)) (place offset : ℕ) → KeepsRows P k.edges edges →
     PassesDownTo p w t k place offset → PassesDownTo p w t (record k { edges = edges }) place offset
-passes_with p w t k edges place offset long rows passes =
+passes_with P p w t k edges place offset keeps passes =
     let region = passes.region in
     record {
       region = record {
@@ -148,8 +148,8 @@ passes_with p w t k edges place offset long rows passes =
         room = record {
           mirrored = region.room.mirrored;
           places = region.room.places;
-          blocks = λ b low. rw long (region.room.blocks b low);
-          marks = λ q low. rw (rows q) (region.room.marks q (omega (arith, low, long)));
+          blocks = λ b low. rw keeps.len (region.room.blocks b low);
+          marks = λ q low. rw (keeps.lens q) (region.room.marks q (omega (arith, low, keeps.len)));
         };
         root = region.root;
         whole = region.whole;
@@ -166,34 +166,24 @@ passes_with p w t k edges place offset long rows passes =
 
 -- The rows at the ends of blocks.
 
--- those of a block that ends at the place are there
-pub block_there : (p : Prepared) (w : List ℕ) (t : Table) (k : Kept) (block place offset : ℕ) → PassesDownTo p w t k place offset → place ≡ block * (t.room - 1) + (t.room - 1) → 2 * block + 1 < length k.edges
-block_there p w t k block place offset passes at = let h = passes.within in let g = passes.region.inside in passes.region.room.blocks block (omega arith)
-
 -- the block's edge is kept, and those of later blocks are as they were
-pub edges_more : (p : Prepared) (w : List ℕ) (way : Way) (root end width block : ℕ) (old mid new : List (List Bool)) (leaf last : List Bool) → 1 ≤ width → 2 * block + 1 < length old → length mid ≡ length old →
-    AgreeBelow (length p.arena.expr.nodes) (row_of mid (2 * block)) leaf → ((q : ℕ) → q < length old → (q ≡ 2 * block → ⊥) → row_of mid q ≡ row_of old q) →
-    AgreeBelow (length p.arena.expr.nodes) (row_of new (2 * block + 1)) last → ((q : ℕ) → q < length mid → (q ≡ 2 * block + 1 → ⊥) → row_of new q ≡ row_of mid q) →
+pub edges_more : (p : Prepared) (w : List ℕ) (way : Way) (root end width block : ℕ) (old new : List (List Bool)) (leaf last : List Bool) → 1 ≤ width → KeepsRows (λ q. (q ≢ 2 * block) × (q ≢ 2 * block + 1)) old new →
+    (bits (length p.arena.expr.nodes) (row_of new (2 * block)) ≡ bits (length p.arena.expr.nodes) leaf) × (bits (length p.arena.expr.nodes) (row_of new (2 * block + 1)) ≡ bits (length p.arena.expr.nodes) last) →
     RowKept p w way root end (block * width + width) (bits (length p.arena.expr.nodes) leaf) (bits (length p.arena.expr.nodes) last) →
     ((b : ℕ) → block * width + width < b * width + width → b * width + width < end → IsEdge p w way root end old width b) →
-    ((b : ℕ) → b * width + width < end → 2 * b + 1 < length old) →
     (b : ℕ) → block * width < b * width + width → b * width + width < end → IsEdge p w way root end new width b
-edges_more p w way root end width block old mid new leaf last some inside same one kept two as_was here later room b after before =
-    let m = length p.arena.expr.nodes in
+edges_more p w way root end width block old new leaf last some keeps copied here later b after before =
     ⊎_elim
     (λ (lt : block < b).
     let up : block + 1 ≤ b = omega arith in
     let far : block * width + width < b * width + width = (let h = mul-le-mul_left width up in omega (arith, h, some)) in
-    let there = room b before in
-    let first : row_of new (2 * b) ≡ row_of old (2 * b) = as_was (2 * b) (omega (arith, same)) (λ e. omega arith) ∙ kept (2 * b) (omega arith) (λ e. omega arith) in
-    let second : row_of new (2 * b + 1) ≡ row_of old (2 * b + 1) = as_was (2 * b + 1) (omega (arith, same)) (λ e. omega arith) ∙ kept (2 * b + 1) (omega arith) (λ e. omega arith) in
+    let first : row_of new (2 * b) ≡ row_of old (2 * b) = keeps.same (2 * b) (λ e. omega (arith, e, lt), λ e. omega arith) in
+    let second : row_of new (2 * b + 1) ≡ row_of old (2 * b + 1) = keeps.same (2 * b + 1) (λ e. omega arith, λ e. omega (arith, e, lt)) in
     rw (first, second) (later b far before))
     (λ (ge : b ≤ block).
     let e : b ≡ block =
     elim (cases_lt b block) [ inl lt ↦ let up : b + 1 ≤ block = omega arith in let h = mul-le-mul_left width up in absurd (omega (arith, h, after)) | inr le ↦ omega arith ] in
-    let first : bits m (row_of new (2 * block)) ≡ bits m leaf = ap (λ r. bits m r) (as_was (2 * block) (omega (arith, same)) (λ e. omega arith)) ∙ bits_agree m (row_of mid (2 * block)) leaf one in
-    let second : bits m (row_of new (2 * block + 1)) ≡ bits m last = bits_agree m (row_of new (2 * block + 1)) last two in
-    rw (e, first, second) here)
+    rw (e, copied.0, copied.1) here)
     (cases_lt block b)
 
 -- Costs.
@@ -212,17 +202,6 @@ space_then a b c one two = record { places = two.places ∙ one.places; edges = 
 -- the same region, over two calls
 pub same_kept : (a b c : Kept) → SameKept a b → SameKept b c → SameKept a c
 same_kept a b c one two = record { root = two.root ∙ one.root; end = two.end ∙ one.end; space = space_then a b c one.space two.space }
-
--- rows that are as long as they were, over two calls
-row_past : (rows : List (List Bool)) (q : ℕ) → length rows ≤ q → length (row_of rows q) ≡ 0
-row_past [] q past = refl
-row_past (row ∷ rows) zero past = absurd (omega arith)
-row_past (row ∷ rows) (suc q) past = row_past rows q (omega arith)
-
-pub rows_long : (a b c : List (List Bool)) → length b ≡ length a → length c ≡ length b → ((q : ℕ) → q < length a → length (row_of b q) ≡ length (row_of a q)) →
-    ((q : ℕ) → q < length b → length (row_of c q) ≡ length (row_of b q)) → (q : ℕ) → length (row_of c q) ≡ length (row_of a q)
-rows_long a b c one two first second q =
-    elim (cases_lt q (length a)) [ inl lt ↦ second q (omega (arith, lt, one)) ∙ first q lt | inr ge ↦ row_past c q (omega (arith, ge, one, two)) ∙ sym (row_past a q ge) ]
 
 pub same_shape : (a b c : Table) → SameShape a b → SameShape b c → SameShape a c
 same_shape a b c one two = (two.0 ∙ one.0, two.1 ∙ one.1, two.2 ∙ one.2, two.3 ∙ one.3, two.4 ∙ one.4)
@@ -389,25 +368,25 @@ kept_read p w t k q s kept before is =
     is ∙ get_or_default k.states.items q s 0 inside
 
 -- whether a node is marked at a place whose state is in the table
-pub kept_mark : (p : Prepared) (w : List ℕ) (t : Table) (k : Kept) (x q s : ℕ) (mark : Bool) → IsKept p w t k → x < length p.arena.expr.nodes → k.region.from ≤ q → q < k.region.to → s ≡ slice_index_or k.states.items q s →
-    mark ≡ slice_index_or (row_of t.ends s) x false → IsTrue mark ↔ ReachesEnd p.arena.expr.nodes w k.region.root (ends_shown t.way.all_starts (length w) k.region.end) x q
-kept_mark p w t k x q s mark kept inside above before read is =
+pub kept_mark : (p : Prepared) (w : List ℕ) (t : Table) (k : Kept) (x q s row : ℕ) (mark : Bool) → IsKept p w t k → x < length p.arena.expr.nodes → k.region.from ≤ q → q < k.region.to → s ≡ slice_index_or k.states.items q s →
+    row ≡ ends_row s → mark ≡ slice_index_or (row_of t.rows row) x false → IsTrue mark ↔ ReachesEnd p.arena.expr.nodes w k.region.root (ends_shown t.way.all_starts (length w) k.region.end) x q
+kept_mark p w t k x q s row mark kept inside above before read at_row is =
     let m = length p.arena.expr.nodes in
     let region : IsRegion p w t k = kept.region in
     let live : IsLive p w t k.region.root k.region.end k.states.items q = kept.live q above before in
     let at : KeptAt p w t.way k.region.root k.region.end q (state_of m t s) = subst (λ v. KeptAt p w t.way k.region.root k.region.end q (state_of m t v)) (sym (kept_read p w t k q s kept before read)) live.1 in
-    let bit : bits m (row_of t.ends s) x ≡ mark = bits_here m (row_of t.ends s) x inside ∙ sym is in
+    let bit : bits m (row_of t.rows (ends_row s)) x ≡ mark = bits_here m (row_of t.rows (ends_row s)) x inside ∙ sym (is ∙ ap (λ y. slice_index_or (row_of t.rows y) x false) at_row) in
     let there : q ≤ length w = (let h = region.within in let g = region.inside in omega (arith, h, g, before)) in
     subst (λ b. IsTrue b ↔ ReachesEnd p.arena.expr.nodes w k.region.root (ends_shown t.way.all_starts (length w) k.region.end) x q) bit
-    (kept_reaches p.arena.expr w t.way.mirrored t.way.all_starts t.way.mirrored k.region.root k.region.end q x (bits m (row_of t.leaves s)) (bits m (row_of t.ends s)) region.table.expr.arena region.room.mirrored region.room.mirrored there region.inside at.1)
+    (kept_reaches p.arena.expr w t.way.mirrored t.way.all_starts t.way.mirrored k.region.root k.region.end q x (bits m (row_of t.rows (leaves_row s))) (bits m (row_of t.rows (ends_row s))) region.table.expr.arena region.room.mirrored region.room.mirrored there region.inside at.1)
 
--- and its row there
-pub kept_row : (p : Prepared) (w : List ℕ) (t : Table) (k : Kept) (q s : ℕ) → IsKept p w t k → k.region.from ≤ q → q < k.region.to → s ≡ slice_index_or k.states.items q s →
-    (s < length t.ends) × (length p.arena.expr.nodes ≤ length (row_of t.ends s))
-kept_row p w t k q s kept above before read =
+-- and its rows are there
+pub kept_rows : (p : Prepared) (w : List ℕ) (t : Table) (k : Kept) (q s : ℕ) → IsKept p w t k → k.region.from ≤ q → q < k.region.to → s ≡ slice_index_or k.states.items q s → AreWide (length p.arena.expr.nodes) s t.rows
+kept_rows p w t k q s kept above before read =
     let room = kept.region.table.room in
+    let rows = room.rows in
     let low : s < t.room = (let most = room.count in omega (arith, (kept.live q above before).0, most, kept_read p w t k q s kept before read)) in
-    (omega (arith, low, room.rows.ends), (let all = room.rows.end_marks s low in let marks = room.marks in omega (arith, all, marks)))
+    (omega (arith, low, rows.few), omega (arith, low, rows.rows), λ row lt. omega (arith, rows.long row lt, room.marks))
 
 -- a mark that is as asked, and one that isn't
 pub as_asked : (A : Type 0) (mark asked : Bool) → beq mark asked ≡ true → (IsTrue mark ↔ A) → IsTrue asked ↔ A
@@ -431,12 +410,12 @@ marked_then nodes w r x t asked from place to passed more q after before =
     ⊎_elim (λ (lt : q < place). passed q after lt) (λ (ge : place ≤ q). more q ge before) (cases_lt q place)
 
 -- a node that is last in the region, before its end
-pub mark_spans : (p : Prepared) (w : List ℕ) (t : Table) (k : Kept) (x q s : ℕ) (mark : Bool) → IsKept p w t k → t.way.all_starts ≡ false → IsLastIn p.arena.expr.nodes k.region.root x → k.region.from ≤ q → q < k.region.to → s ≡ slice_index_or k.states.items q s →
-    mark ≡ slice_index_or (row_of t.ends s) x false → IsTrue mark ↔ HasSpan p.arena.expr.nodes w x q k.region.end
-mark_spans p w t k x q s mark kept one last above before read is =
+pub mark_spans : (p : Prepared) (w : List ℕ) (t : Table) (k : Kept) (x q s row : ℕ) (mark : Bool) → IsKept p w t k → t.way.all_starts ≡ false → IsLastIn p.arena.expr.nodes k.region.root x → k.region.from ≤ q → q < k.region.to → s ≡ slice_index_or k.states.items q s →
+    row ≡ ends_row s → mark ≡ slice_index_or (row_of t.rows row) x false → IsTrue mark ↔ HasSpan p.arena.expr.nodes w x q k.region.end
+mark_spans p w t k x q s row mark kept one last above before read at_row is =
     let arena = kept.region.table.expr.arena in
     let up = last_inside p.arena.expr.nodes w k.region.root (one_start k.region.end) arena x last in
-    let shows : IsTrue mark ↔ ReachesEnd p.arena.expr.nodes w k.region.root (ends_shown t.way.all_starts (length w) k.region.end) x q = kept_mark p w t k x q s mark kept (omega (arith, kept.region.root.0, up)) above before read is in
+    let shows : IsTrue mark ↔ ReachesEnd p.arena.expr.nodes w k.region.root (ends_shown t.way.all_starts (length w) k.region.end) x q = kept_mark p w t k x q s row mark kept (omega (arith, kept.region.root.0, up)) above before read at_row is in
     let same : IsTrue mark ↔ ReachesEnd p.arena.expr.nodes w k.region.root (one_start k.region.end) x q =
     subst (λ b. IsTrue mark ↔ ReachesEnd p.arena.expr.nodes w k.region.root (ends_shown b (length w) k.region.end) x q) one shows in
     let both = reaches_last p.arena.expr.nodes w k.region.root k.region.end x q arena last in
@@ -469,11 +448,11 @@ bits_meet m front behind met shows = (
 )
 
 -- and so whether the passes meet at the place, as its state is read
-pub meet_read : (p : Prepared) (w : List ℕ) (t forward_one : Table) (k : Kept) (a i place offset n front_state s : ℕ) (met : Bool) → IsKept p w t k → k.region.from ≤ place → place < k.region.to → Follows p w forward_one a i place offset →
-    n ≡ length p.arena.expr.nodes → front_state ≡ offset / 2 ^ forward_one.layout.shift → s ≡ slice_index_or k.states.items place s →
-    (IsTrue met ↔ ((c : ℕ) × (c < n) × IsTrue (slice_index_or (row_of forward_one.leaves front_state) c false) × IsTrue (slice_index_or (row_of t.ends s) c false))) →
+pub meet_read : (p : Prepared) (w : List ℕ) (t forward_one : Table) (k : Kept) (a i place offset n front_row s behind_row : ℕ) (met : Bool) → IsKept p w t k → k.region.from ≤ place → place < k.region.to → Follows p w forward_one a i place offset →
+    n ≡ length p.arena.expr.nodes → front_row ≡ leaves_row (offset / 2 ^ forward_one.layout.shift) → s ≡ slice_index_or k.states.items place s → behind_row ≡ ends_row s →
+    (IsTrue met ↔ ((c : ℕ) × (c < n) × IsTrue (slice_index_or (row_of forward_one.rows front_row) c false) × IsTrue (slice_index_or (row_of t.rows behind_row) c false))) →
     IsTrue met ↔ MeetsAt p.arena.expr.nodes w k.region.root (ends_shown t.way.all_starts (length w) k.region.end) a (one_start i) place
-meet_read p w t forward_one k a i place offset n front_state s met kept above before follows count front_is read shows =
+meet_read p w t forward_one k a i place offset n front_row s behind_row met kept above before follows count front_is read behind_is shows =
     let m = length p.arena.expr.nodes in
     let region : IsRegion p w t k = kept.region in
     let front = state_of m forward_one (offset / 2 ^ forward_one.layout.shift) in
@@ -481,9 +460,10 @@ meet_read p w t forward_one k a i place offset n front_state s met kept above be
     let live : IsLive p w t k.region.root k.region.end k.states.items place = kept.live place above before in
     let at : KeptAt p w t.way k.region.root k.region.end place behind = subst (λ v. KeptAt p w t.way k.region.root k.region.end place (state_of m t v)) (sym (kept_read p w t k place s kept before read)) live.1 in
     let there : place ≤ length w = (let h = region.within in let g = region.inside in omega (arith, h, g, before)) in
-    let one : IsTrue met ↔ ((c : ℕ) × IsTrue (front.entered c) × IsTrue (behind.ended c)) = bits_meet m (row_of forward_one.leaves (offset / 2 ^ forward_one.layout.shift)) (row_of t.ends s) met
-    (subst (λ v. IsTrue met ↔ ((c : ℕ) × (c < m) × IsTrue (slice_index_or (row_of forward_one.leaves v) c false) × IsTrue (slice_index_or (row_of t.ends s) c false))) front_is
-    (subst (λ v. IsTrue met ↔ ((c : ℕ) × (c < v) × IsTrue (slice_index_or (row_of forward_one.leaves front_state) c false) × IsTrue (slice_index_or (row_of t.ends s) c false))) count shows)) in
+    let one : IsTrue met ↔ ((c : ℕ) × IsTrue (front.entered c) × IsTrue (behind.ended c)) = bits_meet m (row_of forward_one.rows (leaves_row (offset / 2 ^ forward_one.layout.shift))) (row_of t.rows (ends_row s)) met
+    (subst (λ v. IsTrue met ↔ ((c : ℕ) × (c < m) × IsTrue (slice_index_or (row_of forward_one.rows v) c false) × IsTrue (slice_index_or (row_of t.rows (ends_row s)) c false))) front_is
+    (subst (λ v. IsTrue met ↔ ((c : ℕ) × (c < m) × IsTrue (slice_index_or (row_of forward_one.rows front_row) c false) × IsTrue (slice_index_or (row_of t.rows v) c false))) behind_is
+    (subst (λ v. IsTrue met ↔ ((c : ℕ) × (c < v) × IsTrue (slice_index_or (row_of forward_one.rows front_row) c false) × IsTrue (slice_index_or (row_of t.rows behind_row) c false))) count shows))) in
     let row : RowOfPlace p.arena.expr.nodes w a (one_start i) forward_one.way.mirrored place front.entered front.ended = subst (λ r. RowOfPlace p.arena.expr.nodes w r (one_start i) forward_one.way.mirrored place front.entered front.ended) follows.0 follows.1 in
     let two = kept_meets p.arena.expr w t.way.mirrored t.way.all_starts t.way.mirrored forward_one.way.mirrored k.region.root a i k.region.end place front.entered front.ended behind.entered behind.ended
     region.table.expr.arena region.room.mirrored region.room.mirrored there region.inside row at.1 in

@@ -1,10 +1,10 @@
 -- How the marks at a place follow from what the leaves took, and what a row shows.
-use Rattle.std.proofs.Common.{length-set, ◌≡◌, ℕ, ◌+◌, ◌-◌, ◌*◌, ◌<◌, ◌≤◌, ◌⊎◌, ◌↔◌, Bool, List, length, Option, Some, None, IsTrue, refl, sym, ap, ◌∙◌, subst, inl, inr, ⊎_elim, true≢false, true, false, ◌&&◌, ◌||◌, arith, slice_get, slice_index_or, slice_set, eqb, nat_lt, reverse}
+use Rattle.std.proofs.Common.{length-set, ◌≡◌, ◌≢◌, ℕ, ◌+◌, ◌-◌, ◌*◌, ◌<◌, ◌≤◌, ◌⊎◌, ◌↔◌, Bool, List, length, Option, Some, None, IsTrue, refl, sym, ap, ◌∙◌, subst, inl, inr, ⊎_elim, true≢false, true, false, ◌&&◌, ◌||◌, arith, slice_get, slice_index_or, slice_set, eqb, nat_lt, reverse}
 use Rattle.std.proofs.Math.Path.{fun_ext}
-use Rattle.sedpass.proofs.Words.{slice_get_within, get_or-set_same, get_or-set_other, and_parts, and_from, cases_lt, cases_eq, eqb-true, eq-eqb, lt-ltb, le-ltb, IsArena, IsPart, WrittenExpression, tree_at, mirror_node, seen, seen-node, old_node, Node, NodeId, Empty, Set, Begin, End, Seq, Alt, Group, Star, Opt, Starts, CopiesLead, byte_is_in, enter_parts, takes_any, AgreeBelow, HasSpan, IsStart, one_start, SomeSpan, BeginsWith, Marked, Enters, at_root, with_whole, after_left, again, CanEnd, Matches-forward, CopiesLead-append, CopiesLead-last, open_at, close_at, takes_some, FromNode, Enters-from, Enters-part, Enters-inside, Enters-root, BeginsWith-part, both-iff, either-iff}
+use Rattle.sedpass.proofs.Words.{slice_get_within, get_or-set_same, get_or-set_other, and_parts, and_from, cases_lt, cases_eq, eqb-true, eq-eqb, lt-ltb, le-ltb, IsArena, IsPart, WrittenExpression, tree_at, mirror_node, seen, seen-node, old_node, Node, NodeId, Empty, Set, Begin, End, Seq, Alt, Group, Star, Opt, Starts, CopiesLead, byte_is_in, enter_parts, takes_any, AgreeBelow, KeepsRows, row_of, HasSpan, IsStart, one_start, SomeSpan, BeginsWith, Marked, Enters, at_root, with_whole, after_left, again, CanEnd, Matches-forward, CopiesLead-append, CopiesLead-last, open_at, close_at, takes_some, FromNode, Enters-from, Enters-part, Enters-inside, Enters-root, BeginsWith-part, both-iff, either-iff}
 use Rattle.sedre.specs.Packed.{PartsBelow}
 use Rattle.sedpass.specs.Regions.{EndsPastIn, Opposite, ReachesEnd, MeetsAt}
-use Rattle.sedpass.specs.Rows.{Took, SameBytes, NoneEntered, InTree, is_tree, part_of, IsNodeRange, TreeBelow, TreeFrom, AreNull, ended_by, enter_looks, bits, ShowTook, RowOfPlace, LeafAt, EndKept, ShowFrom, RowFrom, RowLeadsTo}
+use Rattle.sedpass.specs.Rows.{Took, SameBytes, NoneEntered, InTree, is_tree, part_of, IsNodeRange, TreeBelow, TreeFrom, AreNull, ended_by, enter_looks, AreWide, bits, ShowTook, RowOfPlace, LeafAt, EndKept, ShowFrom, RowFrom, RowLeadsTo}
 use Rattle.sedpass.proofs.LeaveLemmas.{ends_at, reaches_mirror}
 use Rattle.sedpass.proofs.MeetingLemmas.{meets_whole}
 
@@ -478,15 +478,39 @@ first_bits nodes w r s leaves c members inside is = (
   λ h. let up = Enters-from nodes w r s c h.0 h.2 in let next = h.1 in absurd (omega arith),
 )
 
--- Marks enough.
+-- Rows of marks.
 
-pub set_long : (m : ℕ) (xs ys : List Bool) (i : ℕ) (v : Bool) → ys ≡ slice_set xs i v → m ≤ length xs → m ≤ length ys
-set_long m xs ys i v is low = omega (arith, ap length is, length-set xs i v, low)
+pub keeps_none : (P : ℕ → Type 0) (rows : List (List Bool)) → KeepsRows P rows rows
+keeps_none P rows = record { len = refl; lens = λ q. refl; same = λ q is. refl }
 
-pub enter_long : (m : ℕ) (xs ys : List Bool) (here : Bool) (null ended : ℕ → Bool) (node : Node) → ys ≡ enter_parts here null ended node xs → m ≤ length xs → m ≤ length ys
-enter_long m xs ys here null ended (Seq a b) is low = set_long m _ ys b.index _ is (set_long m xs _ a.index here refl low)
-enter_long m xs ys here null ended (Alt a b) is low = set_long m _ ys b.index _ is (set_long m xs _ a.index here refl low)
-enter_long m xs ys here null ended (Group k a) is low = set_long m xs ys a.index _ is low
-enter_long m xs ys here null ended (Star a first) is low = set_long m xs ys a.index _ is low
-enter_long m xs ys here null ended (Opt a first) is low = set_long m xs ys a.index _ is low
-enter_long m xs ys here null ended other is low = omega (arith, ap length is, low)
+pub keeps_then : (P Q R : ℕ → Type 0) (a b c : List (List Bool)) → ((q : ℕ) → R q → P q × Q q) → KeepsRows P a b → KeepsRows Q b c → KeepsRows R a c
+keeps_then P Q R a b c less one two =
+    record { len = two.len ∙ one.len; lens = λ q. two.lens q ∙ one.lens q; same = λ q is. two.same q (less q is).1 ∙ one.same q (less q is).0 }
+
+-- there are still rows enough
+pub still_wide : (P : ℕ → Type 0) (m state : ℕ) (old new : List (List Bool)) → KeepsRows P old new → AreWide m state old → AreWide m state new
+still_wide P m state old new keeps wide = (wide.0, omega (arith, wide.1, keeps.len), λ q lt. omega (arith, keeps.lens q, wide.2 q (omega (arith, lt, keeps.len))))
+
+-- two rows were copied, one after the other
+pub copied_rows : (m n to last_to : ℕ) (mid new : List (List Bool)) (leaf last : List Bool) → n ≡ m → to ≢ last_to → AgreeBelow n (row_of mid to) leaf → KeepsRows (λ q. q ≢ last_to) mid new → AgreeBelow n (row_of new last_to) last →
+    (bits m (row_of new to) ≡ bits m leaf) × (bits m (row_of new last_to) ≡ bits m last)
+copied_rows m n to last_to mid new leaf last count apart one keeps two = (
+  ap (bits m) (keeps.same to apart) ∙ bits_agree m (row_of mid to) leaf (subst (λ x. AgreeBelow x (row_of mid to) leaf) count one),
+  bits_agree m (row_of new last_to) last (subst (λ x. AgreeBelow x (row_of new last_to) last) count two),
+)
+
+-- the rows but the first and two more
+abbrev pub Others : ℕ → ℕ → ℕ → Type 0
+Others leaves ends q = (1 ≤ q) × (q ≢ leaves) × (q ≢ ends)
+
+-- marks of three rows were written
+pub rows_written : (leaves ends x : ℕ) (leaf kept : Bool) (old mid one two : List (List Bool)) → 1 ≤ leaves → leaves < ends → KeepsRows (λ q. q ≢ 0) old mid → KeepsRows (λ q. q ≢ leaves) mid one → row_of one leaves ≡ slice_set (row_of mid leaves) x leaf →
+    KeepsRows (λ q. q ≢ ends) one two → row_of two ends ≡ slice_set (row_of one ends) x kept →
+    KeepsRows (Others leaves ends) old two × (row_of two 0 ≡ row_of mid 0) × (row_of two leaves ≡ slice_set (row_of old leaves) x leaf) × (row_of two ends ≡ slice_set (row_of old ends) x kept)
+rows_written leaves ends x leaf kept old mid one two some apart a b leaf_is c kept_is = (
+  keeps_then (λ q. (q ≢ 0) × (q ≢ leaves)) (λ q. q ≢ ends) (Others leaves ends) old one two (λ q is. ((λ e. omega (arith, e, is.0), is.1), is.2))
+      (keeps_then (λ q. q ≢ 0) (λ q. q ≢ leaves) (λ q. (q ≢ 0) × (q ≢ leaves)) old mid one (λ q is. is) a b) c,
+  c.same 0 (λ e. omega (arith, e, some, apart)) ∙ b.same 0 (λ e. omega (arith, e, some)),
+  c.same leaves (λ e. omega (arith, e, apart)) ∙ leaf_is ∙ ap (λ l. slice_set l x leaf) (a.same leaves (λ e. omega (arith, e, some))),
+  kept_is ∙ ap (λ l. slice_set l x kept) (b.same ends (λ e. omega (arith, e, apart)) ∙ a.same ends (λ e. omega (arith, e, some, apart))),
+)

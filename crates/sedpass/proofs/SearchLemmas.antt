@@ -354,9 +354,9 @@ comes_tired p w a a' old mid from place before after shape space is is' few made
     }
 
 -- a search by trials leaves all as it was but for the table of passes forwards
-pub searched_by : (p : Prepared) (w : List ℕ) (first : Begins) (a a' b : Table) (s : Seeking) (tried : ℕ) → MaySearch p w first a b s → IsForwardOne p a' → SameShape a a' →
+pub searched_by : (p : Prepared) (w : List ℕ) (a a' b : Table) (s : Seeking) (tried : ℕ) → MaySearch p w a b s → IsForwardOne p a' → SameShape a a' →
     Searched p w a a' b b s (record s { tried = tried })
-searched_by p w first a a' b s tried ready forward_one shape =
+searched_by p w a a' b s tried ready forward_one shape =
     record {
       tables = record { forward_one = forward_one; forward_one_shape = shape; reverse_any_shape = (refl, refl, refl, refl, refl); space = record { places = refl; edges = refl; marks = λ q. refl } };
       serves = record {

@@ -1,11 +1,11 @@
 -- Tables of states.
 use Rattle.std.proofs.Common.{◌≡◌, ◌≢◌, ℕ, zero, suc, ◌+◌, ◌*◌, ◌/◌, ◌%◌, ◌^◌, ◌<◌, ◌≤◌, ◌↔◌, Bool, true, false, List, length, length-set, Option, Some, IsTrue, refl, sym, ap, ◌∙◌, subst, ⊎_elim, arith, min, mul-le-mul_left, slice_index_or, slice_set, replicate, vec_capacity}
-use Rattle.sedpass.proofs.Words.{same_from_place, shl-shr, shl_whole, shl_below, from_bool, with_item, pow-le-pow_right, cases_eq, get_or-set_same, get_or-set_other, get_or_default, IsExpr, WrittenExpression, mirror_node, seen, old_node, Node, Set, AgreeBelow, row_of, StateFlags, PlaceKind, Prepared, Way, Work, Beginning, Table}
-use Rattle.sedpass.specs.Rows.{IsWide, nodes_of, at_begin, at_edge, bits, SameBytes, RowLeadsTo, IsFirstRow}
-use Rattle.sedpass.specs.Table.{PassState, state_of, FlagsShow, HasRow, HasMarks, LeadsOn, BeginsIn, NamesState, IsNext, IsOffset, cell_of, LeadsBy, kind_number, beginning_at, beginning_of, MayBegin, HasRoom, HasRows, IsRoomy, IsTable, SameRoom, SameShape, AddsStates, Codes, code_of, column_at, IsLayout, IsColumn}
+use Rattle.sedpass.proofs.Words.{same_from_place, shl-shr, shl_whole, shl_below, from_bool, with_item, pow-le-pow_right, cases_eq, get_or-set_same, get_or-set_other, get_or_default, IsExpr, WrittenExpression, mirror_node, seen, old_node, Node, Set, AgreeBelow, KeepsRows, row_of, StateFlags, PlaceKind, Prepared, Way, Beginning, Table}
+use Rattle.sedpass.specs.Rows.{IsApart, nodes_of, at_begin, at_edge, bits, leaves_row, ends_row, SameBytes, RowLeadsTo, IsFirstRow}
+use Rattle.sedpass.specs.Table.{PassState, state_of, FlagsShow, HasRow, HasNewRow, HasPlace, LeadsOn, BeginsIn, NamesState, IsNext, IsOffset, cell_of, LeadsBy, kind_number, beginning_at, beginning_of, MayBegin, HasRoom, HasRows, IsRoomy, IsTable, SameRoom, SameShape, AddsStates, Codes, code_of, column_at, IsLayout, IsColumn}
 use Rattle.sedpass.specs.declared.cells.Layout.{Layout}
 use Rattle.sedpass.proofs.LeaveLemmas.{twice}
-use Rattle.sedpass.proofs.RowLemmas.{bits_agree, bits_clear, bits_here, class_row}
+use Rattle.sedpass.proofs.RowLemmas.{bits_clear, bits_here, class_row, copied_rows, keeps_then}
 use Rattle.sedpass.proofs.ClassLemmas.{bit_low, sides}
 
 -- Rows.
@@ -19,14 +19,14 @@ state r e d = record { root = r; entered = e; ended = d }
 pub state_same : (r r' : ℕ) (e e' d d' : ℕ → Bool) → r ≡ r' → e ≡ e' → d ≡ d' → state r e d ≡ state r' e' d'
 state_same r r' e e' d d' a b c = ap (λ x. state x e d) a ∙ ap (λ x. state r' x d) b ∙ ap (state r' e') c
 
--- the marks show the flags of a state that has their row
-pub marks_show : (p : Prepared) (root : ℕ) (work : Work) (a : PassState) (flags : StateFlags) → root < length p.arena.expr.nodes → flags.ends ≡ slice_index_or work.ends root false →
-    (IsTrue flags.dead ↔ ((c : ℕ) → c < length p.arena.expr.nodes → slice_index_or work.leaves c false ≡ false)) → HasMarks p root work a → FlagsShow a flags
-marks_show p root work a flags inside ends dead has =
-    let m = length p.arena.expr.nodes in
-    let law = bits_dead m work.leaves in
-    subst (λ x. FlagsShow x flags) (state_same root a.root (bits m work.leaves) a.entered (bits m work.ends) a.ended (sym has.0) (sym has.1) (sym has.2))
-    (ends ∙ sym (bits_here m work.ends root inside), (λ h. law.0 (dead.0 h), λ h. dead.1 (law.1 h)))
+-- the row that is being made shows the flags of a state that has it
+pub marks_show : (m : ℕ) (t : Table) (root : ℕ) (a : PassState) (flags : StateFlags) → root < m → flags.ends ≡ slice_index_or (row_of t.rows (ends_row t.count)) root false →
+    (IsTrue flags.dead ↔ ((c : ℕ) → c < m → slice_index_or (row_of t.rows (leaves_row t.count)) c false ≡ false)) → HasNewRow m t root a → FlagsShow a flags
+marks_show m t root a flags inside ends dead has =
+    let law = bits_dead m (row_of t.rows (leaves_row t.count)) in
+    let made = state_of m t t.count in
+    subst (λ x. FlagsShow x flags) (state_same root a.root made.entered a.entered made.ended a.ended (sym has.0) (sym has.1) (sym has.2))
+    (ends ∙ sym (bits_here m (row_of t.rows (ends_row t.count)) root inside), (λ h. law.0 (dead.0 h), λ h. dead.1 (law.1 h)))
 
 -- Places of cells.
 
@@ -202,7 +202,6 @@ note_cell p t table offset k v byte edge there small column leads =
       count = old.count;
       marks = old.marks;
       rows = old.rows;
-      work = old.work;
       cells = omega (arith, length-set t.cells.items (offset + k) v, old.cells);
       reserved = old.reserved;
       index = old.index;
@@ -248,7 +247,6 @@ note_beginning p t table root code kind may epoch begins =
       count = old.count;
       marks = old.marks;
       rows = old.rows;
-      work = old.work;
       cells = old.cells;
       reserved = old.reserved;
       index = old.index;
@@ -298,7 +296,6 @@ emptied p t epoch expr room layout later =
       count = omega arith;
       marks = room.marks;
       rows = room.rows;
-      work = room.work;
       cells = omega arith;
       reserved = room.reserved;
       index = room.index;
@@ -309,33 +306,30 @@ emptied p t epoch expr room layout later =
     no_states p (record t { count = 0; epoch = epoch }) expr empty layout refl past
 
 -- the same states
-pub adds_same : (m : ℕ) (t t' : Table) → SameShape t t' → t'.epoch ≡ t.epoch → t'.count ≡ t.count → ((q : ℕ) → state_of m t' q ≡ state_of m t q) → AddsStates m t t'
+pub adds_same : (m : ℕ) (t t' : Table) → SameShape t t' → t'.epoch ≡ t.epoch → t'.count ≡ t.count → ((q : ℕ) → q < t.count → state_of m t' q ≡ state_of m t q) → AddsStates m t t'
 adds_same m t t' shape epoch count same = record {
   shape = shape;
   grows = λ e. (omega arith, omega arith);
-  kept = λ e q low. same q;
+  kept = λ e. same;
   full = λ room. epoch;
   forgot = λ ne. absurd (ne epoch);
 }
 
 -- a new state
-module _ (m : ℕ) (t t' : Table) (root : ℕ) (leaves ends : List Bool) (there : t.count < t.room) (room : HasRoom m t) (shape : SameShape t t') (epoch : t'.epoch ≡ t.epoch) (count : t'.count ≡ t.count + 1)
-    (other_leaves : (q : ℕ) → q < length t.leaves → q ≢ t.count → row_of t'.leaves q ≡ row_of t.leaves q) (new_leaves : AgreeBelow m (row_of t'.leaves t.count) leaves)
-    (other_ends : (q : ℕ) → q < length t.ends → q ≢ t.count → row_of t'.ends q ≡ row_of t.ends q) (new_ends : AgreeBelow m (row_of t'.ends t.count) ends)
+module _ (m : ℕ) (t t' : Table) (root : ℕ) (there : t.count < t.room) (room : HasRoom m t) (shape : SameShape t t') (epoch : t'.epoch ≡ t.epoch) (count : t'.count ≡ t.count + 1) (rows : t'.rows ≡ t.rows)
     (roots : t'.roots.items ≡ slice_set t.roots.items t.count root) where
-  pub state_added : state_of m t' t.count ≡ state root (bits m leaves) (bits m ends)
-  state_added = state_same (slice_index_or t'.roots.items t.count 0) root (bits m (row_of t'.leaves t.count)) (bits m leaves) (bits m (row_of t'.ends t.count)) (bits m ends)
-      (ap (λ l. slice_index_or l t.count 0) roots ∙ get_or-set_same t.roots.items t.count root 0 (omega (arith, room.rows.roots)))
-      (bits_agree m (row_of t'.leaves t.count) leaves new_leaves)
-      (bits_agree m (row_of t'.ends t.count) ends new_ends)
+  pub state_added : HasNewRow m t root (state_of m t' t.count)
+  state_added = (
+    ap (λ l. slice_index_or l t.count 0) roots ∙ get_or-set_same t.roots.items t.count root 0 (omega (arith, room.rows.roots)),
+    ap (λ r. bits m (row_of r (leaves_row t.count))) rows,
+    ap (λ r. bits m (row_of r (ends_row t.count))) rows,
+  )
 
   state_kept : (q : ℕ) → q < t.count → state_of m t' q ≡ state_of m t q
   state_kept q low =
-      let ne : q ≢ t.count = λ e. omega arith in
-      state_same (slice_index_or t'.roots.items q 0) (slice_index_or t.roots.items q 0) (bits m (row_of t'.leaves q)) (bits m (row_of t.leaves q)) (bits m (row_of t'.ends q)) (bits m (row_of t.ends q))
-      (ap (λ l. slice_index_or l q 0) roots ∙ get_or-set_other t.roots.items t.count q root 0 ne)
-      (ap (bits m) (other_leaves q (omega (arith, room.rows.leaves)) ne))
-      (ap (bits m) (other_ends q (omega (arith, room.rows.ends)) ne))
+      ap (λ r. state (slice_index_or t'.roots.items q 0) (bits m (row_of r (leaves_row q))) (bits m (row_of r (ends_row q)))) rows
+      ∙ ap (λ x. state x (bits m (row_of t.rows (leaves_row q))) (bits m (row_of t.rows (ends_row q))))
+      (ap (λ l. slice_index_or l q 0) roots ∙ get_or-set_other t.roots.items t.count q root 0 (λ e. omega arith))
 
   pub state_adds : AddsStates m t t'
   state_adds = record {
@@ -354,30 +348,21 @@ root_read p t table offset state root there at is =
     is ∙ ap (λ x. slice_index_or t.roots.items x root) at ∙ get_or_default t.roots.items (offset / 2 ^ t.layout.shift) root 0 inside
 
 -- the next state, as it was added to the table or found there
-module _ (p : Prepared) (t u : Table) (table : IsTable p t) (offset : ℕ) (there : IsOffset t offset) (state n root byte v : ℕ) (loaded : List Bool) (work : Work) (at : state ≡ offset / 2 ^ t.layout.shift) (nodes : n ≡ length p.arena.expr.nodes)
-    (root_is : root ≡ slice_index_or t.roots.items state root) (row : AgreeBelow n loaded (row_of t.leaves state)) (names : NamesState (length p.arena.expr.nodes) u (HasMarks p root work) v) where
+module _ (p : Prepared) (t u : Table) (table : IsTable p t) (offset : ℕ) (there : IsOffset t offset) (state root byte v : ℕ) (rows : List (List Bool)) (at : state ≡ offset / 2 ^ t.layout.shift)
+    (root_is : root ≡ slice_index_or t.roots.items state root) (names : NamesState (length p.arena.expr.nodes) u (HasNewRow (length p.arena.expr.nodes) (record t { rows = rows }) root) v) where
   abbrev here : PassState
   here = state_of (length p.arena.expr.nodes) t (offset / 2 ^ t.layout.shift)
 
-  same_root : root ≡ here.root
-  same_root = root_read p t table offset state root there at root_is
+  abbrev Leads : Bool → ℕ → ℕ → Type 0
+  Leads edge q r = (before : ℕ → Bool) → RowLeadsTo (nodes_of t.way p.arena.expr) r t.way.mirrored (bits (length p.arena.expr.nodes) (row_of t.rows (leaves_row q))) before (Some byte) edge t.way.all_starts
+      (bits (length p.arena.expr.nodes) (row_of rows (leaves_row t.count))) (bits (length p.arena.expr.nodes) (row_of rows (ends_row t.count)))
 
-  same_row : bits (length p.arena.expr.nodes) loaded ≡ here.entered
-  same_row = bits_agree (length p.arena.expr.nodes) loaded (row_of t.leaves (offset / 2 ^ t.layout.shift))
-      (subst (λ x. AgreeBelow (length p.arena.expr.nodes) loaded (row_of t.leaves x)) at (subst (λ x. AgreeBelow x loaded (row_of t.leaves state)) nodes row))
-
-  abbrev Leads : Bool → Type 0
-  Leads edge = (before : ℕ → Bool) → RowLeadsTo (nodes_of t.way p.arena.expr) root t.way.mirrored (bits (length p.arena.expr.nodes) loaded) before (Some byte) edge t.way.all_starts (bits (length p.arena.expr.nodes) work.leaves) (bits (length p.arena.expr.nodes) work.ends)
-
-  leads_state : (edge : Bool) → Leads edge → (b : PassState) → HasMarks p root work b → LeadsOn (nodes_of t.way p.arena.expr) t.way here byte edge b
-  leads_state edge leads b has = (
-    has.0 ∙ same_root,
-    rw (has.2, has.1) (subst (λ x. RowLeadsTo (nodes_of t.way p.arena.expr) x t.way.mirrored here.entered here.ended (Some byte) edge t.way.all_starts (bits (length p.arena.expr.nodes) work.leaves) (bits (length p.arena.expr.nodes) work.ends)) same_root
-        (subst (λ x. RowLeadsTo (nodes_of t.way p.arena.expr) root t.way.mirrored x here.ended (Some byte) edge t.way.all_starts (bits (length p.arena.expr.nodes) work.leaves) (bits (length p.arena.expr.nodes) work.ends)) same_row (leads here.ended))),
-  )
-
-  pub names_leads : (edge : Bool) → Leads edge → NamesState (length p.arena.expr.nodes) u (LeadsOn (nodes_of t.way p.arena.expr) t.way here byte edge) v
-  names_leads edge leads = names_map (length p.arena.expr.nodes) u (HasMarks p root work) (LeadsOn (nodes_of t.way p.arena.expr) t.way here byte edge) v (leads_state edge leads) names
+  pub names_leads : (edge : Bool) → Leads edge state root → NamesState (length p.arena.expr.nodes) u (LeadsOn (nodes_of t.way p.arena.expr) t.way here byte edge) v
+  names_leads edge leads =
+      let same = root_read p t table offset state root there at root_is in
+      let shown : Leads edge (offset / 2 ^ t.layout.shift) here.root = subst (Leads edge (offset / 2 ^ t.layout.shift)) same (subst (λ q. Leads edge q root) at leads) in
+      names_map (length p.arena.expr.nodes) u (HasNewRow (length p.arena.expr.nodes) (record t { rows = rows }) root) (LeadsOn (nodes_of t.way p.arena.expr) t.way here byte edge) v
+      (λ b has. (has.0 ∙ same, rw (has.2, has.1) (shown here.ended))) names
 
 -- a first state
 pub names_first : (p : Prepared) (u : Table) (way : Way) (root v : ℕ) (kind : PlaceKind) (leaves ends : List Bool) → NamesState (length p.arena.expr.nodes) u (HasRow root (bits (length p.arena.expr.nodes) leaves) (bits (length p.arena.expr.nodes) ends)) v →
@@ -449,10 +434,10 @@ none_noted items n is i =
 -- Room for expressions.
 
 -- an empty table that has all its parts, with so many beginnings, has all its room
-pub has_parts : (t : Table) (kinds : ℕ) → HasRows t.room t.marks t.leaves t.ends t.roots.items → IsWide t.marks t.work → t.room * min 256 (4 * (t.marks + 1)) ≤ vec_capacity t.cells →
+pub has_parts : (t : Table) (kinds : ℕ) → HasRows t.room t.marks t.rows t.roots.items → t.room * min 256 (4 * (t.marks + 1)) ≤ vec_capacity t.cells →
     2 ≤ length t.index.items → length t.beginnings.items ≡ kinds → ((root : ℕ) (kind : PlaceKind) → root < t.marks → beginning_at t.way.all_starts root kind < kinds) → ((i : ℕ) → (beginning_of t i).epoch ≡ 0) →
     IsRoomy t.marks t
-has_parts t kinds rows wide reserved index long begins noted layout small tight =
+has_parts t kinds rows reserved index long begins noted layout small tight =
     let two : 0 < 2 = omega arith in
     let size : 2 ^ layout.shift ≤ 2 ^ 8 = pow-le-pow_right two small in
     let most : 2 ^ layout.shift ≤ min 256 (4 * (t.marks + 1)) = omega (arith, size, tight) in
@@ -460,7 +445,6 @@ has_parts t kinds rows wide reserved index long begins noted layout small tight 
       count = omega arith;
       marks = omega arith;
       rows = rows;
-      work = wide;
       cells = omega arith;
       reserved = omega (arith, reserved, mul-le-mul_left t.room most);
       index = index;
@@ -475,7 +459,6 @@ room_laid k m t layout room wide marks = record {
   count = omega arith;
   marks = marks;
   rows = room.rows;
-  work = room.work;
   cells = omega arith;
   reserved = wide;
   index = room.index;
@@ -509,55 +492,38 @@ adds_then m a b c one two epoch count = record {
 
 -- nothing happened
 pub adds_none : (m : ℕ) (t : Table) → AddsStates m t t
-adds_none m t = adds_same m t t (refl, refl, refl, refl, refl) refl refl (λ q. refl)
+adds_none m t = adds_same m t t (refl, refl, refl, refl, refl) refl refl (λ q low. refl)
 
--- there is a place for a state, in the table or once it was emptied, and one that comes there is added to the table
-pub record HasPlace (p : Prepared) (t t' : Table) : Type 0 where
-  pub table : IsTable p t'
-  pub room : t'.count < t'.room
-  pub index : t'.index ≡ t.index
-  pub work : t'.work ≡ t.work
-  pub adds : (new : Table) → AddsStates (length p.arena.expr.nodes) t' new → AddsStates (length p.arena.expr.nodes) t new
+-- The rows of no state change where one is made.
 
-pub with_place : (p : Prepared) (t : Table) → IsTable p t → (t.count ≡ t.room → ⊥) → HasPlace p t t
-with_place p t table other = let count = table.room.count in record { table = table; room = omega (arith, count, other); index = refl; work = refl; adds = λ new adds. adds }
+module _ (p : Prepared) (t : Table) (rows : List (List Bool)) (keeps : KeepsRows (IsApart 2 t.count) t.rows rows) where
+  abbrev nodes : ℕ
+  nodes = length p.arena.expr.nodes
 
-pub once_empty : (p : Prepared) (t t' : Table) → t.room ≤ t.count → IsTable p t' → t'.count ≡ 0 → (t'.epoch ≡ t.epoch → ⊥) → SameShape t t' → t'.index ≡ t.index → t'.work ≡ t.work → HasPlace p t t'
-once_empty p t t' full table none epoch shape index work =
-    let some = table.room.rows.some in
-    record {
-      table = table;
-      room = omega (arith, none, some);
-      index = index;
-      work = work;
-      adds = λ new adds.
-          let same = adds.full (omega (arith, none, some)) in
-          let other : new.epoch ≡ t.epoch → ⊥ = λ e. epoch (sym same ∙ e) in
-          let s = adds.shape in
-          record {
-            shape = (s.0 ∙ shape.0, s.1 ∙ shape.1, s.2 ∙ shape.2, s.3 ∙ shape.3, s.4 ∙ shape.4);
-            grows = λ e. absurd (other e);
-            kept = λ e. absurd (other e);
-            full = λ low. absurd (omega (arith, low, full));
-            forgot = λ _. omega (arith, (adds.grows same).1, none);
-          };
-    }
+  abbrev with_rows : Table
+  with_rows = record t { rows = rows }
 
--- Marks for acts change nothing else.
+  same_states : AddsStates nodes t with_rows
+  same_states = adds_same nodes t with_rows (refl, refl, refl, refl, refl) refl refl
+      (λ q low.
+      ap (λ r. state (slice_index_or t.roots.items q 0) (bits nodes r) (bits nodes (row_of rows (ends_row q)))) (keeps.same (leaves_row q) (omega arith, λ f. omega (arith, f, low), λ f. omega (arith, f, low)))
+      ∙ ap (λ r. state (slice_index_or t.roots.items q 0) (bits nodes (row_of t.rows (leaves_row q))) (bits nodes r)) (keeps.same (ends_row q) (omega arith, λ f. omega (arith, f, low), λ f. omega (arith, f, low))))
 
-module _ (p : Prepared) (t : Table) (work : Work) where
-  pub table_work : IsTable p t → IsWide t.marks work → IsTable p (record t { work = work })
-  table_work table wide =
-      let m = length p.arena.expr.nodes in
+  pub table_rows : IsTable p t → IsTable p with_rows
+  table_rows table =
       let old = table.room in
-      let same_names : (P : PassState → Type 0) (x : ℕ) → NamesState m t P x → NamesState m (record t { work = work }) P x = λ P x n. record { to = n.to; there = n.there; flags = n.flags; shown = n.shown; code = n.code; is = n.is } in
       record {
         expr = table.expr;
         room = record {
           count = old.count;
           marks = old.marks;
-          rows = old.rows;
-          work = wide;
+          rows = record {
+            some = old.rows.some;
+            few = old.rows.few;
+            rows = keeps.len ∙ old.rows.rows;
+            long = λ q lt. keeps.lens q ∙ old.rows.long q (omega (arith, lt, keeps.len));
+            roots = old.rows.roots;
+          };
           cells = old.cells;
           reserved = old.reserved;
           index = old.index;
@@ -567,9 +533,42 @@ module _ (p : Prepared) (t : Table) (work : Work) where
         };
         layout = table.layout;
         roots = table.roots;
-        filled = λ q k low near some. same_names (LeadsBy p t q k) (cell_of t q k) (table.filled q k low near some);
-        begun = λ root kind may now. same_names (BeginsIn (nodes_of t.way p.arena.expr) t.way root kind) (beginning_of t (beginning_at t.way.all_starts root kind)).code (table.begun root kind may now);
+        filled = λ q k low near some. filled_more p t with_rows same_states refl q k (cell_of t q k) low (table.filled q k low near some);
+        begun = λ root kind. begun_more p t with_rows same_states refl root kind refl (table.begun root kind);
       }
 
-  pub adds_work : (new : Table) → AddsStates (length p.arena.expr.nodes) (record t { work = work }) new → AddsStates (length p.arena.expr.nodes) t new
-  adds_work new adds = record { shape = adds.shape; grows = adds.grows; kept = adds.kept; full = adds.full; forgot = adds.forgot }
+  pub adds_rows : (new : Table) → AddsStates nodes with_rows new → AddsStates nodes t new
+  adds_rows new adds = record { shape = adds.shape; grows = adds.grows; kept = λ e q low. adds.kept e q low ∙ same_states.kept refl q low; full = adds.full; forgot = adds.forgot }
+
+-- Once a table was emptied, the row that was being made is that of the first state.
+pub moved_first : (p : Prepared) (t e : Table) (n to from last_to last_from : ℕ) (one two : List (List Bool)) → t.room ≤ t.count → IsTable p e → e.count ≡ 0 → (e.epoch ≡ t.epoch → ⊥) → SameShape t e → e.index ≡ t.index → e.rows ≡ t.rows → n ≡ length p.arena.expr.nodes →
+    to ≡ leaves_row 0 → from ≡ leaves_row t.count → last_to ≡ ends_row 0 → last_from ≡ ends_row t.count → 0 < t.count → KeepsRows (λ q. q ≢ to) e.rows one → AgreeBelow n (row_of one to) (row_of e.rows from) →
+    KeepsRows (λ q. q ≢ last_to) one two → AgreeBelow n (row_of two last_to) (row_of one last_from) → HasPlace p t (record e { rows = two })
+moved_first p t e n to from last_to last_from one two full empty none epoch shape index rows count to_is from_is last_to_is last_from_is some first first_copied last last_copied =
+    let m = length p.arena.expr.nodes in
+    let more = empty.room.rows.some in
+    let keeps : KeepsRows (IsApart 2 e.count) e.rows two =
+    keeps_then (λ q. q ≢ to) (λ q. q ≢ last_to) (IsApart 2 e.count) e.rows one two (λ q far. (λ f. far.1 (omega (arith, f, to_is, none)), λ f. far.2 (omega (arith, f, last_to_is, none)))) first last in
+    let copied = copied_rows m n to last_to one two (row_of e.rows from) (row_of one last_from) count (λ f. omega (arith, f, to_is, last_to_is)) first_copied last last_copied in
+    let kept : row_of one last_from ≡ row_of e.rows last_from = first.same last_from (λ f. omega (arith, f, to_is, last_from_is, some)) in
+    record {
+      table = table_rows p e two keeps empty;
+      room = omega (arith, none, more);
+      index = index;
+      made = λ root a has. (
+        has.0,
+        has.1 ∙ ap (λ q. bits m (row_of two q)) (omega (arith, none, to_is)) ∙ copied.0 ∙ ap (λ q. bits m (row_of e.rows q)) from_is ∙ ap (λ r. bits m (row_of r (leaves_row t.count))) rows,
+        has.2 ∙ ap (λ q. bits m (row_of two q)) (omega (arith, none, last_to_is)) ∙ copied.1 ∙ ap (bits m) kept ∙ ap (λ q. bits m (row_of e.rows q)) last_from_is ∙ ap (λ r. bits m (row_of r (ends_row t.count))) rows,
+      );
+      adds = λ then adds.
+          let same = adds.full (omega (arith, none, more)) in
+          let other : then.epoch ≡ t.epoch → ⊥ = λ f. epoch (sym same ∙ f) in
+          let s = adds.shape in
+          record {
+            shape = (s.0 ∙ shape.0, s.1 ∙ shape.1, s.2 ∙ shape.2, s.3 ∙ shape.3, s.4 ∙ shape.4);
+            grows = λ f. absurd (other f);
+            kept = λ f. absurd (other f);
+            full = λ low. absurd (omega (arith, low, full));
+            forgot = λ _. omega (arith, (adds.grows same).1, none);
+          };
+    }

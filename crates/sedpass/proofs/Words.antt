@@ -26,7 +26,7 @@ pub use Rattle.sedtext.specs.PartMarks.{enter_parts}
 pub use Rattle.sedtext.specs.Places.{IsPlace, takes_any}
 pub use Rattle.sedtext.specs.Reach.{HasSpan, BeginsWith, CanEnd, Enters, IsLongestFrom, IsStart, Marked, SomeSpan, after_left, again, at_root, one_start, starts_to, with_whole}
 pub use Rattle.sedtext.specs.Spans.{CopiesLead, IsLeftmostLongest, Matches, NotFound, SomeFound, no_copy, one_more}
-pub use Rattle.sedtext.specs.Words.{AgreeBelow, row_of}
+pub use Rattle.sedtext.specs.Words.{AgreeBelow, KeepsRows, row_of}
 pub use Rattle.sedtext.specs.declared.starts.Starts.{Starts}
 pub use Rattle.std.proofs.Math.Bool.{and-false, beq}
 pub use Rattle.std.proofs.Math.Nat.{div-mul-le_self, lt-div-mul-add, mod-eq_of_lt, mul-le-mul_right, pow-le-pow_right}
@@ -53,7 +53,6 @@ pub use Rattle.sedpass.specs.declared.nodes.Facts.{Facts}
 pub use Rattle.sedpass.specs.declared.nodes.PlaceKind.{PlaceKind}
 pub use Rattle.sedpass.specs.declared.nodes.Prepared.{Prepared}
 pub use Rattle.sedpass.specs.declared.rows.Way.{Way}
-pub use Rattle.sedpass.specs.declared.rows.Work.{Work}
 pub use Rattle.sedpass.specs.declared.search.Seeking.{Seeking}
 pub use Rattle.sedpass.specs.declared.table.Beginning.{Beginning}
 pub use Rattle.sedpass.specs.declared.table.Table.{Table}

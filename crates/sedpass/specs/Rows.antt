@@ -1,6 +1,6 @@
 -- Private to the proofs: no contract that `sedmatch` makes public cites what is here.
 -- What a row shows of a place, how the marks at a place follow from what the leaves took, and when one row leads to another.
-use Rattle.std.specs.Prelude.{◌≡◌, ℕ, ◌+◌, ◌≤◌, ◌<◌, ◌⊎◌, ◌↔◌, Bool, true, false, ◌&&◌, ◌||◌, List, length, slice_get, slice_index_or, Option, Some, IsTrue, nat_lt}
+use Rattle.std.specs.Prelude.{◌≡◌, ◌≢◌, ℕ, ◌+◌, ◌*◌, ◌≤◌, ◌<◌, ◌⊎◌, ◌↔◌, Bool, true, false, ◌&&◌, ◌||◌, List, length, slice_get, slice_index_or, Option, Some, IsTrue, nat_lt}
 use Rattle.sedre.specs.Arena.{IsPart}
 use Rattle.sedre.specs.Tree.{WrittenExpression}
 use Rattle.sedre.specs.Mirror.{seen}
@@ -10,10 +10,10 @@ use Rattle.sedtext.specs.declared.starts.Starts.{Starts}
 use Rattle.sedtext.specs.Matching.{byte_is_in}
 use Rattle.sedtext.specs.Places.{IsPlace}
 use Rattle.sedtext.specs.Reach.{HasSpan, IsStart, Enters, PartFrom}
+use Rattle.sedtext.specs.Words.{row_of}
 use Rattle.sedpass.specs.Regions.{EndsPastIn}
 use Rattle.sedpass.specs.declared.nodes.PlaceKind.{PlaceKind}
 use Rattle.sedpass.specs.declared.rows.Way.{Way}
-use Rattle.sedpass.specs.declared.rows.Work.{Work}
 
 -- the nodes that a pass of the way sees
 abbrev pub nodes_of : Way → WrittenExpression → List Node
@@ -28,13 +28,20 @@ abbrev pub at_edge : Bool → PlaceKind → Bool
 at_edge true kind = kind.begin
 at_edge false kind = kind.end
 
--- there are marks for so many nodes
-abbrev pub IsWide : ℕ → Work → Type 0
-IsWide m work = (m ≤ length work.entered) × (m ≤ length work.ended) × (m ≤ length work.leaves) × (m ≤ length work.ends)
+-- the rows of marks of a state: the leaves entered, and the nodes that end there; before those of the first state are two for acts
+abbrev pub leaves_row : ℕ → ℕ
+leaves_row q = 2 * q + 2
 
--- and there still are
-abbrev pub StaysWide : Work → Work → Type 0
-StaysWide old new = (m : ℕ) → IsWide m old → IsWide m new
+abbrev pub ends_row : ℕ → ℕ
+ends_row q = 2 * q + 3
+
+-- there are rows for the states up to the number, each of m marks or more
+abbrev pub AreWide : ℕ → ℕ → List (List Bool) → Type 0
+AreWide m state rows = (state ≤ 65536) × (ends_row state < length rows) × ((q : ℕ) → q < length rows → m ≤ length (row_of rows q))
+
+-- the row is none of the first `few`, and not of the state
+abbrev pub IsApart : ℕ → ℕ → ℕ → Type 0
+IsApart few state q = (few ≤ q) × (q ≢ leaves_row state) × (q ≢ ends_row state)
 
 -- the first m of the marks
 abbrev pub bits : ℕ → List Bool → ℕ → Bool

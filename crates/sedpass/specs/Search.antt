@@ -7,7 +7,6 @@ use Rattle.sedtext.specs.Answer.{SpanAnswer}
 use Rattle.sedtext.specs.Costs.{CostsWithin}
 use Rattle.sedtext.specs.Beginnings.{AllBegin, NoneIn}
 use Rattle.sedtext.specs.Spans.{IsLeftmostLongest, NotFound}
-use Rattle.sedtext.specs.declared.beginnings.Begins.{Begins}
 use Rattle.sedpass.specs.Table.{IsForwardOne, IsTable, SameShape}
 use Rattle.sedpass.specs.Kept.{IsKept, KeptRoom, SameSpace, owed_region}
 use Rattle.sedpass.specs.declared.nodes.Prepared.{Prepared}
@@ -26,8 +25,8 @@ pub record SearchServes (p : Prepared) (w : List ℕ) (reverse_any : Table) (s :
   pub kept : IsTrue s.begun → IsKept p w reverse_any s.kept
 
 -- a search may be made: it is right where matches can begin, the table of passes forwards is right, and what is kept serves
-pub record MaySearch (p : Prepared) (w : List ℕ) (first : Begins) (a b : Table) (s : Seeking) : Type 0 where
-  pub begins : AllBegin (expression_tree p.arena.expr) first
+pub record MaySearch (p : Prepared) (w : List ℕ) (a b : Table) (s : Seeking) : Type 0 where
+  pub begins : AllBegin (expression_tree p.arena.expr) p.begins
   pub forward_one : IsForwardOne p a
   pub serves : SearchServes p w b s
 

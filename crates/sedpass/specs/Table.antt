@@ -6,11 +6,10 @@ use Rattle.sedre.specs.Arena.{IsExpr}
 use Rattle.sedre.specs.declared.types.Node.{Node}
 use Rattle.sedtext.specs.declared.starts.Starts.{Starts}
 use Rattle.sedtext.specs.Words.{row_of}
-use Rattle.sedpass.specs.Rows.{IsWide, nodes_of, at_begin, at_edge, bits, RowOfPlace, RowLeadsTo, IsFirstRow}
+use Rattle.sedpass.specs.Rows.{nodes_of, at_begin, at_edge, bits, leaves_row, ends_row, RowOfPlace, RowLeadsTo, IsFirstRow}
 use Rattle.sedpass.specs.declared.nodes.PlaceKind.{PlaceKind}
 use Rattle.sedpass.specs.declared.nodes.Prepared.{Prepared}
 use Rattle.sedpass.specs.declared.rows.Way.{Way}
-use Rattle.sedpass.specs.declared.rows.Work.{Work}
 use Rattle.sedpass.specs.declared.cells.StateFlags.{StateFlags}
 use Rattle.sedpass.specs.declared.cells.Layout.{Layout}
 use Rattle.sedpass.specs.declared.table.Beginning.{Beginning}
@@ -51,7 +50,7 @@ pub record PassState : Type 0 where
 
 -- the state of a table with this number, for m nodes
 abbrev pub state_of : ℕ → Table → ℕ → PassState
-state_of m t q = record { root = slice_index_or t.roots.items q 0; entered = bits m (row_of t.leaves q); ended = bits m (row_of t.ends q) }
+state_of m t q = record { root = slice_index_or t.roots.items q 0; entered = bits m (row_of t.rows (leaves_row q)); ended = bits m (row_of t.rows (ends_row q)) }
 
 -- the flags show whether the root ends, and whether no leaf is entered
 abbrev pub FlagsShow : PassState → StateFlags → Type 0
@@ -88,9 +87,9 @@ pub record NamesState (m : ℕ) (t : Table) (P : PassState → Type 0) (v : ℕ)
 abbrev pub IsOffset : Table → ℕ → Type 0
 IsOffset t offset = (offset / 2 ^ t.layout.shift < t.count) × (offset ≡ offset / 2 ^ t.layout.shift * 2 ^ t.layout.shift)
 
--- the state has this root and the row of the marks
-abbrev pub HasMarks : Prepared → ℕ → Work → PassState → Type 0
-HasMarks p root work = HasRow root (bits (length p.arena.expr.nodes) work.leaves) (bits (length p.arena.expr.nodes) work.ends)
+-- the state has this root and the row that is being made in the table
+abbrev pub HasNewRow : ℕ → Table → ℕ → PassState → Type 0
+HasNewRow m t root = HasRow root (state_of m t t.count).entered (state_of m t t.count).ended
 
 -- the state comes after the one whose cells begin at the offset, and this byte, where the text's edge comes after it, or doesn't
 abbrev pub IsNext : Prepared → Table → (offset byte : ℕ) → Bool → PassState → Type 0
@@ -126,22 +125,19 @@ MayBegin p way root = (root < length p.arena.expr.nodes) × (IsTrue way.all_star
 
 -- Tables.
 
--- of each state that there is room for: its rows, with so many marks, and its root
-pub record HasRows (states marks : ℕ) (leaf_rows end_rows : List (List Bool)) (all_roots : List ℕ) : Type 0 where
+-- for each state that there is room for, and one more: its rows, with so many marks; and the roots of the states
+pub record HasRows (states marks : ℕ) (all_rows : List (List Bool)) (all_roots : List ℕ) : Type 0 where
   pub some : 2 ≤ states
   pub few : states ≤ 65535
-  pub leaves : length leaf_rows ≡ states
-  pub ends : length end_rows ≡ states
-  pub leaf_marks : (q : ℕ) → q < states → length (row_of leaf_rows q) ≡ marks
-  pub end_marks : (q : ℕ) → q < states → length (row_of end_rows q) ≡ marks
+  pub rows : length all_rows ≡ 2 * states + 4
+  pub long : (q : ℕ) → q < length all_rows → length (row_of all_rows q) ≡ marks
   pub roots : length all_roots ≡ states
 
 -- all that a table has is there
 pub record HasRoom (m : ℕ) (t : Table) : Type 0 where
   pub count : t.count ≤ t.room
   pub marks : m ≤ t.marks
-  pub rows : HasRows t.room t.marks t.leaves t.ends t.roots.items
-  pub work : IsWide t.marks t.work
+  pub rows : HasRows t.room t.marks t.rows t.roots.items
   pub cells : t.count * 2 ^ t.layout.shift ≤ length t.cells.items
   pub reserved : t.room * 2 ^ t.layout.shift ≤ vec_capacity t.cells
   pub index : 2 ≤ length t.index.items
@@ -191,3 +187,12 @@ pub record Codes (p : Prepared) (old new : Table) (P : PassState → Type 0) (v 
   pub table : IsTable p new
   pub adds : AddsStates (length p.arena.expr.nodes) old new
   pub names : NamesState (length p.arena.expr.nodes) new P v
+
+-- there is a place for a state with the row that is being made, in the table or once it was emptied, and one that comes there is
+-- added to the table
+pub record HasPlace (p : Prepared) (old new : Table) : Type 0 where
+  pub table : IsTable p new
+  pub room : new.count < new.room
+  pub index : new.index ≡ old.index
+  pub made : (root : ℕ) (a : PassState) → HasNewRow (length p.arena.expr.nodes) new root a → HasNewRow (length p.arena.expr.nodes) old root a
+  pub adds : (then : Table) → AddsStates (length p.arena.expr.nodes) new then → AddsStates (length p.arena.expr.nodes) old then

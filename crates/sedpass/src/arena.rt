@@ -32,7 +32,6 @@ impl Model for Arena {
 }
 
 /// A node, mirrored or as it is.
-#[inline(always)]
 fn node_seen(node: Node, mirrored: bool) -> Node
     ensures { result ≡ node_seen mirrored node }
 {
@@ -48,7 +47,6 @@ fn node_seen(node: Node, mirrored: bool) -> Node
 }
 
 /// For proofs: what is read is an expression.
-#[inline(always)]
 fn is_expression(expr: &Expr)
     ensures { IsExpr expr.now.nodes expr.now.groups }
 {
@@ -110,7 +108,6 @@ impl Arena {
     }
 
     /// The node of an index, as it is or mirrored. Counts one look.
-    #[inline(always)]
     pub fn look(&self, x: usize, mirrored: bool, steps: &mut Steps) -> Node
         requires inside { x < length self.now.expr.nodes }
         ensures node { slice_get (seen mirrored self.now.expr).nodes x ≡ Some result }
@@ -125,7 +122,6 @@ impl Arena {
     }
 
     /// For proofs: the nodes are those of an expression.
-    #[inline(always)]
     pub fn is_expression(&self)
         ensures { IsExpr self.now.expr.nodes self.now.expr.groups }
     {
@@ -133,7 +129,6 @@ impl Arena {
     }
 
     /// How many groups there are.
-    #[inline(always)]
     pub fn groups(&self) -> usize
         ensures value { result ≡ self.now.expr.groups }
         ensures expr { IsExpr self.now.expr.nodes self.now.expr.groups }

@@ -35,7 +35,6 @@ pub struct Layout {
 }
 
 /// The code of the state whose cells begin at a place: that place, and above it the flags.
-#[inline(always)]
 pub fn code_of(flags: StateFlags, offset: usize) -> u32
     requires { offset < 536870912 }
     ensures { result ≡ code_of flags offset }
@@ -44,7 +43,6 @@ pub fn code_of(flags: StateFlags, offset: usize) -> u32
 }
 
 /// Where the cells of the state with this code begin.
-#[inline(always)]
 pub fn offset_of(code: u32) -> usize
     ensures { (flags : StateFlags) (offset : ℕ) → offset < 536870912 → code ≡ code_of flags offset → result ≡ offset }
 {
@@ -52,7 +50,6 @@ pub fn offset_of(code: u32) -> usize
 }
 
 /// The flags of the state with this code.
-#[inline(always)]
 pub fn flags_of(code: u32) -> StateFlags
     ensures { (flags : StateFlags) (offset : ℕ) → offset < 536870912 → code ≡ code_of flags offset → result ≡ flags }
 {
@@ -63,7 +60,6 @@ pub fn flags_of(code: u32) -> StateFlags
 }
 
 /// Whether no flag of the state with this code is set.
-#[inline(always)]
 pub fn is_plain(code: u32) -> bool
     ensures { IsTrue result → (flags : StateFlags) (offset : ℕ) → offset < 536870912 → code ≡ code_of flags offset → (flags.ends ≡ false) × (flags.dead ≡ false) }
 {
@@ -111,7 +107,6 @@ impl Layout {
     }
 
     /// The column of a byte, if the cells of its class are kept. `edge` says whether the text's edge comes after the byte.
-    #[inline(always)]
     pub fn column(&self, byte: u8, edge: bool) -> Option<usize>
         ensures { IfSome result (IsColumn self.now byte edge) }
     {

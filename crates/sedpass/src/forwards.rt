@@ -29,7 +29,6 @@ pub struct Passed {
 }
 
 /// Whether a pass needn't go on at a state: with all starts where its root ends, and else where no leaf is entered.
-#[inline(always)]
 fn is_over(all_starts: bool, flags: StateFlags) -> bool
     ensures { result ≡ is_over all_starts flags }
 {
@@ -38,7 +37,6 @@ fn is_over(all_starts: bool, flags: StateFlags) -> bool
 
 impl Table {
     /// The pass at a place whose state has this code. `end` is the last end before it.
-    #[inline(always)]
     fn arrive(
         &self,
         prepared: &Prepared,

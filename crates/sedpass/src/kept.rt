@@ -14,6 +14,7 @@ ghost use Rattle.sedpass.specs.Kept.{AllMarked, ComesDown, EdgesFrom, Follows, I
 
 use crate::cells::offset_of;
 use crate::nodes::{Prepared, kind_of};
+use crate::rows::{ends_row, leaves_row};
 use crate::table::Table;
 use sedre::Steps;
 use sedtext::counted::{Rows, Text};
@@ -30,7 +31,6 @@ pub struct Subject<'a> {
 
 impl<'a> Subject<'a> {
     /// Whether a node matches the null string at a place. Counts one look.
-    #[inline(always)]
     pub fn is_null(self, x: usize, place: usize, steps: &mut Steps) -> bool
         requires inside { x < length self.prepared.now.arena.expr.nodes }
         ensures null { IsTrue result ↔ HasSpan self.entry.prepared.now.arena.expr.nodes self.entry.text.now x place place }
@@ -110,7 +110,6 @@ impl Kept {
     }
 
     /// Begins a region, of which nothing is kept yet.
-    #[inline(always)]
     pub fn begin(&mut self, subject: Subject, table: &Table, root: usize, end: usize)
         requires table { IsTable subject.prepared.now table.now }
         requires room { KeptRoom (length subject.prepared.now.arena.expr.nodes) (length subject.text.now) table.now self.old }
@@ -193,9 +192,9 @@ impl Kept {
         let nodes = subject.prepared.nodes();
         let state = table.state_at(offset);
         self.edges
-            .copy(2 * block, &table.leaves, state, nodes, steps);
+            .copy(2 * block, &table.rows, leaves_row(state), nodes, steps);
         self.edges
-            .copy(2 * block + 1, &table.ends, state, nodes, steps);
+            .copy(2 * block + 1, &table.rows, ends_row(state), nodes, steps);
     }
 
     /// The state of a place that is the region's end, or the right end of a block of which the row is kept; gives where its cells
@@ -289,7 +288,6 @@ impl Kept {
 
     /// Sees to it that the states of a place below the region's end, and of those up to the end of its block, are in the table;
     /// gives the place before which they are.
-    #[inline(always)]
     fn ready(
         &mut self,
         subject: Subject,
@@ -336,7 +334,9 @@ impl Kept {
             return subject.is_null(x, place, steps);
         }
         self.ready(subject, table, place, steps);
-        table.ends.get(self.states[place] as usize, x, steps)
+        table
+            .rows
+            .get(ends_row(self.states[place] as usize), x, steps)
     }
 
     /// The first place from one on at which the node x is marked, or isn't, as asked; the region's end where there is none
@@ -400,7 +400,8 @@ impl Kept {
         ensures counts { TakesAtLeast steps.old steps.new (result - from) }
     {
         for place in from..self.region.to {
-            if table.ends.get(self.states[place] as usize, x, steps) == marked {
+            let ends = ends_row(self.states[place] as usize);
+            if table.rows.get(ends, x, steps) == marked {
                 return place;
             }
         }
@@ -484,14 +485,12 @@ impl Kept {
         let nodes = subject.prepared.nodes();
         let mut offset = offset;
         for place in from..self.region.to {
-            let behind = self.states[place] as usize;
-            if !forward_one.leaves.meets(
-                forward_one.state_at(offset),
-                &table.ends,
-                behind,
-                nodes,
-                steps,
-            ) {
+            let ahead = leaves_row(forward_one.state_at(offset));
+            let behind = ends_row(self.states[place] as usize);
+            if !forward_one
+                .rows
+                .meets(ahead, &table.rows, behind, nodes, steps)
+            {
                 return (place, offset);
             }
             let byte = subject.text.byte(place, steps);

@@ -16,6 +16,8 @@ use crate::arena::Arena;
 use crate::classes::{Classes, classes_of};
 use crate::group_set::GroupSet;
 use sedre::{Expr, Node, NodeId, Steps};
+use sedtext::beginnings::Begins;
+use sedtext::required::RequiredLiteral;
 use std::alloc::{AllocError, Global};
 
 /// A kind of place: whether it is the text's beginning, and whether it is its end. An expression matches the null string
@@ -27,7 +29,6 @@ pub struct PlaceKind {
 }
 
 /// The kind of a place in a text of so many bytes.
-#[inline(always)]
 pub fn kind_of(place: usize, length: usize) -> PlaceKind
     ensures begin { IsTrue result.begin ↔ (place ≡ 0) }
     ensures end { IsTrue result.end ↔ (place ≡ length) }
@@ -46,7 +47,6 @@ const AT_BEGIN: u8 = 0b1010;
 const AT_END: u8 = 0b1100;
 
 /// Whether a kind is among those with these bits. Its number is 1 for the beginning, 2 for the end, and their sum for both.
-#[inline(always)]
 fn has_kind(kinds: u8, kind: PlaceKind) -> bool
     ensures { result ≡ null_at kinds kind.begin kind.end }
 {
@@ -196,6 +196,10 @@ pub struct Prepared {
     pub facts: Vec<Facts>,
     /// Classes of bytes: those of one class are in the same sets.
     pub classes: Classes,
+    /// How its matches begin.
+    pub begins: Begins,
+    /// A literal that they contain, where one is known.
+    pub required: Option<RequiredLiteral>,
     pub ghost is_prepared: { IsPrepared arena.expr root facts.items classes.of classes.count } by { Prim.hlevel props },
 }
 
@@ -215,10 +219,12 @@ impl Prepared {
             root: 0,
             facts,
             classes: classes_of(&[]),
+            begins: Begins::Anyhow,
+            required: None,
         })
     }
 
-    /// Makes an expression ready, in the room that there is.
+    /// Makes an expression ready, in the room that there is. Of how its matches begin and what they contain nothing is known then.
     pub fn fit(&mut self, expr: &Expr, steps: &mut Steps)
         requires nodes { length expr.now.nodes ≤ self.old.arena.room }
         requires facts { length expr.now.nodes ≤ vec_capacity self.old.facts }
@@ -231,6 +237,8 @@ impl Prepared {
         self.arena.fill(expr, &mut self.facts, steps);
         self.root = expr.root().index();
         self.classes = classes_of(expr.sets());
+        self.begins = Begins::Anyhow;
+        self.required = None;
     }
 
     /// Makes an expression ready in room of its own. Fails only where a request for memory was refused.
@@ -245,7 +253,6 @@ impl Prepared {
     }
 
     /// The least index in a node's tree: its nodes are those from there to the node itself.
-    #[inline(always)]
     pub fn low(&self, x: usize) -> usize
         requires inside { x < length self.now.arena.expr.nodes }
         ensures size { result + size (tree_at self.now.arena.expr.nodes x) ≡ x + 1 }
@@ -256,7 +263,6 @@ impl Prepared {
     }
 
     /// Whether a node matches the null string at a place of a kind. Counts one look.
-    #[inline(always)]
     pub fn null_at(&self, x: usize, kind: PlaceKind, steps: &mut Steps) -> bool
         requires inside { x < length self.now.arena.expr.nodes }
         ensures null { result ≡ null_in self.now.arena.expr.nodes kind x }
@@ -268,7 +274,6 @@ impl Prepared {
     }
 
     /// How many nodes there are.
-    #[inline(always)]
     pub fn nodes(&self) -> usize
         ensures value { result ≡ length self.now.arena.expr.nodes }
         ensures few { length self.now.arena.expr.nodes ≤ 65536 }

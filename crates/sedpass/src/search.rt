@@ -16,7 +16,7 @@ ghost use Rattle.sedpass.specs.Search.{IsNextMatch, LooksFrom, MaySearch, Search
 use crate::kept::{Kept, Subject};
 use crate::table::Table;
 use sedre::Steps;
-use sedtext::beginnings::{Begins, next_start};
+use sedtext::beginnings::next_start;
 
 /// How the searches in one text go on.
 #[derive(Drop)]
@@ -60,14 +60,13 @@ pub enum Trials {
 /// Trials from a place on, a pass from each place at which a match can begin, until one is found, or many places are in none.
 fn try_all(
     subject: Subject,
-    begins: &Begins,
     forward_one: &mut Table,
     from: usize,
     tried: &mut usize,
     steps: &mut Steps,
 ) -> Trials
     requires from { from ≤ length subject.text.now }
-    requires begins { AllBegin (expression_tree subject.prepared.now.arena.expr) begins.now }
+    requires begins { AllBegin (expression_tree subject.prepared.now.arena.expr) subject.prepared.now.begins }
     requires forward_one { IsForwardOne subject.prepared.now forward_one.old }
     requires tried { tried.old ≤ length subject.text.now }
     ensures forward_one { IsForwardOne subject.entry.prepared.now forward_one.new }
@@ -77,7 +76,7 @@ fn try_all(
     let length = subject.text.len();
     let mut start = from;
     while start <= length {
-        let Some(first) = next_start(begins, subject.text, start, steps) else {
+        let Some(first) = next_start(&subject.prepared.begins, subject.text, start, steps) else {
             return Trials::Nothing;
         };
         let passed = forward_one.run(subject.prepared, subject.text, first, steps);
@@ -146,16 +145,14 @@ fn begin_kept(subject: Subject, reverse_any: &Table, seeking: &mut Seeking)
     if !seeking.begun {
         let length = subject.text.len();
         seeking.begun = true;
-        seeking
-            .kept
-            .begin(subject, reverse_any, subject.prepared.root, length);
+        let root = subject.prepared.root;
+        seeking.kept.begin(subject, reverse_any, root, length);
     }
 }
 
 /// The leftmost of the longest matches that begin at a place or later. For one text the places don't fall from call to call.
 pub fn next_match(
     subject: Subject,
-    begins: &Begins,
     forward_one: &mut Table,
     reverse_any: &mut Table,
     seeking: &mut Seeking,
@@ -163,7 +160,7 @@ pub fn next_match(
     steps: &mut Steps,
 ) -> Option<(usize, usize)>
     requires from { from ≤ length subject.text.now }
-    requires ready { MaySearch subject.prepared.now subject.text.now begins.now forward_one.old reverse_any.old seeking.old }
+    requires ready { MaySearch subject.prepared.now subject.text.now forward_one.old reverse_any.old seeking.old }
     ensures searched { Searched subject.entry.prepared.now subject.entry.text.now forward_one.old forward_one.new reverse_any.old reverse_any.new seeking.old seeking.new }
     ensures answer { SpanAnswer (expression_tree subject.entry.prepared.now.arena.expr) subject.entry.text.now from result }
     ensures cost { let m = length subject.entry.prepared.now.arena.expr.nodes in let n = length subject.entry.text.now in
@@ -174,19 +171,13 @@ pub fn next_match(
     let mut start = from;
     if !seeking.begun && seeking.tried <= subject.text.len() {
         let tried = &mut seeking.tried;
-        match try_all(subject, begins, forward_one, from, tried, steps) {
+        match try_all(subject, forward_one, from, tried, steps) {
             Trials::Hit(first, end) => return Some((first, end)),
             Trials::Nothing => return None,
             Trials::Tired(later) => start = later,
         }
     }
     begin_kept(subject, reverse_any, seeking);
-    next_kept(
-        subject,
-        forward_one,
-        reverse_any,
-        &mut seeking.kept,
-        start,
-        steps,
-    )
+    let kept = &mut seeking.kept;
+    next_kept(subject, forward_one, reverse_any, kept, start, steps)
 }

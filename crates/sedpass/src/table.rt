@@ -3,17 +3,17 @@
 //! A state is the row of a place and the root of its pass, so one table serves all regions of an expression. A cell is
 //! filled when it is first asked for, by one act. A full table is emptied, and the pass goes on: so an unlucky text costs
 //! an act and a state for each byte, never more.
-ghost use Rattle.std.specs.Prelude.{◌≡◌, ℕ, false, ◌+◌, ◌*◌, ◌/◌, ◌^◌, ◌<◌, ◌≤◌, length, replicate, IfOk, IfSome, vec_len, vec_capacity};
+ghost use Rattle.std.specs.Prelude.{◌≡◌, ℕ, false, ◌+◌, ◌*◌, ◌/◌, ◌^◌, ◌<◌, ◌≤◌, ◌↔◌, IsTrue, slice_index_or, length, replicate, IfOk, IfSome, vec_len, vec_capacity};
 ghost use Rattle.sedtext.specs.Words.{row_of};
 ghost use Rattle.sedre.specs.Steps.{Takes, TakesAtLeast};
-ghost use Rattle.sedpass.specs.Rows.{IsWide, nodes_of, bits};
+ghost use Rattle.sedpass.specs.Rows.{AreWide, nodes_of, bits, leaves_row, ends_row};
 ghost use Rattle.sedpass.specs.declared.nodes.PlaceKind.{PlaceKind};
 ghost use Rattle.sedpass.specs.declared.nodes.Prepared.{Prepared};
-ghost use Rattle.sedpass.specs.Table.{state_of, HasRow, HasMarks, BeginsIn, NamesState, IsNext, IsOffset, beginning_at, MayBegin, IsRoomy, IsTable, SameRoom, SameShape, AddsStates, Codes, code_of};
+ghost use Rattle.sedpass.specs.Table.{state_of, HasRow, HasNewRow, HasPlace, BeginsIn, NamesState, IsNext, IsOffset, beginning_at, MayBegin, IsRoomy, IsTable, SameRoom, SameShape, AddsStates, Codes, code_of};
 
 use crate::cells::{Layout, StateFlags, code_of, empty_cells, most_cells};
 use crate::nodes::{PlaceKind, Prepared};
-use crate::rows::{Way, Work, first, step};
+use crate::rows::{Act, Way, edge_kind, ends_row, first, leaves_row, step};
 use sedre::Steps;
 use sedtext::counted::Rows;
 use std::alloc::{AllocError, Global};
@@ -30,7 +30,6 @@ pub struct Beginning {
 }
 
 /// For proofs: the number of some rows fits its type.
-#[inline(always)]
 fn count_fits(rows: &Rows)
     ensures { length rows.now < 2 ^ 64 }
 {
@@ -60,10 +59,9 @@ pub struct Table {
     pub count: usize,
     /// Changes where the table is emptied: then no beginning that was noted has this number.
     pub epoch: u32,
-    /// For each state the leaves entered.
-    pub leaves: Rows,
-    /// For each state the nodes that end there.
-    pub ends: Rows,
+    /// Two rows for the acts, then for each state the leaves entered and the nodes that end there, and behind the last state
+    /// those of the one that is being made.
+    pub rows: Rows,
     /// For each state the root of its pass.
     pub roots: Vec<usize>,
     /// For each state and column the code of the state that comes next, or 0 where it isn't known yet. There is room for all
@@ -72,8 +70,6 @@ pub struct Table {
     index: Vec<Slot>,
     /// For each root and kind of place where a pass begins.
     pub beginnings: Vec<Beginning>,
-    /// The marks for its acts.
-    pub work: Work,
 }
 
 /// The epoch after one, which no beginning noted so far has.
@@ -152,9 +148,7 @@ impl Table {
         requires short { nodes ≤ 65536 }
         ensures table { IfOk result (λ t. IsRoomy nodes t × (t.way ≡ way) × (t.room ≡ room)) }
     {
-        let leaves = Rows::new(alloc, room, nodes)?;
-        let ends = Rows::new(alloc, room, nodes)?;
-        let work = Work::new(alloc, nodes)?;
+        let rows = Rows::new(alloc, 2 * room + 4, nodes)?;
         let kinds = count_beginnings(way.all_starts, nodes);
         let mut requests = Requests {
             alloc,
@@ -171,14 +165,12 @@ impl Table {
             },
             count: 0,
             epoch: 1,
-            leaves,
-            ends,
+            rows,
             roots: requests.copies(0, room),
             cells: requests.room(room * most_cells(nodes)),
             // An odd number and one: by a power of two only a digest's last bits would count.
             index: requests.copies(Slot { epoch: 0, state: 0 }, 2 * room + 2),
             beginnings: requests.copies(Beginning { epoch: 0, code: 0 }, kinds),
-            work,
         };
         if requests.refused {
             drop(table);
@@ -207,14 +199,13 @@ impl Table {
         ensures epoch { self.new.epoch ≡ self.old.epoch → ⊥ }
         ensures shape { SameShape self.old self.new }
         ensures index { self.new.index ≡ self.old.index }
-        ensures work { self.new.work ≡ self.old.work }
+        ensures rows { self.new.rows ≡ self.old.rows }
     {
         self.count = 0;
         self.epoch = next_epoch(self.epoch);
     }
 
     /// The number of the state whose cells begin at a place.
-    #[inline(always)]
     pub fn state_at(&self, offset: usize) -> usize
         requires { self.now.layout.shift ≤ 8 }
         ensures { result ≡ offset / 2 ^ self.now.layout.shift }
@@ -222,17 +213,33 @@ impl Table {
         offset >> self.layout.shift
     }
 
-    /// The slot of the index, or the one before it, where a state with this root and row is noted, if there is one.
+    /// What the row that is being made shows of its state: whether the root ends there, and whether no leaf is entered.
+    fn flags(&self, root: usize, nodes: usize, steps: &mut Steps) -> StateFlags
+        requires root { root < nodes }
+        requires wide { AreWide nodes self.now.count self.now.rows }
+        ensures ends { result.ends ≡ slice_index_or (row_of self.now.rows (ends_row self.now.count)) root false }
+        ensures dead { IsTrue result.dead ↔ ((c : ℕ) → c < nodes → slice_index_or (row_of self.now.rows (leaves_row self.now.count)) c false ≡ false) }
+        ensures cost { Takes steps.old steps.new (nodes + 1) }
+    {
+        StateFlags {
+            ends: self.rows.get(ends_row(self.count), root, steps),
+            dead: self.rows.is_clear(leaves_row(self.count), nodes, steps),
+        }
+    }
+
+    /// The slot of the index, or the one before it, where a state with this root and the row that is being made is noted, if
+    /// there is one.
     fn slot_of(&self, nodes: usize, root: usize, steps: &mut Steps) -> usize
-        requires wide { IsWide nodes self.now.work }
+        requires wide { AreWide nodes self.now.count self.now.rows }
         requires slots { 2 ≤ vec_len self.now.index }
         ensures slot { result + 1 < vec_len self.now.index }
         ensures cost { Takes steps.old steps.new (2 * nodes) }
         ensures counts { TakesAtLeast steps.old steps.new (2 * nodes) }
     {
-        let digest = self.work.leaves.digest(nodes, steps)
-            ^ self.work.ends.digest(nodes, steps).rotate_left(32);
-        ((digest ^ root as u64) % (self.index.len() - 1) as u64) as usize
+        let leaves = self.rows.digest(leaves_row(self.count), nodes, steps);
+        let ends = self.rows.digest(ends_row(self.count), nodes, steps);
+        let digest = leaves ^ ends.rotate_left(32) ^ root as u64;
+        (digest % (self.index.len() - 1) as u64) as usize
     }
 
     /// The state that a slot of the index notes, if it notes one.
@@ -246,7 +253,7 @@ impl Table {
         known.then_some(state)
     }
 
-    /// The state with this root and the row of the marks, if the slot or the one after it notes it.
+    /// The state with this root and the row that is being made, if the slot or the one after it notes it.
     fn find(
         &self,
         prepared: &Prepared,
@@ -257,7 +264,7 @@ impl Table {
         requires table { IsTable prepared.now self.now }
         requires slot { slot + 1 < vec_len self.now.index }
         ensures there { IfSome result (λ q. q < self.now.count) }
-        ensures has { IfSome result (λ q. HasMarks prepared.now root self.now.work (state_of (length prepared.now.arena.expr.nodes) self.now q)) }
+        ensures has { IfSome result (λ q. HasNewRow (length prepared.now.arena.expr.nodes) self.now root (state_of (length prepared.now.arena.expr.nodes) self.now q)) }
         ensures cost { Takes steps.old steps.new (4 * length prepared.now.arena.expr.nodes + 2) }
     {
         let nodes = prepared.nodes();
@@ -265,8 +272,12 @@ impl Table {
             steps.add(1);
             if let Some(state) = self.noted(at)
                 && self.roots[state] == root
-                && self.leaves.same(state, &self.work.leaves, nodes, steps)
-                && self.ends.same(state, &self.work.ends, nodes, steps)
+                && self
+                    .rows
+                    .same(leaves_row(state), leaves_row(self.count), nodes, steps)
+                && self
+                    .rows
+                    .same(ends_row(state), ends_row(self.count), nodes, steps)
             {
                 return Some(state);
             }
@@ -274,7 +285,24 @@ impl Table {
         None
     }
 
-    /// Adds a state with this root and row, and gives its number. There is room.
+    /// Empties the table if it is full, and makes the row that is being made that of its first state.
+    fn make_room(&mut self, prepared: &Prepared, steps: &mut Steps)
+        requires table { IsTable prepared.now self.old }
+        ensures place { HasPlace prepared.now self.old self.new }
+        ensures cost { Takes steps.old steps.new (2 * length prepared.now.arena.expr.nodes) }
+    {
+        let made = self.count;
+        if made < self.room {
+            return;
+        }
+        self.empty(prepared);
+        let nodes = prepared.nodes();
+        let (leaves, ends) = (leaves_row(made), ends_row(made));
+        self.rows.copy_within(leaves_row(0), leaves, nodes, steps);
+        self.rows.copy_within(ends_row(0), ends, nodes, steps);
+    }
+
+    /// Adds the state with this root and the row that is being made, and gives its number. There is room.
     fn add(&mut self, prepared: &Prepared, root: usize, slot: usize, steps: &mut Steps) -> usize
         requires table { IsTable prepared.now self.old }
         requires room { self.old.count < self.old.room }
@@ -283,13 +311,10 @@ impl Table {
         ensures table { IsTable prepared.now self.new }
         ensures adds { AddsStates (length prepared.now.arena.expr.nodes) self.old self.new }
         ensures there { result < self.new.count }
-        ensures has { HasMarks prepared.now root self.old.work (state_of (length prepared.now.arena.expr.nodes) self.new result) }
-        ensures cost { Takes steps.old steps.new (4 * length prepared.now.arena.expr.nodes + 2) }
+        ensures has { HasNewRow (length prepared.now.arena.expr.nodes) self.old root (state_of (length prepared.now.arena.expr.nodes) self.new result) }
+        ensures cost { Takes steps.old steps.new (2 * length prepared.now.arena.expr.nodes + 2) }
     {
-        let nodes = prepared.nodes();
         let state = self.count;
-        self.leaves.store(state, &self.work.leaves, nodes, steps);
-        self.ends.store(state, &self.work.ends, nodes, steps);
         self.roots[state] = root;
         let (offset, size) = (state << self.layout.shift, 1usize << self.layout.shift);
         empty_cells(
@@ -317,23 +342,22 @@ impl Table {
         code_of(flags, state << self.layout.shift)
     }
 
-    /// The code of the state with this root and row, which is added unless it is found; a full table is emptied before.
+    /// The code of the state with this root and the row that is being made, which is added unless it is found; a full table is
+    /// emptied before.
     fn intern(&mut self, prepared: &Prepared, root: usize, steps: &mut Steps) -> u32
         requires table { IsTable prepared.now self.old }
         requires root { root < length prepared.now.arena.expr.nodes }
-        ensures codes { Codes prepared.now self.old self.new (HasMarks prepared.now root self.old.work) result }
+        ensures codes { Codes prepared.now self.old self.new (HasNewRow (length prepared.now.arena.expr.nodes) self.old root) result }
         ensures cost { Takes steps.old steps.new (11 * length prepared.now.arena.expr.nodes + 5) }
         ensures counts { TakesAtLeast steps.old steps.new (2 * length prepared.now.arena.expr.nodes) }
     {
         let nodes = prepared.nodes();
         let slot = self.slot_of(nodes, root, steps);
-        let flags = self.work.flags(root, nodes, steps);
+        let flags = self.flags(root, nodes, steps);
         if let Some(state) = self.find(prepared, root, slot, steps) {
             return self.code(flags, state);
         }
-        if self.count == self.room {
-            self.empty(prepared);
-        }
+        self.make_room(prepared, steps);
         let at = slot + usize::from(self.noted(slot).is_some());
         let state = self.add(prepared, root, at, steps);
         self.code(flags, state)
@@ -356,12 +380,15 @@ impl Table {
         ensures counts { TakesAtLeast steps.old steps.new (length prepared.now.arena.expr.nodes) }
     {
         let state = self.state_at(offset);
-        let root = self.roots[state];
-        let leaves = &mut self.work.leaves;
-        self.leaves.load(state, leaves, prepared.nodes(), steps);
-        step(prepared, self.way, root, byte, edge, &mut self.work, steps);
+        let act = Act {
+            prepared,
+            way: self.way,
+            root: self.roots[state],
+            kind: edge_kind(self.way.mirrored, edge),
+        };
+        step(act, byte, state, self.count, &mut self.rows, steps);
         let epoch = self.epoch;
-        let next = self.intern(prepared, root, steps);
+        let next = self.intern(prepared, act.root, steps);
         if self.epoch == epoch
             && let Some(column) = self.layout.column(byte, edge)
         {
@@ -371,7 +398,6 @@ impl Table {
     }
 
     /// What is in the cell of a state and a byte; 0 where it isn't kept.
-    #[inline(always)]
     pub fn known(&self, prepared: &Prepared, offset: usize, byte: u8, edge: bool) -> u32
         requires table { IsTable prepared.now self.now }
         requires offset { IsOffset self.now offset }
@@ -385,7 +411,6 @@ impl Table {
 
     /// The code of the state after the state whose cells begin at `offset`, and a byte. `edge` says whether the text's edge
     /// comes after the byte.
-    #[inline(always)]
     pub fn next(
         &mut self,
         prepared: &Prepared,
@@ -409,7 +434,6 @@ impl Table {
     }
 
     /// Where a beginning is noted.
-    #[inline(always)]
     fn beginning_at(&self, root: usize, kind: PlaceKind) -> usize
         requires { root ≤ 65536 }
         ensures { result ≡ beginning_at self.now.way.all_starts root kind }
@@ -426,7 +450,13 @@ impl Table {
         ensures codes { Codes prepared.now self.old self.new (BeginsIn (nodes_of self.old.way prepared.now.arena.expr) self.old.way root kind) result }
         ensures cost { Takes steps.old steps.new (32 * length prepared.now.arena.expr.nodes) }
     {
-        first(prepared, self.way, root, kind, &mut self.work, steps);
+        let act = Act {
+            prepared,
+            way: self.way,
+            root,
+            kind,
+        };
+        first(act, self.count, &mut self.rows, steps);
         let code = self.intern(prepared, root, steps);
         if self.epoch < LAST_EPOCHS {
             let at = self.beginning_at(root, kind);
@@ -483,8 +513,9 @@ impl Table {
     {
         let nodes = prepared.nodes();
         count_fits(edges);
-        edges.load(2 * row, &mut self.work.leaves, nodes, steps);
-        edges.load(2 * row + 1, &mut self.work.ends, nodes, steps);
+        let (leaves, ends) = (leaves_row(self.count), ends_row(self.count));
+        self.rows.copy(leaves, edges, 2 * row, nodes, steps);
+        self.rows.copy(ends, edges, 2 * row + 1, nodes, steps);
         self.intern(prepared, root, steps)
     }
 }

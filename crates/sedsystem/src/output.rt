@@ -85,11 +85,13 @@ impl BufferedDevice {
             .writer
             .capacity()
             .saturating_sub(self.writer.buffer().len());
-        let is_file = match &self.metadata {
-            Some(own) => own.is_file(),
-            None => false,
-        };
-        (self.is_terminal || bytes.len() > room) && !is_file
+        if bytes.len() <= room && !self.is_terminal {
+            return false;
+        }
+        match &self.metadata {
+            Some(own) => !own.is_file(),
+            None => true,
+        }
     }
 
     /// Whether there are bytes that aren't written yet.

@@ -4,9 +4,9 @@ use Rattle.std.proofs.lemmas.Bool.{both_ways, cases_lt}
 use Rattle.std.proofs.lemmas.Option.{slice_get_within}
 use Rattle.std.specs.Prelude.{slice_get, slice_index_or}
 use Rattle.sedre.specs.Sets.{has}
-use Rattle.sedtext.specs.Bytes.{FirstAt, FirstFrom, MemberAt}
+use Rattle.sedtext.specs.Bytes.{FirstFrom, MemberAt}
 use Rattle.sedtext.specs.Beginnings.{NextStart}
-use Rattle.sedtext.specs.declared.beginnings.Begins.TheVariants.{WithByte, WithSet}
+use Rattle.sedtext.specs.declared.beginnings.Begins.TheVariants.{With}
 
 -- one more byte that is not in the set
 pub member_step : (members : List Bool) (w : List ℕ) (from place byte : ℕ) (has : Bool) →
@@ -24,11 +24,6 @@ member_step members w from place byte has is value not_in missed i low high can 
     (cases_lt i place)
 
 -- the first place at which one can begin so
-module _ (w : List ℕ) (p : ℕ) where
-  pub starts_with_byte : (byte : ℕ) (r : Option ℕ) → FirstAt w byte p r → NextStart (WithByte byte) w p r
-  starts_with_byte byte None first = λ i low within begins. first i low begins
-  starts_with_byte byte (Some k) first = let inside = slice_get_within w k byte first.1 in (first.0, omega (arith, inside), first.2)
-
-  pub starts_with_member : (s : List Bool) (r : Option ℕ) → FirstFrom (MemberAt s w) p r → NextStart (WithSet s) w p r
-  starts_with_member s None first = λ i low within begins. first i low begins
-  starts_with_member s (Some k) first = let inside = slice_get_within w k first.1.0 first.1.1 in (first.0, omega (arith, inside), first.2)
+pub starts_with_member : (w : List ℕ) (p : ℕ) (s : List Bool) (r : Option ℕ) → FirstFrom (MemberAt s w) p r → NextStart (With s) w p r
+starts_with_member w p s None first = λ i low within begins. first i low begins
+starts_with_member w p s (Some k) first = let inside = slice_get_within w k first.1.0 first.1.1 in (first.0, omega (arith, inside), first.2)

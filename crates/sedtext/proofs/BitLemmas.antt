@@ -1,8 +1,9 @@
 -- The lowest bits of words.
-use Rattle.std.proofs.Common.{◌≡◌, ◌≢◌, ℕ, ◌+◌, ◌-◌, ◌*◌, ◌/◌, ◌%◌, ◌^◌, ◌<◌, ◌≤◌, ◌↔◌, Bool, false, not, List, IsTrue, sym, ap, ◌∙◌, subst, ⊎_elim, true≢false, arith, bit_and, w64, min}
-use Rattle.std.specs.Prelude.{eqb, slice_index_or}
+use Rattle.std.proofs.Common.{◌≡◌, ◌≢◌, ℕ, ◌+◌, ◌-◌, ◌*◌, ◌/◌, ◌%◌, ◌^◌, ◌<◌, ◌≤◌, ◌↔◌, Bool, false, not, List, length, IsTrue, sym, ap, ◌∙◌, subst, ⊎_elim, true≢false, arith, bit_and, w64, min}
+use Rattle.std.specs.Prelude.{eqb, slice_index_or, slice_set}
 use Rattle.std.specs.Int.{bit_at, trailing_zeros}
-use Rattle.std.proofs.lemmas.Bool.{cases_lt, eqb-true, false_from_ne_true, not-true, not_from_false}
+use Rattle.std.proofs.lemmas.Bool.{cases_eq, cases_lt, eqb-true, false_from_ne_true, not-true, not_from_false}
+use Rattle.std.proofs.lemmas.List.{get_or-set_other, get_or-set_same}
 use Rattle.std.proofs.lemmas.Nat.{one_shl}
 use Rattle.std.proofs.lemmas.Nat.Bits.{bit_at-zero, bit_at_and, bit_at_ones, bit_at_ones_above, bit_at-lt, bit_at-trailing_zeros}
 use Rattle.sedre.specs.Words.{is_set}
@@ -85,12 +86,29 @@ module _ (words other : List ℕ) (at from count : ℕ) where
       omega (arith, zero, one, other_one))
       (cases_lt c (64 * x))
 
--- words that have no bit in common with themselves have none
-pub meets_itself : (words : List ℕ) (count : ℕ) (met : Bool) → IsTrue met ↔ ((c : ℕ) × (c < count) × IsTrue (is_set words (64 * 0 + c)) × IsTrue (is_set words (64 * 0 + c))) →
-    IsTrue (not met) ↔ ((c : ℕ) → c < count → is_set words c ≡ false)
-meets_itself words count met is = (
-  λ h c lt. false_from_ne_true (is_set words c)
-      (λ set. let here = subst (λ v. IsTrue (is_set words v)) (let e : c ≡ 64 * 0 + c = omega arith in e) set in true≢false (sym (is.1 (c, lt, here, here)) ∙ not-true met h)),
-  λ all. not_from_false met (false_from_ne_true met
-      (λ h. let m = is.0 h in true≢false (sym m.2 ∙ all (64 * 0 + m.0) (omega (arith, m.1))))),
+-- marks that have none in common with themselves are none
+pub meets_itself : (marks : List Bool) (count : ℕ) (met : Bool) → IsTrue met ↔ ((c : ℕ) × (c < count) × IsTrue (slice_index_or marks c false) × IsTrue (slice_index_or marks c false)) →
+    IsTrue (not met) ↔ ((c : ℕ) → c < count → slice_index_or marks c false ≡ false)
+meets_itself marks count met is = (
+  λ h c lt. false_from_ne_true (slice_index_or marks c false) (λ set. true≢false (sym (is.1 (c, lt, set, set)) ∙ not-true met h)),
+  λ all. not_from_false met (false_from_ne_true met (λ h. let m = is.0 h in true≢false (sym m.2 ∙ all m.0 m.1))),
 )
+
+-- one bit is written
+pub bit_put : (words : List ℕ) (c x b old word : ℕ) (v : Bool) → c ≡ 64 * x + b → x < length words → b < 64 → old ≡ slice_index_or words x 0 → eqb (bit_at word b) 1 ≡ v →
+    ((i : ℕ) → i < 64 → i ≢ b → bit_at word i ≡ bit_at old i) →
+    (is_set (slice_set words x word) c ≡ v) × ((k : ℕ) → k ≢ c → is_set (slice_set words x word) k ≡ is_set words k)
+bit_put words c x b old word v at inside small is same other =
+    let after = slice_set words x word in (
+      set_at after c x b at small ∙ ap (λ w. eqb (bit_at w b) 1) (get_or-set_same words x word 0 inside) ∙ same,
+      λ k ne.
+          let d = k % 64 in
+          set_at after k (k / 64) d (omega arith) (omega arith)
+          ∙ ⊎_elim
+          (λ (e : k / 64 ≡ x).
+          ap (λ y. eqb (bit_at (slice_index_or after y 0) d) 1) e ∙ ap (λ w. eqb (bit_at w d) 1) (get_or-set_same words x word 0 inside)
+          ∙ ap (λ n. eqb n 1) (other d (omega arith) (λ f. ne (omega (arith, e, f, at)))) ∙ ap (λ w. eqb (bit_at w d) 1) is ∙ ap (λ y. eqb (bit_at (slice_index_or words y 0) d) 1) (sym e))
+          (λ (apart : k / 64 ≢ x). ap (λ w. eqb (bit_at w d) 1) (get_or-set_other words x (k / 64) word 0 apart))
+          (cases_eq (k / 64) x)
+          ∙ sym (set_at words k (k / 64) d (omega arith) (omega arith)),
+    )

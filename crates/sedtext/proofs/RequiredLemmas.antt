@@ -61,22 +61,6 @@ one_longer links q byte bytes after (Byte s) literal inside here alone fits is =
     )
 one_longer links q byte bytes after other literal inside here alone fits is = absurd alone
 
--- no byte is a literal
-pub no_literal : (links : List Link) (q : ℕ) (bytes : List ℕ) → bytes ≡ [] → q ≤ length links → IsLiteral links q bytes
-no_literal links q bytes none inside =
-    let short : length bytes ≡ 0 = ap length none in
-    let from : q ≡ q + length bytes = omega (arith, short) in (
-      omega (arith, short, inside),
-      λ nodes w i j within.
-          let here : i ≡ i + length bytes = omega (arith, short) in (
-            λ at. (
-              record { fits = omega (arith, short, within); reads = λ k lt. absurd (omega (arith, short, lt)) },
-              subst (λ v. ChainLeads nodes w (drop v links) (i + length bytes) j) from (subst (λ v. ChainLeads nodes w (drop q links) v j) here at),
-            ),
-            λ h. subst (λ v. ChainLeads nodes w (drop q links) v j) (sym here) (subst (λ v. ChainLeads nodes w (drop v links) (i + length bytes) j) (sym from) h.1),
-          ),
-    )
-
 -- a literal of the chain, where it is the longer one
 pub hold_longer : (links : List Link) (q : ℕ) (these those result : List ℕ) → IsLiteral links q those → AllHold links these → (result ≡ these) ⊎ (result ≡ those) → AllHold links result
 hold_longer links q these those result literal first which =

@@ -4,11 +4,12 @@ use Rattle.std.specs.Prelude.{eqb, slice_index_or, slice_set, replicate}
 use Rattle.std.specs.Int.{bit_at}
 use Rattle.sedre.specs.Words.{is_set}
 use Rattle.std.proofs.lemmas.Bool.{cases_eq, cases_lt}
-use Rattle.std.proofs.lemmas.List.{get_or_default, get_or-set_same, get_or-set_other, get_or-replicate, length-replicate, length-set, same_lists}
+use Rattle.std.proofs.lemmas.List.{get_or_default, get_or_past, get_or-set_same, get_or-set_other, get_or-replicate, length-replicate, length-set, same_lists}
 use Rattle.std.proofs.lemmas.List.FromFn.{get_or-map-range_with_len, length-map-range_with_len}
 use Rattle.std.proofs.lemmas.Nat.Bits.{bit_at-zero}
+use Rattle.sedtext.proofs.BitLemmas.{bit_put}
 use Rattle.sedtext.specs.declared.counted.rows.Rows.TheInside.{Inside}
-use Rattle.sedtext.specs.Words.{tabulated, marks_of, row_at, rows_of, row_of}
+use Rattle.sedtext.specs.Words.{tabulated, marks_of, row_at, rows_of, row_of, KeepsRows}
 
 length-table : {X : Type 0} → (f : ℕ → X) (n : ℕ) → length (tabulated f n) ≡ n
 unfolding tabulated
@@ -41,45 +42,21 @@ pub marks_of-get : (words : List ℕ) (n i word : ℕ) → i < n → word ≡ sl
 unfolding marks_of is_set
 marks_of-get words n i word lt is = ap (λ v. eqb (bit_at v (i % 64)) 1) is ∙ sym (table-get (is_set words) n i false lt)
 
--- a mark is a bit
-pub mark_bit : (words : List ℕ) (n i : ℕ) → i < n → slice_index_or (marks_of words n) i false ≡ is_set words i
-unfolding marks_of
-mark_bit words n i lt = table-get (is_set words) n i false lt
-
-zero_unmarked : (words : List ℕ) (i : ℕ) → slice_index_or words (i / 64) 0 ≡ 0 → is_set words i ≡ false
+pub zero_unmarked : (words : List ℕ) (i : ℕ) → slice_index_or words (i / 64) 0 ≡ 0 → is_set words i ≡ false
 unfolding is_set
 zero_unmarked words i is = ap (λ v. eqb (bit_at v (i % 64)) 1) is ∙ ap (λ v. eqb v 1) (bit_at-zero (i % 64))
-
-pub marks_of-clear : (words : List ℕ) (n i : ℕ) → i < n → slice_index_or words (i / 64) 0 ≡ 0 → slice_index_or (marks_of words n) i false ≡ false
-unfolding marks_of
-marks_of-clear words n i lt is = table-get (is_set words) n i false lt ∙ zero_unmarked words i is
 
 zeros : (m k : ℕ) → slice_index_or (replicate {A = ℕ} m 0) k 0 ≡ 0
 zeros zero k = refl
 zeros (suc m) zero = refl
 zeros (suc m) (suc k) = zeros m k
 
-pub marks_of-set : (words after : List ℕ) (n i old word : ℕ) (v : Bool) → n ≤ 64 * length words → i < n → old ≡ slice_index_or words (i / 64) 0 →
-    after ≡ slice_set words (i / 64) word → eqb (bit_at word (i % 64)) 1 ≡ v → ((b : ℕ) → b < 64 → b ≢ i % 64 → bit_at word b ≡ bit_at old b) →
-    marks_of after n ≡ slice_set (marks_of words n) i v
-unfolding marks_of is_set
-marks_of-set words after n i old word v room lt is is_after same other =
-    let inside : i / 64 < length words = omega arith in
-    table-set (is_set words) (is_set after) n i v lt
-    (ap (λ (l : List ℕ). eqb (bit_at (slice_index_or l (i / 64) 0) (i % 64)) 1) is_after
-    ∙ ap (λ x. eqb (bit_at x (i % 64)) 1) (get_or-set_same words (i / 64) word 0 inside) ∙ same)
-    (λ k low apart.
-    ap (λ (l : List ℕ). eqb (bit_at (slice_index_or l (k / 64) 0) (k % 64)) 1) is_after
-    ∙ ⊎_elim
-    (λ (e : k / 64 ≡ i / 64).
-    let bit : k % 64 ≢ i % 64 = λ f. apart (omega arith) in
-    ap (λ x. eqb (bit_at (slice_index_or (slice_set words (i / 64) word) x 0) (k % 64)) 1) e
-    ∙ ap (λ x. eqb (bit_at x (k % 64)) 1) (get_or-set_same words (i / 64) word 0 inside)
-    ∙ ap (λ x. eqb x 1) (other (k % 64) (omega arith) bit)
-    ∙ ap (λ x. eqb (bit_at x (k % 64)) 1) is
-    ∙ ap (λ x. eqb (bit_at (slice_index_or words x 0) (k % 64)) 1) (sym e))
-    (λ (ne : k / 64 ≡ i / 64 → ⊥). ap (λ x. eqb (bit_at x (k % 64)) 1) (get_or-set_other words (i / 64) (k / 64) word 0 ne))
-    (cases_eq (k / 64) (i / 64)))
+pub marks_of-set : (words : List ℕ) (n i old word : ℕ) (v : Bool) → n ≤ 64 * length words → i < n → old ≡ slice_index_or words (i / 64) 0 →
+    eqb (bit_at word (i % 64)) 1 ≡ v → ((b : ℕ) → b < 64 → b ≢ i % 64 → bit_at word b ≡ bit_at old b) → marks_of (slice_set words (i / 64) word) n ≡ slice_set (marks_of words n) i v
+unfolding marks_of
+marks_of-set words n i old word v room lt is same other =
+    let put = bit_put words i (i / 64) (i % 64) old word v (omega arith) (omega arith) (omega arith) is same other in
+    table-set (is_set words) (is_set (slice_set words (i / 64) word)) n i v lt put.0 (λ k low apart. put.1 k apart)
 
 pub marks_of-new : (words : List ℕ) (m n : ℕ) → words ≡ replicate m 0 → marks_of words n ≡ replicate n false
 unfolding marks_of
@@ -88,7 +65,7 @@ marks_of-new words m n is =
     (λ k lt. zero_unmarked words k (ap (λ (l : List ℕ). slice_index_or l (k / 64) 0) is ∙ zeros m (k / 64)) ∙ sym (get_or-replicate n k false false lt))
 
 -- a mark of a row
-pub length-row_at : (words : List ℕ) (width marks q : ℕ) → length (row_at words width marks q) ≡ marks
+length-row_at : (words : List ℕ) (width marks q : ℕ) → length (row_at words width marks q) ≡ marks
 unfolding row_at
 length-row_at words width marks q = length-table (λ k. is_set words (64 * (width * q) + k)) marks
 
@@ -96,15 +73,32 @@ pub length-rows_of : (words : List ℕ) (width marks n : ℕ) → length (rows_o
 unfolding rows_of
 length-rows_of words width marks n = length-table (row_at words width marks) n
 
-pub rows_of-get : (words : List ℕ) (width marks n q : ℕ) → q < n → row_of (rows_of words width marks n) q ≡ row_at words width marks q
+rows_of-get : (words : List ℕ) (width marks n q : ℕ) → q < n → row_of (rows_of words width marks n) q ≡ row_at words width marks q
 unfolding rows_of
 rows_of-get words width marks n q lt = table-get (row_at words width marks) n q [] lt
 
 pub length-row : (words : List ℕ) (width marks n q : ℕ) → q < n → length (row_of (rows_of words width marks n) q) ≡ marks
 length-row words width marks n q lt = ap length (rows_of-get words width marks n q lt) ∙ length-row_at words width marks q
 
+-- a mark is a bit
+row_mark : (words : List ℕ) (width marks n q i : ℕ) → q < n → i < marks → slice_index_or (row_of (rows_of words width marks n) q) i false ≡ is_set words (64 * (width * q) + i)
+unfolding row_at
+row_mark words width marks n q i lt low =
+    ap (λ l. slice_index_or l i false) (rows_of-get words width marks n q lt) ∙ table-get (λ k. is_set words (64 * (width * q) + k)) marks i false low
+
+-- one bit of a row is written
+row_at-set : (words : List ℕ) (width marks q i old word : ℕ) (v : Bool) → i < marks → width * q + i / 64 < length words → old ≡ slice_index_or words (width * q + i / 64) 0 →
+    eqb (bit_at word (i % 64)) 1 ≡ v → ((b : ℕ) → b < 64 → b ≢ i % 64 → bit_at word b ≡ bit_at old b) →
+    row_at (slice_set words (width * q + i / 64) word) width marks q ≡ slice_set (row_at words width marks q) i v
+unfolding row_at
+row_at-set words width marks q i old word v lt inside is same other =
+    let base = 64 * (width * q) in
+    let put = bit_put words (base + i) (width * q + i / 64) (i % 64) old word v (omega arith) inside (omega arith) is same other in
+    table-set (λ k. is_set words (base + k)) (λ k. is_set (slice_set words (width * q + i / 64) word) (base + k)) marks i v lt put.0
+    (λ k low apart. put.1 (base + k) (λ e. apart (omega (arith, e))))
+
 -- the words of a row are there
-pub row_inside : (width rows q c len : ℕ) → q < rows → c ≤ width → width * rows ≤ len → width * q + c ≤ len
+row_inside : (width rows q c len : ℕ) → q < rows → c ≤ width → width * rows ≤ len → width * q + c ≤ len
 row_inside width rows q c len lt low there =
     let up : q + 1 ≤ rows = omega arith in
     omega (arith, mul-le-mul_left width up, low, there)
@@ -121,24 +115,12 @@ marked_same words other base from i same =
     ∙ ap (λ v. eqb (bit_at v ((64 * from + i) % 64)) 1) same
     ∙ ap (λ x. eqb (bit_at (slice_index_or other x 0) ((64 * from + i) % 64)) 1) r
 
-pub row_agrees : (words other : List ℕ) (width marks n q count : ℕ) → count ≤ marks → count ≤ n →
-    ((k : ℕ) → k < count / 64 + 1 → 64 * k < count → slice_index_or words (width * q + k) 0 ≡ slice_index_or other k 0) →
-    (i : ℕ) → i < count → slice_index_or (row_at words width marks q) i false ≡ slice_index_or (marks_of other n) i false
-unfolding row_at marks_of
-row_agrees words other width marks n q count low high same i lt =
-    let e : i / 64 ≡ 0 + i / 64 = omega arith in
-    let f : 64 * 0 + i ≡ i = omega arith in
-    table-get (λ k. is_set words (64 * (width * q) + k)) marks i false (omega arith)
-    ∙ marked_same words other (width * q) 0 i (same (i / 64) (omega arith) (omega arith) ∙ ap (λ v. slice_index_or other v 0) e)
-    ∙ ap (is_set other) f
-    ∙ sym (table-get (is_set other) n i false (omega arith))
-
 marked_kept : (words after : List ℕ) (i : ℕ) → slice_index_or after (i / 64) 0 ≡ slice_index_or words (i / 64) 0 → is_set after i ≡ is_set words i
 unfolding is_set
 marked_kept words after i same = ap (λ v. eqb (bit_at v (i % 64)) 1) same
 
 -- a row whose words are the same is the same
-pub row_kept : (words after : List ℕ) (width marks q : ℕ) → marks ≤ 64 * width →
+row_kept : (words after : List ℕ) (width marks q : ℕ) → marks ≤ 64 * width →
     ((k : ℕ) → k < width → slice_index_or after (width * q + k) 0 ≡ slice_index_or words (width * q + k) 0) → row_at after width marks q ≡ row_at words width marks q
 unfolding row_at
 row_kept words after width marks q low same =
@@ -150,7 +132,7 @@ row_kept words after width marks q low same =
     ∙ sym (table-get (λ k. is_set words (64 * (width * q) + k)) marks i false lt))
 
 -- words of one row are not those of another
-pub row_apart : (width q p k c : ℕ) → k < width → c ≤ width → q ≢ p → (width * q + k < width * p) ⊎ (width * p + c ≤ width * q + k)
+row_apart : (width q p k c : ℕ) → k < width → c ≤ width → q ≢ p → (width * q + k < width * p) ⊎ (width * p + c ≤ width * q + k)
 row_apart width q p k c lt low apart =
     ⊎_elim
     (λ (less : q < p). inl (let up : q + 1 ≤ p = omega arith in omega (arith, mul-le-mul_left width up)))
@@ -168,15 +150,55 @@ module _ (r : Inside) (seen : List (List Bool)) (is : rows_of r.words.items r.wi
   pub marks_seen : (q : ℕ) → q < length seen → r.marks ≡ length (row_of seen q)
   marks_seen q lt = sym (length-row_at r.words.items r.width r.marks q) ∙ ap length (row_seen q lt)
 
-  pub words_there : (q c : ℕ) → q < length seen → c ≤ length (row_of seen q) → r.width * q + (c + 63) / 64 ≤ length r.words.items
+  -- the words of marks of a row are there, and are its own
+  pub words_there : (q c : ℕ) → q < length seen → c ≤ length (row_of seen q) → (r.width * q + (c + 63) / 64 ≤ length r.words.items) × ((c + 63) / 64 ≤ r.width)
   words_there q c lt low =
       let few = rows_seen in
       let all = marks_seen q lt in
       let most : (c + 63) / 64 ≤ r.width = omega (arith, all, inside.0) in
-      row_inside r.width r.count q ((c + 63) / 64) (length r.words.items) (omega arith) most inside.1
+      (row_inside r.width r.count q ((c + 63) / 64) (length r.words.items) (omega arith) most inside.1, most)
+
+  -- a mark of a row is a bit, whatever was written
+  pub new_bit : (words : List ℕ) (q i : ℕ) → q < length seen → i < length (row_of seen q) → slice_index_or (row_of (rows_of words r.width r.marks r.count) q) i false ≡ is_set words (64 * (r.width * q) + i)
+  new_bit words q i lt low =
+      let few = rows_seen in
+      let all = marks_seen q lt in
+      row_mark words r.width r.marks r.count q i (omega (arith, few, lt)) (omega (arith, all, low))
 
   pub row_bit : (q i : ℕ) → q < length seen → i < length (row_of seen q) → slice_index_or (row_of seen q) i false ≡ is_set r.words.items (64 * (r.width * q) + i)
-  unfolding row_at
-  row_bit q i lt low =
+  row_bit q i lt low = ap (λ rows. slice_index_or (row_of rows q) i false) (sym is) ∙ new_bit r.words.items q i lt low
+
+  -- a mark of a row is written
+  pub mark_written : (q i old word : ℕ) (v : Bool) → q < length seen → i < length (row_of seen q) → old ≡ slice_index_or r.words.items (r.width * q + i / 64) 0 →
+      eqb (bit_at word (i % 64)) 1 ≡ v → ((b : ℕ) → b < 64 → b ≢ i % 64 → bit_at word b ≡ bit_at old b) →
+      row_of (rows_of (slice_set r.words.items (r.width * q + i / 64) word) r.width r.marks r.count) q ≡ slice_set (row_of seen q) i v
+  mark_written q i old word v lt low read same other =
+      let few = rows_seen in
       let all = marks_seen q lt in
-      ap (λ l. slice_index_or l i false) (sym (row_seen q lt)) ∙ table-get (λ k. is_set r.words.items (64 * (r.width * q) + k)) r.marks i false (omega (arith, all, low))
+      let there = words_there q (i + 1) lt (omega (arith, low)) in
+      rows_of-get (slice_set r.words.items (r.width * q + i / 64) word) r.width r.marks r.count q (omega (arith, few, lt))
+      ∙ row_at-set r.words.items r.width r.marks q i old word v (omega (arith, all, low)) (omega (arith, there)) read same other
+      ∙ ap (λ l. slice_set l i v) (row_seen q lt)
+
+  -- where words of one row alone were written, the others are as they were
+  pub row_written : (after : List ℕ) (p c : ℕ) → c ≤ r.width → ((k : ℕ) → k < r.width * p → slice_index_or after k 0 ≡ slice_index_or r.words.items k 0) →
+      ((k : ℕ) → r.width * p + c ≤ k → slice_index_or after k 0 ≡ slice_index_or r.words.items k 0) → KeepsRows (λ q. q ≢ p) seen (rows_of after r.width r.marks r.count)
+  row_written after p c narrow before rest =
+      let few = rows_seen in
+      let long = length-rows_of after r.width r.marks r.count in
+      let past : (q : ℕ) → length seen ≤ q → row_of (rows_of after r.width r.marks r.count) q ≡ row_of seen q =
+      (λ q ge. get_or_past (rows_of after r.width r.marks r.count) q [] (omega (arith, ge, few, long)) ∙ sym (get_or_past seen q [] ge)) in
+      record {
+        len = long ∙ few;
+        lens = λ q. ⊎_elim
+            (λ (lt : q < length seen). length-row after r.width r.marks r.count q (omega (arith, few, lt)) ∙ marks_seen q lt)
+            (λ (ge : length seen ≤ q). ap length (past q ge))
+            (cases_lt q (length seen));
+        same = λ q apart. ⊎_elim
+            (λ (lt : q < length seen).
+            rows_of-get after r.width r.marks r.count q (omega (arith, few, lt))
+            ∙ row_kept r.words.items after r.width r.marks q inside.0 (λ k low. ⊎_elim (before (r.width * q + k)) (rest (r.width * q + k)) (row_apart r.width q p k c low narrow apart))
+            ∙ row_seen q lt)
+            (past q)
+            (cases_lt q (length seen));
+      }

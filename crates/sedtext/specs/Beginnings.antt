@@ -1,19 +1,18 @@
 -- Private to the proofs: no contract that `sedmatch` makes public cites what is here.
 -- From which places a match can begin.
-use Rattle.std.specs.Prelude.{◌≡◌, ℕ, ◌+◌, ◌<◌, ◌≤◌, List, length, slice_get, Option, Some, None}
+use Rattle.std.specs.Prelude.{◌≡◌, ℕ, ◌+◌, ◌<◌, ◌≤◌, List, length, Option, Some, None}
 use Rattle.sedre.specs.Tree.{Tree}
 use Rattle.sedtext.specs.Spans.{Matches}
 use Rattle.sedtext.specs.Bytes.{MemberAt}
 use Rattle.sedtext.specs.Sieve.{PassesSieve}
 use Rattle.sedtext.specs.declared.beginnings.Begins.{Begins}
-use Rattle.sedtext.specs.declared.beginnings.Begins.TheVariants.{Anyhow, AtStart, WithByte, WithSet, Before}
+use Rattle.sedtext.specs.declared.beginnings.Begins.TheVariants.{Anyhow, AtStart, With, Before}
 
 -- a span that begins so can begin at the place
 abbrev pub CanBegin : Begins → List ℕ → ℕ → Type 0
 CanBegin Anyhow w i = Unit {0}
 CanBegin AtStart w i = i ≡ 0
-CanBegin (WithByte b) w i = slice_get w i ≡ Some b
-CanBegin (WithSet s) w i = MemberAt s w i
+CanBegin (With s) w i = MemberAt s w i
 CanBegin (Before s) w i = PassesSieve s w i
 
 -- all spans of the expression begin so

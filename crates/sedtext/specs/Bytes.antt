@@ -19,7 +19,3 @@ MemberAt members w i = (byte : ℕ) × (slice_get w i ≡ Some byte) × IsIn byt
 abbrev pub looked_at : ℕ → ℕ → Option ℕ → ℕ
 looked_at n p None = n - p
 looked_at n p (Some k) = k + 1 - p
-
--- the text is of bytes
-abbrev pub AreBytes : List ℕ → Type 0
-AreBytes w = (i c : ℕ) → slice_get w i ≡ Some c → c < 256

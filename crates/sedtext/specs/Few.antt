@@ -1,7 +1,6 @@
 -- Private to the proofs: no contract that `sedmatch` makes public cites what is here.
 -- Up to three bytes, one of which is sought.
-use Rattle.std.specs.Prelude.{Bool, ◌≡◌, ◌⊎◌, ℕ, ◌<◌, ◌↔◌, List, slice_get, Option, Some, None}
-use Rattle.sedtext.specs.Bytes.{FirstFrom}
+use Rattle.std.specs.Prelude.{Bool, ◌≡◌, ◌⊎◌, ℕ, ◌↔◌, List, slice_get, Option, Some, None}
 use Rattle.sedtext.specs.Spans.{IsIn}
 use Rattle.sedtext.specs.declared.counted.few.Few.{Few}
 use Rattle.sedtext.specs.declared.counted.few.Few.TheVariants.{One, Two, Three}
@@ -16,10 +15,6 @@ HasFew (Three a b d) c = (c ≡ a) ⊎ ((c ≡ b) ⊎ (c ≡ d))
 abbrev pub FewAt : Few → List ℕ → ℕ → Type 0
 FewAt few w i = (c : ℕ) × (slice_get w i ≡ Some c) × HasFew few c
 
--- the first place from p on that has one of the few, if there is one
-abbrev pub FirstFew : Few → List ℕ → ℕ → Option ℕ → Type 0
-FirstFew few w = FirstFrom (FewAt few w)
-
 -- the byte is one of those gathered before
 abbrev pub IsGathered : Option Few → ℕ → Type 0
 IsGathered None c = ⊥
@@ -27,4 +22,4 @@ IsGathered (Some few) c = HasFew few c
 
 -- the few are the members of the set
 abbrev pub AreMembers : List Bool → Few → Type 0
-AreMembers set few = (c : ℕ) → c < 256 → HasFew few c ↔ IsIn c set
+AreMembers set few = (c : ℕ) → HasFew few c ↔ IsIn c set

@@ -2,7 +2,6 @@
 use Rattle.std.specs.Prelude.{ℕ, ◌+◌, ◌-◌, ◌<◌, ◌≤◌, List, length, Option, Some, None}
 use Rattle.sedre.specs.Steps.{TakesAtLeast}
 use Rattle.sedre.specs.Tree.{Tree}
-use Rattle.sedtext.specs.Bytes.{AreBytes}
 use Rattle.sedtext.specs.Matching.{next_match}
 use Rattle.sedtext.specs.Spans.{Matches}
 
@@ -30,7 +29,7 @@ OccursAfter e w last f = Matches e w f.0 f.1 × LiesOn (length w) last f
 
 -- the expression has a match that ends before the text does: so the search for one goes over the text from its beginning
 abbrev pub CanEndEarly : Tree → Type 0
-CanEndEarly e = (w : List ℕ) × AreBytes w × (i : ℕ) × (j : ℕ) × (j < length w) × Matches e w i j
+CanEndEarly e = (w : List ℕ) × (i : ℕ) × (j : ℕ) × (j < length w) × Matches e w i j
 
 -- how many bytes there are up to the end of an occurrence, or between the end of the last one, or the byte that is passed over there,
 -- and that end

@@ -30,7 +30,7 @@ abbrev pub IsWithin : ℕ → Link → Type 0
 IsWithin n (Either x y) = (x < n) × (y < n)
 IsWithin n other = Unit {0}
 
--- the expression's chain: its spans are those of the links, of which alternatives are nodes
+-- the expression's chain: its spans are those of the links, and the alternatives of a link are nodes of the expression
 pub record IsChain (nodes : List Node) (e : Tree) (links : List Link) : Type 0 where
   pub spans : (w : List ℕ) (i j : ℕ) → Matches e w i j ↔ ChainLeads nodes w links i j
   pub within : All (IsWithin (length nodes)) links

@@ -1,14 +1,10 @@
 -- Private to the proofs: no contract that `sedmatch` makes public cites what is here.
 -- Nodes of an expression by their indices, and their parts.
-use Rattle.std.specs.Prelude.{◌≡◌, ℕ, ◌+◌, ◌<◌, ◌≤◌, Bool, List, [], ◌∷◌, length, slice_get, Some}
+use Rattle.std.specs.Prelude.{◌≡◌, ℕ, ◌+◌, Bool, List, [], ◌∷◌, slice_get, Some}
 use Rattle.sedre.specs.Tree.{tree_at, size}
 use Rattle.sedre.specs.declared.types.Node.{Node}
 use Rattle.sedre.specs.declared.types.NodeId.{NodeId}
 use Rattle.sedre.specs.declared.types.Node.TheVariants.{Seq, Alt, Group, Star, Opt}
-
--- x is a node, and there are no more of them than an expression may have
-abbrev pub IsNode : List Node → ℕ → Type 0
-IsNode nodes x = (x < length nodes) × (length nodes ≤ 65536)
 
 -- the parts of a node, the left one first
 abbrev pub parts_of : Node → List ℕ

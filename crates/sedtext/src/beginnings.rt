@@ -1,10 +1,9 @@
 //! From which places a match can begin at all, so that the others are passed over.
-ghost use Rattle.std.specs.Prelude.{ℕ, List, ◌-◌, ◌*◌, ◌≤◌, length, IfOk, IfSome, Some};
+ghost use Rattle.std.specs.Prelude.{◌≡◌, List, ◌-◌, ◌*◌, ◌≤◌, length, IfOk, IfSome, Some};
 ghost use Rattle.sedre.specs.Tree.{expression_tree, Tree};
 ghost use Rattle.sedre.specs.declared.types.Node.{Node};
-ghost use Rattle.sedtext.specs.Beginnings.{AllBegin, CanBegin, NextStart, skip_cost};
+ghost use Rattle.sedtext.specs.Beginnings.{AllBegin, NextStart, skip_cost};
 ghost use Rattle.sedtext.specs.Branches.{AllHave, AreBranches};
-ghost use Rattle.sedtext.specs.Bytes.{MemberAt};
 ghost use Rattle.sedtext.specs.Costs.{CostsWithin};
 ghost use Rattle.sedtext.specs.Links.{IsChain};
 ghost use Rattle.sedtext.specs.Sieve.{AllPass, AllFixed};
@@ -13,8 +12,8 @@ ghost use Rattle.sedre.specs.Steps.{TakesAtLeast};
 use crate::branches::{MAX_OFFSET, branches_of, set_at};
 use crate::counted::Text;
 use crate::counted::lookups::sift;
-use crate::counted::members::find_member;
 use crate::counted::nibbles::Nibbles;
+use crate::counted::set_finder::SetFinder;
 use crate::counted::sieve::{Fixed, Sieve};
 use crate::links::Link;
 use sedre::{ByteSet, Expr, Steps};
@@ -30,16 +29,14 @@ const LETTERS: [u8; 26] = [
 ];
 
 /// How every span of an expression begins.
-#[derive(Clone, Copy)]
+#[derive(Drop)]
 pub enum Begins {
     /// Nothing is known of it.
     Anyhow,
     /// At the beginning of the text.
     AtStart,
-    /// With this byte.
-    WithByte(u8),
     /// With a byte of this set.
-    WithSet(ByteSet),
+    With(SetFinder),
     /// So that bytes of three sets are at their distances after it.
     Before(Sieve),
 }
@@ -69,53 +66,37 @@ fn set_weight(set: &ByteSet) -> usize {
     total
 }
 
+/// A sieve of these.
+fn sieve_of(first: Fixed, second: Fixed, third: Fixed) -> Sieve
+    ensures { result ≡ record { first = first; second = second; third = third } }
+{
+    Sieve {
+        first,
+        second,
+        third,
+    }
+}
+
 /// The three rarest of these and one more. Where there are fewer, the first is taken again.
 fn with_fixed(sieve: Option<Sieve>, more: Fixed) -> Sieve
     ensures { (e : Tree) → AllPass e sieve → AllFixed e more → AllPass e (Some result) }
 {
-    let Some(
-        Sieve {
-            first,
-            second,
-            third,
-        },
-    ) = sieve
-    else {
+    let Some(sieve) = sieve else {
         let again = Fixed {
-            offset: more.offset,
-            set: more.set,
             weight: usize::MAX,
+            ..more
         };
-        return Sieve {
-            first: more,
-            second: again,
-            third: again,
-        };
+        return sieve_of(more, again, again);
     };
+    let (first, second, third) = (sieve.first, sieve.second, sieve.third);
     if more.weight < first.weight {
-        Sieve {
-            first: more,
-            second: first,
-            third: second,
-        }
+        sieve_of(more, first, second)
     } else if more.weight < second.weight {
-        Sieve {
-            first,
-            second: more,
-            third: second,
-        }
+        sieve_of(first, more, second)
     } else if more.weight < third.weight {
-        Sieve {
-            first,
-            second,
-            third: more,
-        }
+        sieve_of(first, second, more)
     } else {
-        Sieve {
-            first,
-            second,
-            third,
-        }
+        sieve_of(first, second, third)
     }
 }
 
@@ -145,16 +126,6 @@ fn rarest_of(branches: &[Vec<Link>]) -> Option<Sieve>
     sieve
 }
 
-/// What begins with a byte of the set.
-fn begins_with(set: ByteSet) -> Begins
-    ensures { (w : List ℕ) (i : ℕ) → MemberAt set w i → CanBegin result w i }
-{
-    match set.sole() {
-        Some(byte) => Begins::WithByte(byte),
-        None => Begins::WithSet(set),
-    }
-}
-
 /// How every span of an expression begins, as far as the chains show of which one leads on where one begins.
 fn begins_by(branches: &[Vec<Link>]) -> Begins
     ensures { (nodes : List Node) (e : Tree) → AreBranches nodes e branches.now → AllBegin e result }
@@ -165,7 +136,7 @@ fn begins_by(branches: &[Vec<Link>]) -> Begins
         }
     }
     match set_at(branches, 0) {
-        Some(set) => begins_with(set),
+        Some(set) => Begins::With(SetFinder::of(&set)),
         None => Begins::Anyhow,
     }
 }
@@ -197,8 +168,7 @@ pub fn next_start(begins: &Begins, text: &Text, from: usize, steps: &mut Steps) 
     match begins {
         Begins::Anyhow => Some(from),
         Begins::AtStart => if from == 0 { Some(0) } else { None },
-        Begins::WithByte(byte) => text.find_byte(*byte, from, steps),
-        Begins::WithSet(set) => find_member(text, set, from, steps),
+        Begins::With(finder) => finder.find(text, from, steps),
         Begins::Before(sieve) => sift(text, sieve, from, steps),
     }
 }

@@ -1,25 +1,25 @@
 //! What can be looked at only by calls that count.
 //!
-//! The bytes of a text without a count are seen here alone and in the modules below: in [`lookups`] and [`members`],
-//! which count what they look at, and in what works for these on bare bytes. A text gives them out nowhere.
+//! The bytes of a text without a count are seen here alone and in the modules below: in [`lookups`], [`members`] and
+//! [`set_finder`], which count what they look at, and in what works for these on bare bytes. A text gives them out nowhere.
 ghost use Rattle.std.specs.Prelude.{◌≡◌, ℕ, Bool, false, List, ◌+◌, ◌^◌, ◌<◌, ◌≤◌, length};
 ghost use Rattle.std.specs.Prelude.{slice_index_or, slice_set, slice_get, Some, IfOk, replicate, eqb, ◌≢◌, ◌*◌, IsTrue, ◌↔◌};
 ghost use Rattle.std.specs.Prelude.{vec_len};
 ghost use Rattle.std.specs.Int.{bit_at};
-ghost use Rattle.sedtext.specs.Bytes.{AreBytes, FirstAt, looked_at};
+ghost use Rattle.sedtext.specs.Bytes.{FirstAt, looked_at};
 ghost use Rattle.sedtext.specs.Words.{marks_of};
 ghost use Rattle.sedre.specs.Words.{is_set};
 ghost use Rattle.sedre.specs.Steps.{Takes, TakesExactly};
 
-pub mod few;
+pub(crate) mod few;
 pub mod lookups;
 pub mod members;
 pub mod nibbles;
 mod rows;
+pub mod set_finder;
 pub mod sieve;
 
-use few::Few;
-use lookups::find_few;
+use memchr::memchr;
 pub use rows::Rows;
 use sedre::Steps;
 use std::alloc::{AllocError, Global};
@@ -54,7 +54,6 @@ impl<'a> Text<'a> {
     }
 
     /// The place `count` bytes after `place`, at most one past the text's end.
-    #[inline(always)]
     pub fn after(&self, place: usize, count: usize) -> usize
         requires { place + count ≤ length self.now + 1 }
         ensures { result ≡ place + count }
@@ -82,12 +81,22 @@ impl<'a> Text<'a> {
         ensures cost { Takes steps.old steps.new (looked_at (length self.now) from result) }
         ensures counts { TakesExactly steps.old steps.new (looked_at (length self.now) from result) }
     {
-        find_few(self, &Few::One(value), from, steps)
+        let bytes = uncounted(self);
+        let after = &bytes[from..];
+        match memchr(value, after) {
+            None => {
+                steps.add(after.len());
+                None
+            }
+            Some(place) => {
+                steps.add(place + 1);
+                Some(from + place)
+            }
+        }
     }
 }
 
 /// The bytes of a text, for a lookup of a module below, which counts its looks itself.
-#[inline(always)]
 fn uncounted<'a>(text: &Text<'a>) -> &'a [u8]
     ensures { result.now ≡ text.now }
 {
@@ -99,20 +108,6 @@ fn is_short(text: &Text)
     ensures { length text.now < 2 ^ 63 }
 {
     let _count = text.bytes.len();
-}
-
-/// For proofs: each element of a text is below 256.
-pub fn are_bytes(text: &Text)
-    ensures { AreBytes text.now }
-{
-    all_bytes(text.bytes)
-}
-
-/// For proofs: what a slice of bytes contains are bytes.
-fn all_bytes(bytes: &[u8])
-    ensures { AreBytes bytes.now }
-{
-    let _count = bytes.len();
 }
 
 /// A list of marks, each set or not. A word contains 64 of them.
@@ -170,41 +165,6 @@ impl Marks {
         let word = put_bit(self.words[i / 64], i % 64, mark);
         self.words[i / 64] = word;
     }
-
-    /// Takes the first `count` marks away, a word at a time; those after them may go too.
-    /// Counts a look for each of the `count`.
-    pub fn clear(&mut self, count: usize, steps: &mut Steps)
-        requires inside { count ≤ length self.old }
-        ensures len { length self.new ≡ length self.old }
-        ensures clear { (c : ℕ) → c < count → slice_index_or self.new c false ≡ false }
-        ensures cost { Takes steps.old steps.new count }
-        ensures counts { TakesExactly steps.old steps.new count }
-    {
-        steps.add(count);
-        clear_words(&mut self.words, count.div_ceil(64));
-    }
-
-    /// Whether none of the first `count` marks is set, a word at a time. Counts a look for each of the `count`.
-    pub fn is_clear(&self, count: usize, steps: &mut Steps) -> bool
-        requires inside { count ≤ length self.now }
-        ensures clear { IsTrue result ↔ ((c : ℕ) → c < count → slice_index_or self.now c false ≡ false) }
-        ensures cost { Takes steps.old steps.new count }
-        ensures counts { TakesExactly steps.old steps.new count }
-    {
-        steps.add(count);
-        !words_meet(&self.words, 0, &self.words, 0, count)
-    }
-
-    /// A number made of the first `count` marks and the rest of their last word.
-    /// Counts a look for each of the `count`.
-    pub fn digest(&self, count: usize, steps: &mut Steps) -> u64
-        requires inside { count ≤ length self.now }
-        ensures cost { Takes steps.old steps.new count }
-        ensures counts { TakesExactly steps.old steps.new count }
-    {
-        steps.add(count);
-        digest_words(&self.words, count.div_ceil(64))
-    }
 }
 
 /// `count` words without a mark.
@@ -235,14 +195,16 @@ fn put_bit(word: u64, k: usize, mark: bool) -> u64
     }
 }
 
-/// Takes all marks of the first `count` words away.
-fn clear_words(words: &mut Vec<u64>, count: usize)
-    requires { count ≤ vec_len words.old }
+/// Takes all marks of the `count` words from `at` on away.
+fn clear_words(words: &mut Vec<u64>, at: usize, count: usize)
+    requires { at + count ≤ vec_len words.old }
     ensures len { length words.new.items ≡ length words.old.items }
-    ensures clear { (k : ℕ) → k < count → slice_index_or words.new.items k 0 ≡ 0 }
+    ensures clear { (k : ℕ) → k < count → slice_index_or words.new.items (at + k) 0 ≡ 0 }
+    ensures before { (k : ℕ) → k < at → slice_index_or words.new.items k 0 ≡ slice_index_or words.old.items k 0 }
+    ensures rest { (k : ℕ) → at + count ≤ k → slice_index_or words.new.items k 0 ≡ slice_index_or words.old.items k 0 }
 {
     for x in 0..count {
-        words[x] = 0;
+        words[at + x] = 0;
     }
 }
 
@@ -272,13 +234,13 @@ fn words_meet(words: &Vec<u64>, at: usize, other: &Vec<u64>, from: usize, count:
     false
 }
 
-/// A number made of the first `count` words.
-fn digest_words(words: &Vec<u64>, count: usize) -> u64
-    requires inside { count ≤ vec_len words.now }
+/// A number made of the `count` words from `at` on.
+fn digest_words(words: &Vec<u64>, at: usize, count: usize) -> u64
+    requires inside { at + count ≤ vec_len words.now }
 {
     let mut digest = 0u64;
     for x in 0..count {
-        digest = (digest.rotate_left(5) ^ words[x]).wrapping_mul(0x9E37_79B9_7F4A_7C15);
+        digest = (digest.rotate_left(5) ^ words[at + x]).wrapping_mul(0x9E37_79B9_7F4A_7C15);
     }
     digest ^ (digest >> 32)
 }

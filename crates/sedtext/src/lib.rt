@@ -2,8 +2,8 @@
 //! text itself, and which match of an expression of `sedre` is sought and what its groups are (XBD 9.1), as definitions and laws.
 //!
 //! A [`Text`], its bytes and [`Marks`] are looked at by calls that count one step for each look. They are in [`counted`], with
-//! what is looked for in a text's bytes: bytes of a set, a few bytes, a literal. No bytes of a text are
-//! seen without a count outside of that module and those below it.
+//! what is looked for in a text's bytes: bytes of a set, a literal. No bytes of a text are seen without a count outside of that
+//! module and those below it.
 //!
 //! [`links`] takes an expression apart into a chain, and what follows asks chains alone. [`beginnings`] shows from which places a
 //! match can begin at all, by the chains of its first alternatives, which [`branches`] has. [`required`] and [`fixed_runs`] find out

@@ -1,13 +1,15 @@
 //! Up to three bytes, one of which is sought.
-ghost use Rattle.std.specs.Prelude.{◌≡◌, ℕ, ◌↔◌, ◌⊎◌, IfSome, IsTrue};
-ghost use Rattle.sedtext.specs.Few.{AreMembers, IsGathered, HasFew, FirstFew};
+ghost use Rattle.std.specs.Prelude.{◌≡◌, ℕ, ◌<◌, ◌↔◌, ◌⊎◌, IfSome};
+ghost use Rattle.sedtext.specs.Bytes.{FirstFrom};
+ghost use Rattle.sedtext.specs.Few.{AreMembers, FewAt, HasFew, IsGathered};
+ghost use Rattle.sedtext.specs.Spans.{IsIn};
 
 use memchr::{memchr, memchr2, memchr3};
 use sedre::ByteSet;
 
 /// Up to three bytes.
 #[derive(Clone, Copy)]
-pub enum Few {
+pub(crate) enum Few {
     /// One.
     One(u8),
     /// Two.
@@ -17,20 +19,9 @@ pub enum Few {
 }
 
 impl Few {
-    /// Whether the byte is one of them.
-    pub fn has(&self, byte: u8) -> bool
-        ensures { IsTrue result ↔ HasFew self.now byte }
-    {
-        match self {
-            Few::One(first) => byte == *first,
-            Few::Two(first, second) => byte == *first || byte == *second,
-            Few::Three(first, second, third) => byte == *first || byte == *second || byte == *third,
-        }
-    }
-
     /// The first place at which one of them is, if there is one.
     pub(super) fn find(&self, bytes: &[u8]) -> Option<usize>
-        ensures { FirstFew self.now bytes.now 0 result }
+        ensures { FirstFrom (FewAt self.now bytes.now) 0 result }
     {
         match self {
             Few::One(first) => memchr(*first, bytes),
@@ -52,10 +43,18 @@ fn with_byte(few: Option<Few>, byte: u8) -> Option<Few>
     }
 }
 
+/// For proofs: each member of a set is below 256.
+fn are_bytes(set: &ByteSet)
+    ensures { (c : ℕ) → IsIn c set.now → c < 256 }
+{
+    let _both = set.union(set);
+}
+
 /// The members of the set, if it has one to three.
-pub fn members_of(set: &ByteSet) -> Option<Few>
+pub(crate) fn members_of(set: &ByteSet) -> Option<Few>
     ensures { IfSome result (AreMembers set.now) }
 {
+    are_bytes(set);
     let mut few = None;
     for byte in 0..256usize {
         if set.has(byte as u8) {

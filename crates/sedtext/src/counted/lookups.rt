@@ -1,39 +1,14 @@
-//! Where few bytes, literals and bytes of three sets are in a text, by calls that count.
+//! Where literals and bytes of three sets are in a text, by calls that count.
 ghost use Rattle.std.specs.Prelude.{◌*◌, ◌≤◌, length, IfSome};
 ghost use Rattle.sedtext.specs.Bytes.{looked_at};
-ghost use Rattle.sedtext.specs.Few.{FirstFew};
 ghost use Rattle.sedtext.specs.Required.{FirstLiteral, passed_to};
 ghost use Rattle.sedtext.specs.Sieve.{NoneBefore, PassesSieve};
 ghost use Rattle.sedre.specs.Steps.{Takes, TakesAtLeast, TakesExactly};
 
-use super::few::Few;
 use super::sieve::Sieve;
 use super::{Text, uncounted};
 use memchr::memmem::Finder;
 use sedre::Steps;
-
-/// The first place from `from` on that has one of the few bytes, if there is one.
-/// Counts a look for each byte from `from` to that place, or to the end where there is none.
-#[inline(always)]
-pub fn find_few(text: &Text, few: &Few, from: usize, steps: &mut Steps) -> Option<usize>
-    requires from { from ≤ length text.now }
-    ensures first { FirstFew few.now text.now from result }
-    ensures cost { Takes steps.old steps.new (looked_at (length text.now) from result) }
-    ensures counts { TakesExactly steps.old steps.new (looked_at (length text.now) from result) }
-{
-    let bytes = uncounted(text);
-    let after = &bytes[from..];
-    match few.find(after) {
-        None => {
-            steps.add(after.len());
-            None
-        }
-        Some(place) => {
-            steps.add(place + 1);
-            Some(from + place)
-        }
-    }
-}
 
 /// The first place from `from` on at which the literal begins, if there is one.
 /// Counts a look for each byte from `from` to the literal's end, or to the end where there is none.

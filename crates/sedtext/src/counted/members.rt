@@ -1,9 +1,9 @@
-//! Whether a byte is in a set; and bytes of a set in a text: the first one from a place on, and how far a run of them goes
-//! forwards and backwards, by calls that count.
-ghost use Rattle.std.specs.Prelude.{◌≡◌, ◌+◌, ◌-◌, ◌<◌, ◌≤◌, length, min, slice_get, Some, IfSome};
+//! Whether a byte is in a set, and the first one that is; and how far a run of bytes of a set goes in a text, forwards and
+//! backwards, by calls that count.
+ghost use Rattle.std.specs.Prelude.{◌≡◌, ◌+◌, ◌-◌, ◌<◌, ◌≤◌, length, min, slice_get, Some};
 ghost use Rattle.sedtext.specs.Runs.{IsRun, RunBegins};
 ghost use Rattle.sedtext.specs.Matching.{byte_is_in};
-ghost use Rattle.sedtext.specs.Bytes.{FirstFrom, MemberAt, looked_at};
+ghost use Rattle.sedtext.specs.Bytes.{FirstFrom, MemberAt};
 ghost use Rattle.sedtext.specs.Costs.{CostsWithin};
 ghost use Rattle.sedre.specs.Steps.{Takes, TakesExactly};
 
@@ -29,14 +29,13 @@ fn byte_at(bytes: &[u8], i: usize) -> u8
     bytes[i]
 }
 
-/// The first place from `from` on whose byte is in the set, if there is one.
+/// The first place whose byte is in the set, if there is one.
 // As a part of a large function it would be slower by the byte.
 #[inline(never)]
-fn first_member(set: &ByteSet, bytes: &[u8], from: usize) -> Option<usize>
-    requires { from ≤ length bytes.now }
-    ensures first { FirstFrom (MemberAt set.now bytes.now) from result }
+pub(super) fn first_member(set: &ByteSet, bytes: &[u8]) -> Option<usize>
+    ensures first { FirstFrom (MemberAt set.now bytes.now) 0 result }
 {
-    for place in from..bytes.len() {
+    for place in 0..bytes.len() {
         let byte = byte_at(bytes, place);
         if set.has(byte) {
             return Some(place);
@@ -77,28 +76,6 @@ fn run_back(set: &ByteSet, bytes: &[u8], from: usize, to: usize) -> usize
         }
     }
     from
-}
-
-/// The first place from `from` on whose byte is in the set, if there is one.
-/// Counts a look for each byte from `from` to that place, or to the end where there is none.
-#[inline(always)]
-pub fn find_member(text: &Text, set: &ByteSet, from: usize, steps: &mut Steps) -> Option<usize>
-    requires from { from ≤ length text.now }
-    ensures first { FirstFrom (MemberAt set.now text.now) from result }
-    ensures cost { Takes steps.old steps.new (looked_at (length text.now) from result) }
-    ensures counts { TakesExactly steps.old steps.new (looked_at (length text.now) from result) }
-{
-    let bytes = uncounted(text);
-    match first_member(set, bytes, from) {
-        None => {
-            steps.add(bytes.len() - from);
-            None
-        }
-        Some(place) => {
-            steps.add(place - from + 1);
-            Some(place)
-        }
-    }
 }
 
 /// The end of the run of bytes of the set that begins at the place.

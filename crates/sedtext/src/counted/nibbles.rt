@@ -28,7 +28,6 @@ fn with_bit(row: u8, k: usize) -> u8
 }
 
 /// The table twice.
-#[inline(always)]
 fn twice(table: &[u8; 16]) -> u8x32
     ensures { HasLanes result (λ k. slice_index table.now (k % 16)) }
 {
@@ -39,7 +38,6 @@ fn twice(table: &[u8; 16]) -> u8x32
 }
 
 /// What the table contains for each lane.
-#[inline(always)]
 fn look_up(table: &[u8; 16], lanes: u8x32) -> u8x32
     requires { (k : ℕ) → k < 32 → slice_index lanes k < 16 }
     ensures { HasLanes result (λ k. slice_index table.now (slice_index lanes k)) }
@@ -70,7 +68,6 @@ impl Nibbles {
     }
 
     /// Of 32 lanes those whose byte is marked, a bit each.
-    #[inline(always)]
     pub(super) fn marked(&self, lanes: u8x32) -> u64
         ensures few { result < 2 ^ 32 }
         ensures marked { (k : ℕ) → k < 32 → IsMarked self.now.rows (slice_index lanes k) → bit_at result k ≡ 1 }

@@ -32,7 +32,6 @@ pub struct Sieve {
 }
 
 /// The 32 bytes from the place `at` on.
-#[inline(always)]
 fn lanes_at(bytes: &[u8], at: usize) -> u8x32
     requires { at + 32 ≤ length bytes.now }
     ensures { (k : ℕ) → k < 32 → slice_index result k ≡ slice_index bytes.now (at + k) }
@@ -50,7 +49,6 @@ impl Fixed {
     }
 
     /// Of the 32 places from one on those after which one of them comes, a bit each.
-    #[inline(always)]
     fn marks(&self, bytes: &[u8], place: usize) -> u64
         requires { place + self.now.offset + 32 ≤ length bytes.now }
         ensures { MarksPlaces (FixedAt self.now bytes.now) place result }
@@ -74,7 +72,6 @@ impl Sieve {
     }
 
     /// Of the 32 places from one on those after which bytes of all three come, a bit each.
-    #[inline(always)]
     fn marks(&self, bytes: &[u8], place: usize) -> u64
         requires first { place + self.now.first.offset + 32 ≤ length bytes.now }
         requires second { place + self.now.second.offset + 32 ≤ length bytes.now }

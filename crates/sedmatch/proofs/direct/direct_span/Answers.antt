@@ -3,7 +3,7 @@ use Rattle.sedmatch.proofs.DirectLemmas.{direct_answer, looks_at_match, looks_fr
 use Rattle.sedmatch.proofs.direct.direct_span.Goals as goal
 
 pub returns-clause-answer : goal.returns-clause-answer
-returns-clause-answer c e is = direct_answer e c.args.form.now is c.args.text.now c.are_bytes.ensures c.args.from c.form_span.result c.form_span.ensures.span
+returns-clause-answer c e is = direct_answer e c.args.form.now is c.args.text.now c.args.from c.form_span.result c.form_span.ensures.span
 
 pub returns-clause-lies : goal.returns-clause-lies
 returns-clause-lies c = span_lies c.args.form.now c.args.text.now c.args.from c.form_span.result c.form_span.ensures.span

@@ -5,25 +5,25 @@ use Rattle.sedmatch.proofs.occurrences.next_by.Goals as goal
 
 pub index_mut-requires : goal.index_mut-requires
 index_mut-requires c =
-    let inside = own_there c.args.sought.now.prepared.arena.expr c.args.text.now c.make_ready.new.self c.make_ready.ensures.ready.table c.if-not-occurrences.false in
+    let inside = own_there c.args.prepared.now.arena.expr c.args.text.now c.make_ready.new.self c.make_ready.ensures.ready.table c.if-not-occurrences.false in
     omega (arith, inside, c.make_ready.new.self.own.ok.0)
 
 pub next_with-requires-2-clause-ready : goal.next_with-requires-2-clause-ready
 next_with-requires-2-clause-ready c = record {
   begins = c.requires.sought.begins;
   forward_one = c.requires.forward_one;
-  serves = own_serves c.args.sought.now.prepared c.args.text.now c.make_ready.new.self c.in-Some.reverse_any c.make_ready.ensures.ready.table c.if-not-occurrences.false
-      (own_is c.args.sought.now.prepared.arena.expr c.args.text.now c.make_ready.new.self c.make_ready.ensures.ready.table c.if-not-occurrences.false _ _ c.index_mut.ensures.value c.in-Some.is);
+  serves = own_serves c.args.prepared.now c.args.text.now c.make_ready.new.self c.in-Some.reverse c.make_ready.ensures.ready.table c.if-not-occurrences.false
+      (own_is c.args.prepared.now.arena.expr c.args.text.now c.make_ready.new.self c.make_ready.ensures.ready.table c.if-not-occurrences.false _ _ c.index_mut.ensures.value c.in-Some.is);
 }
 
 pub unreachable-requires : goal.unreachable-requires
 unreachable-requires c =
-    own_missing c.args.sought.now.prepared.arena.expr c.args.text.now c.make_ready.new.self c.make_ready.ensures.ready.table c.if-not-occurrences.false
-    (own_is c.args.sought.now.prepared.arena.expr c.args.text.now c.make_ready.new.self c.make_ready.ensures.ready.table c.if-not-occurrences.false _ _ c.index_mut.ensures.value c.in_default.is)
+    own_missing c.args.prepared.now.arena.expr c.args.text.now c.make_ready.new.self c.make_ready.ensures.ready.table c.if-not-occurrences.false
+    (own_is c.args.prepared.now.arena.expr c.args.text.now c.make_ready.new.self c.make_ready.ensures.ready.table c.if-not-occurrences.false _ _ c.index_mut.ensures.value c.in_default.is)
 
 pub returns-then-not-occurrences-clause-answered : goal.returns-then-not-occurrences-clause-answered
 returns-then-not-occurrences-clause-answered c =
-    let p = c.args.sought.now.prepared in
+    let p = c.args.prepared.now in
     let w = c.args.text.now in
     let mid = c.make_ready.new.self in
     let first = c.make_ready.ensures in
@@ -36,14 +36,14 @@ returns-then-not-occurrences-clause-answered c =
 
 pub returns-clause-answered : goal.returns-clause-answered
 returns-clause-answered c =
-    let p = c.args.sought.now.prepared in
+    let p = c.args.prepared.now in
     let w = c.args.text.now in
     let mid = c.make_ready.new.self in
     let first = c.make_ready.ensures in
     let new = c.next_with-2.new in
     let done = c.next_with-2.ensures in
     let is = own_is p.arena.expr w mid first.ready.table c.if-not-occurrences.false _ _ c.index_mut.ensures.value c.in-Some.is in
-    let next = own_searched p w c.args.forward_one.now new.forward_one c.in-Some.reverse_any new.reverse_any mid new.seeking first.ready.room done.searched c.if-not-occurrences.false is in
+    let next = own_searched p w c.args.forward_one.now new.forward_one c.in-Some.reverse new.reverse_any mid new.seeking first.ready.room done.searched c.if-not-occurrences.false is in
     let last = p.is_prepared.last in
     shows p.arena.expr w c.args.last c.args.occurrences.now mid (record mid { seeking = new.seeking; own = with_item mid.own mid.number (Some new.reverse_any) }) c.next_with-2.result c.args.steps.now new.steps (omega (arith, last))
     c.requires.serves first.ready next first.same first.owed first.used done.next done.occurs done.cost done.looks

@@ -11,19 +11,19 @@ use Rattle.sedmatch.proofs.occurrences.next_with.Goals as goal
 
 pub returns-in_err-start-clause-next : goal.returns-in_err-start-clause-next
 returns-in_err-start-clause-next c =
-    let e = expression_tree c.args.sought.now.prepared.arena.expr in
+    let e = expression_tree c.args.prepared.now.arena.expr in
     rw (c.in_default.is, c.from_residual.ensures) (answer_found e c.args.text.now 0 None (omega arith) (tt, c.in_err-start.ensures.narrowed e c.requires.sought.required, tt))
 
-first : (c : goal.After-next_match) → SpanAnswer (expression_tree c.args.sought.now.prepared.arena.expr) c.args.text.now 0 c.next_match.result
+first : (c : goal.After-next_match) → SpanAnswer (expression_tree c.args.prepared.now.arena.expr) c.args.text.now 0 c.next_match.result
 first c =
-    let e = expression_tree c.args.sought.now.prepared.arena.expr in
+    let e = expression_tree c.args.prepared.now.arena.expr in
     let place = c.in_ok-start.ensures.narrowed e c.requires.sought.required in
     later_answer e c.args.text.now 0 c.in_ok-start.start c.next_match.result place.0 place.2 c.next_match.ensures.answer
 
 pub returns-in_default : goal.returns-in_default
 returns-in_default c =
-    let e = expression_tree c.args.sought.now.prepared.arena.expr in
-    let m = length c.args.sought.now.prepared.arena.expr.nodes in
+    let e = expression_tree c.args.prepared.now.arena.expr in
+    let m = length c.args.prepared.now.arena.expr.nodes in
     let w = c.args.text.now in
     let n = length w in
     let old = c.args.seeking.now in
@@ -44,15 +44,15 @@ returns-in_default c =
         first_paid m n start (owed_seeking m n old start) (owed_seeking m n old 0) s a t (owed_seeking m n c.next_match.new.seeking) r (search_falls m n old 0 start (omega arith)) (omega (arith, skipped.cost.1)) done.cost.1,
       );
       looks = record {
-        once = (omega (arith, skipped.cost.0, done.each.0), first_square m n start s a t (omega (arith, c.args.sought.now.prepared.is_prepared.last)) (omega (arith, skipped.cost.1)) done.each.1);
+        once = (omega (arith, skipped.cost.0, done.each.0), first_square m n start s a t (omega (arith, c.args.prepared.now.is_prepared.last)) (omega (arith, skipped.cost.1)) done.each.1);
         counts = looks_to_end 0 s t r (looks_later 0 start s a t r skipped.counts done.counts);
       };
     }
 
 pub returns-then-not-is_null_at : goal.returns-then-not-is_null_at
 returns-then-not-is_null_at c =
-    let e = expression_tree c.args.sought.now.prepared.arena.expr in
-    let m = length c.args.sought.now.prepared.arena.expr.nodes in
+    let e = expression_tree c.args.prepared.now.arena.expr in
+    let m = length c.args.prepared.now.arena.expr.nodes in
     let w = c.args.text.now in
     let n = length w in
     let at = c.in-Some.at in
@@ -61,7 +61,7 @@ returns-then-not-is_null_at c =
     let one = c.next_match-first.ensures in
     let other : Option (ℕ × ℕ) = if nat_lt at n then leftmost_longest e w (at + 1) else None in
     let lies = lies_behind n at r (answer_lies e w at r one.answer) (c.is_null_at.ensures.after c.if-not-is_null_at.true) in
-    let most = one_square m n at (omega (arith, c.args.sought.now.prepared.is_prepared.last)) in
+    let most = one_square m n at (omega (arith, c.args.prepared.now.is_prepared.last)) in
     let next = passed_by at r (leftmost_longest e w at) other r c.is_null_at.result false (answer_found e w at r within one.answer) (c.is_null_at.ensures.passed other) c.if-not-is_null_at.true refl in
     rw c.in-Some.is record {
       searched = one.searched;
@@ -73,8 +73,8 @@ returns-then-not-is_null_at c =
 
 pub returns-then-at-len : goal.returns-then-at-len
 returns-then-at-len c =
-    let e = expression_tree c.args.sought.now.prepared.arena.expr in
-    let m = length c.args.sought.now.prepared.arena.expr.nodes in
+    let e = expression_tree c.args.prepared.now.arena.expr in
+    let m = length c.args.prepared.now.arena.expr.nodes in
     let w = c.args.text.now in
     let n = length w in
     let at = c.in-Some.at in
@@ -82,7 +82,7 @@ returns-then-at-len c =
     let r = c.next_match-first.result in
     let one = c.next_match-first.ensures in
     let other : Option (ℕ × ℕ) = if nat_lt at n then leftmost_longest e w (at + 1) else None in
-    let most = one_square m n at (omega (arith, c.args.sought.now.prepared.is_prepared.last)) in
+    let most = one_square m n at (omega (arith, c.args.prepared.now.is_prepared.last)) in
     rw c.in-Some.is record {
       searched = one.searched;
       next = passed_by at r (leftmost_longest e w at) other None c.is_null_at.result true (answer_found e w at r within one.answer) (c.is_null_at.ensures.passed other) c.if-not-is_null_at.false
@@ -94,7 +94,7 @@ returns-then-at-len c =
 
 pub returns : goal.returns
 returns c =
-    let p = c.args.sought.now.prepared in
+    let p = c.args.prepared.now in
     let e = expression_tree p.arena.expr in
     let m = length p.arena.expr.nodes in
     let w = c.args.text.now in

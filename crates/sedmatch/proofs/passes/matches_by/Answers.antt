@@ -5,11 +5,11 @@ use Rattle.sedpass.proofs.KeptLemmas.{space_same}
 use Rattle.sedmatch.proofs.passes.matches_by.Goals as goal
 
 pub matches_with-requires-clause-from : goal.matches_with-requires-clause-from
-matches_with-requires-clause-from c = (c.in-Some.ensures.narrowed (expression_tree c.args.passes.now.sought.prepared.arena.expr) c.requires.passes.0.required).1
+matches_with-requires-clause-from c = (c.in-Some.ensures.narrowed (expression_tree c.args.passes.now.prepared.arena.expr) c.requires.passes.0.required).1
 
 pub returns-in-Some-own-clause-answered : goal.returns-in-Some-own-clause-answered
 returns-in-Some-own-clause-answered c =
-    let p = c.args.passes.now.sought.prepared in
+    let p = c.args.passes.now.prepared in
     let last = p.is_prepared.last in
     let first = c.in-Some.ensures in
     let done = c.matches_with.ensures in
@@ -17,10 +17,10 @@ returns-in-Some-own-clause-answered c =
     (first.narrowed (expression_tree p.arena.expr) c.requires.passes.0.required) first.cost first.counts done.matches done.passes done.cost
 
 pub fit-requires : goal.fit-requires
-fit-requires c = passes_fewer (length c.args.passes.now.sought.prepared.arena.expr.nodes) c.args.desk.now.max_nodes c.args.desk.now.shared c.requires.desk.0.shared c.requires.desk.2
+fit-requires c = passes_fewer (length c.args.passes.now.prepared.arena.expr.nodes) c.args.desk.now.max_nodes c.args.desk.now.shared c.requires.desk.0.shared c.requires.desk.2
 
 pub matches_with-requires-2-clause-from : goal.matches_with-requires-2-clause-from
-matches_with-requires-2-clause-from c = (c.in-Some.ensures.narrowed (expression_tree c.args.passes.now.sought.prepared.arena.expr) c.requires.passes.0.required).1
+matches_with-requires-2-clause-from c = (c.in-Some.ensures.narrowed (expression_tree c.args.passes.now.prepared.arena.expr) c.requires.passes.0.required).1
 
 pub returns-clause-desk : goal.returns-clause-desk
 returns-clause-desk c =
@@ -29,11 +29,11 @@ returns-clause-desk c =
     let new = c.matches_with-2.new in
     let done = c.matches_with-2.ensures in
     desk_again d d.room d.reverse_any new.tables is (space_same d.room.kept) is.space.none (omega arith) is.reverse_any
-    (all_used d.max_nodes c.args.passes.now.sought.prepared d.shared c.fit.new.self new.tables is.shared c.fit.ensures.room done.room done.tables) refl (done.room.1.reverse_one.1 ∙ c.fit.ensures.room.1.reverse_one.1)
+    (all_used d.max_nodes c.args.passes.now.prepared d.shared c.fit.new.self new.tables is.shared c.fit.ensures.room done.room done.tables) refl (done.room.1.reverse_one.1 ∙ c.fit.ensures.room.1.reverse_one.1)
 
 pub returns-clause-answered : goal.returns-clause-answered
 returns-clause-answered c =
-    let p = c.args.passes.now.sought.prepared in
+    let p = c.args.passes.now.prepared in
     let last = p.is_prepared.last in
     let first = c.in-Some.ensures in
     let done = c.matches_with-2.ensures in

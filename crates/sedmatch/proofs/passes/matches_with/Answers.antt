@@ -8,13 +8,13 @@ use Rattle.sedmatch.proofs.passes.matches_with.Goals as goal
 
 pub returns-in-AtStart : goal.returns-in-AtStart
 returns-in-AtStart c =
-    let p = c.args.sought.now.prepared in
+    let p = c.args.prepared.now in
     let e = expression_tree p.arena.expr in
     let w = c.args.text.now in
     let next = c.in-Some.ensures in
     let run = c.run.ensures in
     let is = c.is_some.ensures in
-    let from = some_from e w c.args.sought.now.begins c.args.from c.in-Some.start c.requires.begins next.next in
+    let from = some_from e w c.args.prepared.now.begins c.args.from c.in-Some.start c.requires.begins next.next in
     let shown = anchored_shown e w c.in-Some.start c.run.result.end c.is_some.result next.next.1 (subst (AllBegin e) c.in-AtStart.is c.requires.begins) (run.longest (one_of p c.args.tables.now.groups c.requires.tables.2).single) is in
     record {
       tables = (c.requires.tables.0, c.requires.tables.1, groups_after p c.args.tables.now.groups c.run.new.self c.requires.tables.2 run.table run.shape);
@@ -30,13 +30,13 @@ returns-in-AtStart c =
 
 pub returns-in_default-begins : goal.returns-in_default-begins
 returns-in_default-begins c =
-    let p = c.args.sought.now.prepared in
+    let p = c.args.prepared.now in
     let e = expression_tree p.arena.expr in
     let w = c.args.text.now in
     let next = c.in-Some.ensures in
     let run = c.run-in_default-begins.ensures in
     let is = c.is_some-in_default-begins.ensures in
-    let from = some_from e w c.args.sought.now.begins c.args.from c.in-Some.start c.requires.begins next.next in
+    let from = some_from e w c.args.prepared.now.begins c.args.from c.in-Some.start c.requires.begins next.next in
     let all = run.found (ap (λ v. v.all_starts) c.requires.tables.1) in
     record {
       tables = (run.table, run.shape.0 ∙ c.requires.tables.1, c.requires.tables.2);

@@ -13,7 +13,7 @@ returns-in-Some-clause-passes c =
 pub fit-requires : goal.fit-requires
 fit-requires c =
     let d = c.args.desk.now in
-    record { roomy = roomy_fewer (length c.args.passes.now.sought.prepared.arena.expr.nodes) d.max_nodes d.shared.groups.forward_one c.requires.desk.2 c.requires.desk.0.shared.1.forward_one }
+    record { roomy = roomy_fewer (length c.args.passes.now.prepared.arena.expr.nodes) d.max_nodes d.shared.groups.forward_one c.requires.desk.2 c.requires.desk.0.shared.1.forward_one }
 
 pub returns-clause-desk : goal.returns-clause-desk
 returns-clause-desk c =
@@ -22,4 +22,4 @@ returns-clause-desk c =
     let new = c.next_by-2.new.forward_one in
     let done = c.next_by-2.ensures in
     desk_again d d.room d.reverse_any (record d.shared { groups = record d.shared.groups { forward_one = new } }) is (space_same d.room.kept) is.space.none (omega arith) is.reverse_any
-    (is.shared.0, one_used d.max_nodes c.args.passes.now.sought.prepared d.shared.groups c.fit.new.self new is.shared.1 c.fit.ensures.room done.forward_one_shape done.forward_one.table) refl refl
+    (is.shared.0, one_used d.max_nodes c.args.passes.now.prepared d.shared.groups c.fit.new.self new is.shared.1 c.fit.ensures.room done.forward_one_shape done.forward_one.table) refl refl

@@ -1,108 +1,119 @@
-use Rattle.std.proofs.Common.{◌≡◌, ◌+◌, ◌-◌, Bool, Some, refl, ap, ◌∙◌, arith, ℕ, length, slice_get, slice_index_or, slice_set, false}
+use Rattle.std.proofs.Common.{◌≡◌, ◌≢◌, ◌+◌, ◌-◌, ◌<◌, Bool, Some, ap, ◌∙◌, arith, ℕ, length, slice_get, slice_index_or, subst, false}
 use Rattle.sedre.specs.Steps.{TakesAtLeast, TakesExactly}
-use Rattle.sedpass.proofs.Words.{seen-arena, seen-length, enter_parts, Marked, Enters, CanEnd, least_none}
+use Rattle.sedpass.proofs.Words.{seen-arena, seen-length, enter_parts, KeepsRows, row_of, Marked, Enters, CanEnd, least_none}
 use Rattle.sedpass.specs.Prepared.{null_in}
-use Rattle.sedpass.specs.Rows.{nodes_of, bits, InTree, StaysWide, TreeFrom, RowFrom}
+use Rattle.sedpass.specs.Rows.{nodes_of, bits, ends_row, InTree, TreeFrom, RowFrom, RowOfPlace}
 use Rattle.sedpass.proofs.FactLemmas.{inside_seen}
-use Rattle.sedpass.proofs.RowLemmas.{down, down_root, enter_long, enters_few, set_long, tree_shown, row_none, row_step, row_done, bits_clear, bits_set, bits_other}
-use Rattle.sedpass.proofs.rows.descend.Goals.{After-set}
+use Rattle.sedpass.proofs.RowLemmas.{Others, down, down_root, enters_few, keeps_then, rows_written, still_wide, tree_shown, row_none, row_step, row_done, bits_clear, bits_set, bits_other}
 use Rattle.sedpass.proofs.rows.descend.Goals as goal
-
--- what was done before the loop leaves as many marks
-begun : (c : After-set) → StaysWide c.args.work.now (record c.args.work.now { entered = c.set.new.self; leaves = c.clear.new.self; ends = c.clear-2.new.self })
-begun c n h = (set_long n _ _ _ _ c.set.ensures.marks h.0, h.1, omega (arith, h.2, c.clear.ensures.len), omega (arith, h.3, c.clear-2.ensures.len))
 
 pub loop-x-init : goal.loop-x-init
 loop-x-init c =
-    let e = c.args.prepared.now.arena.expr in
+    let act = c.args.act in
+    let e = act.prepared.now.arena.expr in
     let m = length e.nodes in
-    let nodes = nodes_of c.args.way e in
-    let arena = seen-arena c.args.way.mirrored e c.nodes-nodes.ensures.expr.arena in
+    let nodes = nodes_of act.way e in
+    let arena = seen-arena act.way.mirrored e c.nodes-nodes.ensures.expr.arena in
+    let leaves = c.leaves_row-leaves.result in
+    let ends = c.ends_row-ends.result in
+    let old = c.args.rows.now in
+    let one = c.clear.new.self in
+    let two = c.clear-2.new.self in
+    let new = c.set.new.self in
+    let apart : leaves < ends = omega (arith, c.leaves_row-leaves.ensures, c.ends_row-ends.ensures) in
+    let keeps : KeepsRows (Others leaves ends) old new =
+    keeps_then (λ q. (q ≢ leaves) × (q ≢ ends)) (λ q. q ≢ 0) (Others leaves ends) old two new (λ q is. ((is.1, is.2), λ n. omega (arith, n, is.0)))
+    (keeps_then (λ q. q ≢ leaves) (λ q. q ≢ ends) (λ q. (q ≢ leaves) × (q ≢ ends)) old one two (λ q is. is) c.clear.ensures.keeps c.clear-2.ensures.keeps) c.set.ensures.keeps in
+    let some : 0 < leaves = omega (arith, c.leaves_row-leaves.ensures) in
+    let first : row_of new leaves ≡ row_of one leaves = c.set.ensures.keeps.same leaves (λ n. omega (arith, n, some)) ∙ c.clear-2.ensures.keeps.same leaves (λ n. omega (arith, n, apart)) in
+    let second : row_of new ends ≡ row_of two ends = c.set.ensures.keeps.same ends (λ n. omega (arith, n, some, apart)) in
     record {
       grows = omega arith;
       above = omega arith;
       cost = omega arith;
       counts = least_none c.set.new.steps _ (omega arith);
-      wide = λ n h. h;
-      kept = refl;
+      wide = still_wide (Others leaves ends) m c.args.state old new keeps c.requires.wide;
+      keeps = keeps;
       shown = λ w s place nulls ended begins. (
-        down_root nodes w c.args.root place (c.args.root + 1) s c.args.first c.args.work.now.entered c.set.new.self arena (omega arith) (omega arith) c.set.ensures.marks begins,
-        row_none nodes w c.args.root place s c.args.way.mirrored (c.args.root + 1) (bits m c.clear.new.self) (bits m c.clear-2.new.self) arena (omega arith)
-            (bits_clear m c.clear.new.self (λ n less. c.clear.ensures.clear n (omega arith))) (bits_clear m c.clear-2.new.self (λ n less. c.clear-2.ensures.clear n (omega arith))),
+        down_root nodes w act.root place (act.root + 1) s c.args.first (row_of two 0) (row_of new 0) arena (omega arith) (omega arith) c.set.ensures.marks begins,
+        row_none nodes w act.root place s act.way.mirrored (act.root + 1) (bits m (row_of new leaves)) (bits m (row_of new ends)) arena (omega arith)
+            (bits_clear m (row_of new leaves) (λ n less. ap (λ l. slice_index_or l n false) first ∙ c.clear.ensures.clear n (omega arith)))
+            (bits_clear m (row_of new ends) (λ n less. ap (λ l. slice_index_or l n false) second ∙ c.clear-2.ensures.clear n (omega arith))),
       );
     }
 
 pub loop-x-preserved : goal.loop-x-preserved
 unfolding TakesAtLeast TakesExactly
 loop-x-preserved c =
-    let e = c.args.prepared.now.arena.expr in
+    let act = c.args.act in
+    let e = act.prepared.now.arena.expr in
     let m = length e.nodes in
-    let nodes = nodes_of c.args.way e in
-    let r = c.args.root in
+    let nodes = nodes_of act.way e in
+    let r = act.root in
     let x = c.loop-x.x - 1 in
     let above : c.loop-x.x ≡ x + 1 = omega arith in
     let node = c.look-node.result in
     let is : slice_get nodes x ≡ Some node = c.look-node.ensures.node in
     let arena = c.look-node.ensures.arena in
-    let there : InTree nodes r x = (c.low-low.ensures.range c.args.way.mirrored x).0 (omega arith, omega arith) in
-    let null : ℕ → Bool = null_in e.nodes c.args.kind in
-    let ended : ℕ → Bool = λ n. slice_index_or c.loop-x.work.ended n false in
-    let here : c.get-here.result ≡ slice_index_or c.loop-x.work.entered x false = c.get-here.ensures.mark in
-    let value : c.enter.new.work.entered ≡ enter_parts (slice_index_or c.loop-x.work.entered x false) null ended node c.loop-x.work.entered = rw (← here) c.enter.ensures.marks in
-    let leaf_set : c.set-in-loop-x.new.self ≡ slice_set c.loop-x.work.leaves x c.leaf_bit-leaf.result = rw (← c.enter.ensures.others.1) c.set-in-loop-x.ensures.marks in
-    let end_set : c.set-in-loop-x-2.new.self ≡ slice_set c.loop-x.work.ends x c.end_bit-kept.result = rw (← c.enter.ensures.others.2) c.set-in-loop-x-2.ensures.marks in
+    let there : InTree nodes r x = (c.low-low.ensures.range act.way.mirrored x).0 (omega arith, omega arith) in
+    let null : ℕ → Bool = null_in e.nodes act.kind in
+    let leaves = c.leaves_row-leaves.result in
+    let ends = c.ends_row-ends.result in
+    let old = c.loop-x.rows in
+    let new = c.set-in-loop-x-2.new.self in
+    let inv = c.loop-x.invariant in
+    let wide = inv.wide in
+    let ended : ℕ → Bool = λ n. slice_index_or (row_of old 1) n false in
+    let here : c.get-here.result ≡ slice_index_or (row_of old 0) x false = c.get-here.ensures.mark in
+    let some = c.leaves_row-leaves.ensures in
+    let more = c.ends_row-ends.ensures in
+    let written = rows_written leaves ends x c.leaf_bit-leaf.result c.end_bit-kept.result old c.enter.new.rows c.set-in-loop-x.new.self new (omega (arith, some)) (omega (arith, some, more))
+    c.enter.ensures.keeps c.set-in-loop-x.ensures.keeps c.set-in-loop-x.ensures.marks c.set-in-loop-x-2.ensures.keeps c.set-in-loop-x-2.ensures.marks in
+    let value : row_of new 0 ≡ enter_parts (slice_index_or (row_of old 0) x false) null ended node (row_of old 0) = written.1 ∙ rw (← here) c.enter.ensures.marks in
     let few = enters_few x node c.look-node.ensures.parts in
-    let wide = c.loop-x.invariant.wide m (begun (goal.at.loop-x-preserved c).After-set m c.requires.wide) in
     record {
       grows = omega arith;
       above = omega arith;
       cost = omega arith;
       counts = omega arith;
-      wide = λ n h.
-          let g = c.loop-x.invariant.wide n h in (
-            enter_long n _ _ _ _ _ _ c.enter.ensures.marks g.0,
-            omega (arith, g.1, ap length c.enter.ensures.others.0),
-            set_long n _ _ _ _ leaf_set g.2,
-            set_long n _ _ _ _ end_set g.3,
-          );
-      kept = c.enter.ensures.others.0 ∙ c.loop-x.invariant.kept;
-      shown = λ w s place nulls ends begins.
-          let old : Marked c.loop-x.work.entered (TreeFrom nodes r (x + 1)) (λ n. Enters nodes w r s n place) × RowFrom nodes w r s c.args.way.mirrored place (x + 1) (bits m c.loop-x.work.leaves) (bits m c.loop-x.work.ends) =
-          rw (← above) (c.loop-x.invariant.shown w s place nulls ends begins) in
-          let shown : Marked c.loop-x.work.ended (InTree nodes r) (λ n. CanEnd nodes w r s n place) = rw c.loop-x.invariant.kept ends in
-          let none = nulls x (inside_seen c.args.way.mirrored e x (omega arith)) in (
-            down nodes w r x place s arena (inside_seen c.args.way.mirrored e r c.requires.root) there null ended nulls shown c.loop-x.work.entered (omega (arith, wide.0, seen-length c.args.way.mirrored e)) old.0 node c.enter.new.work.entered is value,
-            row_step nodes w r place s c.args.way.mirrored x node c.get-here.result c.get-end.result c.null_at-null.result
-                (bits m c.loop-x.work.leaves) (bits m c.loop-x.work.ends) (bits m c.set-in-loop-x.new.self) (bits m c.set-in-loop-x-2.new.self) is
-                (rw here (old.0 x (tree_shown nodes arena r x there))) (rw c.get-end.ensures.mark (shown x there)) (rw c.null_at-null.ensures.null none)
-                (bits_set m c.enter.new.work.leaves c.set-in-loop-x.new.self x c.leaf_bit-leaf.result (omega (arith, wide.2, ap length c.enter.ensures.others.1)) (omega (arith, wide.2, ap length c.enter.ensures.others.1)) c.set-in-loop-x.ensures.marks ∙ c.leaf_bit-leaf.ensures)
-                (bits_set m c.enter.new.work.ends c.set-in-loop-x-2.new.self x c.end_bit-kept.result (omega (arith, wide.3, ap length c.enter.ensures.others.2)) (omega (arith, wide.3, ap length c.enter.ensures.others.2)) c.set-in-loop-x-2.ensures.marks ∙ c.end_bit-kept.ensures)
+      wide = still_wide (Others leaves ends) m c.args.state old new written.0 wide;
+      keeps = keeps_then (Others leaves ends) (Others leaves ends) (Others leaves ends) c.args.rows.now old new (λ q far. (far, far)) inv.keeps written.0;
+      shown = λ w s place nulls marks begins.
+          let before : Marked (row_of old 0) (TreeFrom nodes r (x + 1)) (λ n. Enters nodes w r s n place) × RowFrom nodes w r s act.way.mirrored place (x + 1) (bits m (row_of old leaves)) (bits m (row_of old ends)) =
+          rw (← above) (inv.shown w s place nulls marks begins) in
+          let kept : row_of old 1 ≡ row_of c.args.rows.now 1 = inv.keeps.same 1 (omega arith, λ n. omega (arith, n, some), λ n. omega (arith, n, more)) in
+          let shown : Marked (row_of old 1) (InTree nodes r) (λ n. CanEnd nodes w r s n place) = rw kept marks in
+          let none = nulls x (inside_seen act.way.mirrored e x (omega arith)) in (
+            down nodes w r x place s arena (inside_seen act.way.mirrored e r c.requires.root) there null ended nulls shown (row_of old 0) (omega (arith, wide.2 0 (omega (arith, wide.1)), seen-length act.way.mirrored e)) before.0 node (row_of new 0) is value,
+            row_step nodes w r place s act.way.mirrored x node c.get-here.result c.get-end.result c.null_at-null.result
+                (bits m (row_of old leaves)) (bits m (row_of old ends)) (bits m (row_of new leaves)) (bits m (row_of new ends)) is
+                (rw here (before.0 x (tree_shown nodes arena r x there))) (rw c.get-end.ensures.mark (shown x there)) (rw c.null_at-null.ensures.null none)
+                (bits_set m (row_of old leaves) (row_of new leaves) x c.leaf_bit-leaf.result (omega arith) (omega (arith, wide.2 leaves (omega (arith, wide.1, some)))) written.2 ∙ c.leaf_bit-leaf.ensures)
+                (bits_set m (row_of old ends) (row_of new ends) x c.end_bit-kept.result (omega arith) (omega (arith, wide.2 ends (omega (arith, wide.1, more)))) written.3 ∙ c.end_bit-kept.ensures)
                 (λ n ne. (
-                  bits_other m c.loop-x.work.leaves c.set-in-loop-x.new.self x c.leaf_bit-leaf.result leaf_set n ne,
-                  bits_other m c.loop-x.work.ends c.set-in-loop-x-2.new.self x c.end_bit-kept.result end_set n ne,
-                )) old.1,
+                  bits_other m (row_of old leaves) (row_of new leaves) x c.leaf_bit-leaf.result written.2 n ne,
+                  bits_other m (row_of old ends) (row_of new ends) x c.end_bit-kept.result written.3 n ne,
+                )) before.1,
           );
     }
 
+pub returns-clause-keeps : goal.returns-clause-keeps
+returns-clause-keeps c =
+    subst (λ l. KeepsRows (Others l (ends_row c.args.state)) c.args.rows.now c.loop-x.rows) c.leaves_row-leaves.ensures
+    (subst (λ l. KeepsRows (Others c.leaves_row-leaves.result l) c.args.rows.now c.loop-x.rows) c.ends_row-ends.ensures c.loop-x.invariant.keeps)
+
 pub returns-clause-row : goal.returns-clause-row
 returns-clause-row c w s place nulls ended begins =
-    let e = c.args.prepared.now.arena.expr in
+    let act = c.args.act in
+    let e = act.prepared.now.arena.expr in
     let m = length e.nodes in
-    row_done (nodes_of c.args.way e) w c.args.root place s c.args.way.mirrored c.loop-x.x (bits m c.loop-x.work.leaves) (bits m c.loop-x.work.ends)
-    (λ n there. let from = ((c.low-low.ensures.range c.args.way.mirrored n).1 there).0 in omega arith)
-    (c.loop-x.invariant.shown w s place nulls ended begins).1
+    let rows = c.loop-x.rows in
+    subst (λ l. RowOfPlace (nodes_of act.way e) w act.root s act.way.mirrored place (bits m (row_of rows l)) (bits m (row_of rows (ends_row c.args.state)))) c.leaves_row-leaves.ensures
+    (subst (λ l. RowOfPlace (nodes_of act.way e) w act.root s act.way.mirrored place (bits m (row_of rows c.leaves_row-leaves.result)) (bits m (row_of rows l))) c.ends_row-ends.ensures
+    (row_done (nodes_of act.way e) w act.root place s act.way.mirrored c.loop-x.x (bits m (row_of rows c.leaves_row-leaves.result)) (bits m (row_of rows c.ends_row-ends.result))
+    (λ n there. let from = ((c.low-low.ensures.range act.way.mirrored n).1 there).0 in omega arith)
+    (c.loop-x.invariant.shown w s place nulls ended begins).1))
 
 pub returns-clause-counts : goal.returns-clause-counts
 unfolding TakesAtLeast TakesExactly
 returns-clause-counts c = omega arith
-
-pub returns-clause-wide : goal.returns-clause-wide
-returns-clause-wide c n h = c.loop-x.invariant.wide n (begun (goal.at.returns-clause-wide c).After-set n h)
-
-pub enter-requires-clause-wide : goal.enter-requires-clause-wide
-enter-requires-clause-wide c = c.loop-x.invariant.wide (length c.args.prepared.now.arena.expr.nodes) (begun (goal.at.enter-requires-clause-wide c).After-set _ c.requires.wide)
-
-pub set-requires-in-loop-x-2 : goal.set-requires-in-loop-x-2
-set-requires-in-loop-x-2 c =
-    let wide = c.loop-x.invariant.wide (length c.args.prepared.now.arena.expr.nodes) (begun (goal.at.set-requires-in-loop-x-2 c).After-set _ c.requires.wide) in
-    omega (arith, wide.3, ap length c.enter.ensures.others.2)

@@ -9,7 +9,7 @@ use Rattle.sedpass.proofs.search.next_match.Goals as goal
 searched : (c : After-try_all) → Searched c.args.subject.prepared.now c.args.subject.text.now c.args.forward_one.now c.try_all.new.forward_one c.args.reverse_any.now c.args.reverse_any.now c.args.seeking.now
     (record c.args.seeking.now { tried = c.try_all.new.tried })
 searched c =
-    searched_by c.args.subject.prepared.now c.args.subject.text.now c.args.begins.now c.args.forward_one.now c.try_all.new.forward_one c.args.reverse_any.now c.args.seeking.now c.try_all.new.tried c.requires.ready
+    searched_by c.args.subject.prepared.now c.args.subject.text.now c.args.forward_one.now c.try_all.new.forward_one c.args.reverse_any.now c.args.seeking.now c.try_all.new.tried c.requires.ready
     c.try_all.ensures.forward_one c.try_all.ensures.forward_one_shape
 
 pub try_all-requires : goal.try_all-requires
@@ -67,7 +67,7 @@ comes c = elim c.if-not-seeking.branch [
 
 pub begin_kept-requires : goal.begin_kept-requires
 begin_kept-requires c = elim c.if-not-seeking.branch [
-  | then-not-seeking+then-seeking-len+in-Tired w ↦ rw w.seeking-is (searched_by c.args.subject.prepared.now c.args.subject.text.now c.args.begins.now c.args.forward_one.now w.try_all.new.forward_one c.args.reverse_any.now c.args.seeking.now w.try_all.new.tried c.requires.ready
+  | then-not-seeking+then-seeking-len+in-Tired w ↦ rw w.seeking-is (searched_by c.args.subject.prepared.now c.args.subject.text.now c.args.forward_one.now w.try_all.new.forward_one c.args.reverse_any.now c.args.seeking.now w.try_all.new.tried c.requires.ready
       w.in-Tired.ensures.forward_one w.in-Tired.ensures.forward_one_shape).serves
   | else-not-seeking w ↦ rw w.seeking-is c.requires.ready.serves
 ]

@@ -26,7 +26,7 @@ returns-in_default c =
       forward_one = i.forward_one;
       forward_one_shape = i.forward_one_shape;
       made = record {
-        answer = none_further (expression_tree c.args.subject.prepared.now.arena.expr) c.args.subject.text.now c.args.begins.now c.args.from c.loop-start.start c.requires.begins i.none next.next;
+        answer = none_further (expression_tree c.args.subject.prepared.now.arena.expr) c.args.subject.text.now c.args.subject.prepared.now.begins c.args.from c.loop-start.start c.requires.begins i.none next.next;
         few = i.room;
         cost = (omega (arith, i.cost.0, next.cost), omega (arith, i.cost.1, next.cost));
         counts = tt;
@@ -42,7 +42,7 @@ returns-in-Some-end c =
     let run = c.run-passed.ensures in
     let place = c.run-passed.result.place in
     let i = c.loop-start.invariant in
-    let is = trial_is (expression_tree e) w c.args.begins.now c.loop-start.start first c.run-passed.result.place c.run-passed.result.end c.requires.begins c.in-Some.ensures.next run.after run.within run.reached
+    let is = trial_is (expression_tree e) w c.args.subject.prepared.now.begins c.loop-start.start first c.run-passed.result.place c.run-passed.result.end c.requires.begins c.in-Some.ensures.next run.after run.within run.reached
     (run.longest i.forward_one.single) in
     let end = c.in-Some-end.end in
     let long : IsLongestFrom (expression_tree e) w first (Some end) = subst (IsLongestFrom (expression_tree e) w first) c.in-Some-end.is is.longest in
@@ -74,7 +74,7 @@ returns-then-tried-length c =
     let next = c.in-Some.ensures in
     let run = c.run-passed.ensures in
     let i = c.loop-start.invariant in
-    let is = trial_is (expression_tree e) w c.args.begins.now c.loop-start.start first c.run-passed.result.place c.run-passed.result.end c.requires.begins c.in-Some.ensures.next run.after run.within run.reached
+    let is = trial_is (expression_tree e) w c.args.subject.prepared.now.begins c.loop-start.start first c.run-passed.result.place c.run-passed.result.end c.requires.begins c.in-Some.ensures.next run.after run.within run.reached
     (run.longest i.forward_one.single) in
     let none : c.run-passed.result.end ≡ None = cc in
     let few = i.few (let h = c.loop-start-test.true in let g = c.len-length.ensures.is in omega (arith, h, g)) in
@@ -128,7 +128,7 @@ loop-start-preserved c =
     let first = c.in-Some.first in
     let run = c.run-passed.ensures in
     let i = c.loop-start.invariant in
-    let is = trial_is (expression_tree e) w c.args.begins.now c.loop-start.start first c.run-passed.result.place c.run-passed.result.end c.requires.begins c.in-Some.ensures.next run.after run.within run.reached
+    let is = trial_is (expression_tree e) w c.args.subject.prepared.now.begins c.loop-start.start first c.run-passed.result.place c.run-passed.result.end c.requires.begins c.in-Some.ensures.next run.after run.within run.reached
     (run.longest i.forward_one.single) in
     let none : c.run-passed.result.end ≡ None = cc in
     let next = c.in-Some.ensures.cost in

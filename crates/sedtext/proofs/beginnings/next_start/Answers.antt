@@ -1,5 +1,5 @@
 use Rattle.std.proofs.Common.{◌-◌, length, arith}
-use Rattle.sedtext.proofs.BeginningLemmas.{starts_with_byte, starts_with_member}
+use Rattle.sedtext.proofs.BeginningLemmas.{starts_with_member}
 use Rattle.sedtext.proofs.SieveLemmas.{sifted}
 use Rattle.sedtext.proofs.CountLemmas.{least_none, least_looked, least_counted}
 use Rattle.sedtext.proofs.beginnings.next_start.Goals as goal
@@ -16,18 +16,10 @@ returns-in-Before-clause-next c = rw c.in-Before.is (sifted c.in-Before.sieve c.
 pub returns-in-Before-clause-counts : goal.returns-in-Before-clause-counts
 returns-in-Before-clause-counts c = least_looked c.args.steps.now c.sift.new.steps (length c.args.text.now) c.args.from c.sift.result c.sift.ensures.counts
 
-pub returns-in-WithByte-clause-next : goal.returns-in-WithByte-clause-next
-returns-in-WithByte-clause-next c = rw c.in-WithByte.is (starts_with_byte c.args.text.now c.args.from c.in-WithByte.byte c.find_byte.result c.find_byte.ensures.first)
+pub returns-in-With-clause-next : goal.returns-in-With-clause-next
+returns-in-With-clause-next c = rw c.in-With.is (starts_with_member c.args.text.now c.args.from c.in-With.finder c.find.result c.find.ensures.first)
 
-pub returns-in-WithByte-clause-counts : goal.returns-in-WithByte-clause-counts
-returns-in-WithByte-clause-counts c =
-    least_looked c.args.steps.now c.find_byte.new.steps (length c.args.text.now) c.args.from c.find_byte.result
-    (least_counted c.args.steps.now c.find_byte.new.steps _ _ c.find_byte.ensures.counts (omega arith))
-
-pub returns-in-WithSet-clause-next : goal.returns-in-WithSet-clause-next
-returns-in-WithSet-clause-next c = rw c.in-WithSet.is (starts_with_member c.args.text.now c.args.from c.in-WithSet.set c.find_member.result c.find_member.ensures.first)
-
-pub returns-in-WithSet-clause-counts : goal.returns-in-WithSet-clause-counts
-returns-in-WithSet-clause-counts c =
-    least_looked c.args.steps.now c.find_member.new.steps (length c.args.text.now) c.args.from c.find_member.result
-    (least_counted c.args.steps.now c.find_member.new.steps _ _ c.find_member.ensures.counts (omega arith))
+pub returns-in-With-clause-counts : goal.returns-in-With-clause-counts
+returns-in-With-clause-counts c =
+    least_looked c.args.steps.now c.find.new.steps (length c.args.text.now) c.args.from c.find.result
+    (least_counted c.args.steps.now c.find.new.steps _ _ c.find.ensures.counts (omega arith))

@@ -1,4 +1,4 @@
-use Rattle.std.proofs.Common.{◌≡◌, ◌-◌, ◌*◌, ◌<◌, ◌≤◌, ◌↔◌, ◌∙◌, ⊎_elim, refl, sym, ap, subst, true≢false, IsTrue, arith, length}
+use Rattle.std.proofs.Common.{◌≡◌, ◌-◌, ◌*◌, ◌<◌, ◌≤◌, ◌↔◌, ⊎_elim, refl, subst, IsTrue, arith, length}
 use Rattle.sedpass.proofs.Words.{cases_lt, TakesAtLeast, one_start, least_none, least_both, least_since}
 use Rattle.sedpass.specs.Kept.{KeepsRegion, Meet, ends_shown, owed_region}
 use Rattle.sedpass.specs.Regions.{MeetsAt}
@@ -49,26 +49,6 @@ loop-place-init c =
       meets = λ q after before. absurd (omega arith);
       cost = (omega arith, omega arith);
       counts = least_none _ _ (omega arith);
-    }
-
-pub first-code-requires : goal.first-code-requires
-first-code-requires c = record { table = c.requires.forward_one; root = (let a = c.requires.a in let root = c.requires.kept.region.root.0 in omega (arith, a, root), λ all. absurd (true≢false (sym all ∙ c.requires.forwards.1))) }
-
-pub ready-to-requires : goal.ready-to-requires
-ready-to-requires c = record { kept = c.loop-place.invariant.keeps.kept; place = c.loop-place-test.true }
-
-pub meet-reached-requires : goal.meet-reached-requires
-meet-reached-requires c =
-    let before = c.loop-place.invariant in
-    let ready = c.ready-to.ensures in
-    let first = c.first-code.ensures.codes.adds.shape.0 in
-    record {
-      kept = ready.keeps.kept;
-      forward_one = before.forward_one;
-      forwards = (ap (λ v. v.mirrored) (before.forward_one_shape.0 ∙ first) ∙ c.requires.forwards.0, ap (λ v. v.all_starts) (before.forward_one_shape.0 ∙ first) ∙ c.requires.forwards.1);
-      offset = before.offset;
-      from = ready.from;
-      to = (let is = ready.to.0 in let on = ready.to.1 in omega (arith, is, on));
     }
 
 pub loop-place-preserved : goal.loop-place-preserved

@@ -1,12 +1,9 @@
-use Rattle.std.proofs.Common.{◌≡◌, ◌+◌, ◌*◌, refl, ◌/◌, ◌^◌, ◌↔◌, subst, IsTrue, arith, length}
+use Rattle.std.proofs.Common.{◌≡◌, ◌*◌, refl, ◌/◌, ◌^◌, ◌↔◌, subst, IsTrue, arith, length}
 use Rattle.sedpass.specs.Table.{state_of}
 use Rattle.sedpass.proofs.TableLemmas.{names_offset, names_state}
 use Rattle.sedpass.proofs.KeptLemmas.{first_at, load_at}
 use Rattle.sedtext.proofs.CountLemmas.{least_less}
 use Rattle.sedpass.proofs.kept.Kept.edge_state.Goals as goal
-
-pub first-code-requires : goal.first-code-requires
-first-code-requires c = let region = c.requires.region in record { table = region.table; root = region.root }
 
 pub returns-then-place-self : goal.returns-then-place-self
 returns-then-place-self c =
@@ -26,20 +23,6 @@ returns-then-place-self c =
       cost = first.cost;
       inside = λ under. absurd (omega (arith, under, c.if-place-self.true));
       counts = first.counts;
-    }
-
-pub load-code-requires : goal.load-code-requires
-load-code-requires c =
-    let region = c.requires.region in
-    let place = c.requires.place in
-    let at = (c.requires.edge (let other = c.if-place-self.false in omega (arith, place, other))).0 in
-    let there = region.room.blocks c.args.block (let inside = region.inside in omega (arith, at, place, inside)) in
-    record {
-      table = region.table;
-      root = region.root.0;
-      row = there;
-      leaf_marks = region.room.marks (2 * c.args.block) (omega (arith, there));
-      end_marks = region.room.marks (2 * c.args.block + 1) there;
     }
 
 pub returns : goal.returns

@@ -1,4 +1,4 @@
-use Rattle.std.proofs.Common.{rules, ◌≡◌, ◌-◌, ◌*◌, ◌/◌, refl, ap, ◌∙◌, arith}
+use Rattle.std.proofs.Common.{◌≡◌, ◌-◌, ◌*◌, ◌/◌, refl, ap, ◌∙◌, arith}
 use Rattle.sedpass.specs.Kept.{EdgesFrom}
 use Rattle.sedpass.proofs.KeptLemmas.{block_cost, block_right, edges_same, kept_passed, make_cost, passes_first, same_kept, same_shape, same_by}
 use Rattle.sedpass.proofs.Words.{div-mul-le_self, least_none, least_both, least_since}
@@ -21,30 +21,6 @@ loop-place-init c =
       to = λ before. absurd (omega arith);
       cost = (omega arith, omega arith);
       counts = least_none _ _ (omega arith);
-    }
-
-pub edge_state-offset-requires : goal.edge_state-offset-requires
-edge_state-offset-requires c = record { region = c.requires.kept.region; place = omega arith; edge = λ under. absurd (omega (arith, under)) }
-
-pub pass-offset-requires : goal.pass-offset-requires
-pass-offset-requires c = record { passes = c.keep_edge.ensures.passes; order = omega (arith, div-mul-le_self (c.loop-place.place - 1) (c.loop-place.table.room - 1), c.loop-place-test.true) }
-
-pub overflow_mul-block : goal.overflow_mul-block
-overflow_mul-block c = omega (arith, div-mul-le_self (c.loop-place.place - 1) (c.loop-place.table.room - 1))
-
-pub keep_edge-requires : goal.keep_edge-requires
-keep_edge-requires c =
-    let old = c.loop-place.invariant in
-    let width = c.loop-place.table.room - 1 in
-    let some = old.passes.region.table.room.rows.some in
-    let on = c.loop-place-test.true in
-    record {
-      passes = old.passes;
-      edges = old.edges;
-      right = λ before.
-          let at = old.right (omega (arith, on)) (omega (arith, before, old.end_is)) in
-          block_right c.loop-place.place width at.0 (omega (arith, some)) (omega (arith, on)) at.1;
-      within = search rules;
     }
 
 pub loop-place-smaller : goal.loop-place-smaller
@@ -93,3 +69,11 @@ returns c =
       cost = (omega (arith, first.cost.0, last.cost.0), make_cost _ c.args.low (c.args.self.now.region.end - c.args.low) c.loop-place.place c.args.self.now.region.end _ c.edge_state-offset.new.steps _ (omega arith) (omega arith) first.cost.1 last.cost.1);
       counts = least_both _ c.edge_state-offset.new.steps _ _ _ _ first.counts last.counts (omega arith);
     }
+
+pub keep_edge-requires-clause-right : goal.keep_edge-requires-clause-right
+keep_edge-requires-clause-right c before =
+    let old = c.loop-place.invariant in
+    let some = old.passes.region.table.room.rows.some in
+    let on = c.loop-place-test.true in
+    let at = old.right (omega (arith, on)) (omega (arith, before, old.end_is)) in
+    block_right c.loop-place.place (c.loop-place.table.room - 1) at.0 (omega (arith, some)) (omega (arith, on)) at.1

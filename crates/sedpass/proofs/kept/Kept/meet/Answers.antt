@@ -1,7 +1,8 @@
-use Rattle.std.proofs.Common.{rules, ◌≡◌, ◌+◌, ◌*◌, ◌<◌, ◌≤◌, refl, sym, ap, ◌∙◌, subst, true≢false, arith, length, slice_index_or}
+use Rattle.std.proofs.Common.{◌≡◌, ◌+◌, ◌*◌, ◌<◌, ◌≤◌, refl, sym, ap, ◌∙◌, subst, true≢false, arith, length, slice_index_or}
 use Rattle.sedpass.proofs.Words.{CostsWithin, eqb-true, eq-eqb, least_none, least_both, least_since, least_up, least_counted}
+use Rattle.sedpass.specs.Rows.{leaves_row}
 use Rattle.sedpass.specs.Kept.{Follows, Meet}
-use Rattle.sedpass.proofs.KeptLemmas.{kept_row, same_shape, follows_next, meet_on, meet_read, place_cost}
+use Rattle.sedpass.proofs.KeptLemmas.{same_shape, follows_next, meet_on, meet_read, place_cost}
 use Rattle.sedpass.proofs.TableLemmas.{names_offset, names_state}
 use Rattle.sedpass.proofs.kept.Kept.meet.Goals.{After-index}
 use Rattle.sedpass.proofs.kept.Kept.meet.Goals as goal
@@ -18,14 +19,6 @@ loop-place-init c = record {
   counts = least_none _ _ (omega arith);
 }
 
-pub index-requires : goal.index-requires
-index-requires c =
-    let region = c.requires.kept.region in
-    omega (arith, c.loop-place-test.true, region.within, region.inside, region.long)
-
-pub state_at-requires : goal.state_at-requires
-state_at-requires c = c.loop-place.invariant.forward_one.layout.small
-
 -- the state of the place is in the table, and its number was read
 here : (c : After-index) → (c.args.self.now.region.from ≤ c.loop-place.place) × (c.loop-place.place < c.args.self.now.region.to) × (c.index.result.now ≡ slice_index_or c.args.self.now.states.items c.loop-place.place c.index.result.now)
 here c =
@@ -34,13 +27,6 @@ here c =
       c.loop-place-test.true,
       c.index.ensures,
     )
-
-pub meets-requires : goal.meets-requires
-meets-requires c =
-    let old = c.loop-place.invariant in
-    let there = here (goal.at.meets-requires c).After-index in
-    let row = kept_row c.args.subject.prepared.now c.args.subject.text.now c.args.table.now c.args.self.now c.loop-place.place c.index.result.now c.requires.kept there.0 there.1 there.2 in
-    record { row = search rules; other_row = row.0; inside = search rules; there = omega (arith, row.1, c.nodes-nodes.ensures.value) }
 
 pub returns-then-not-meets : goal.returns-then-not-meets
 returns-then-not-meets c =
@@ -63,22 +49,13 @@ returns-then-not-meets c =
       within = omega (arith, there.1);
       meets = λ a i low start follows.
           let on = old.meets a i low start follows in
-          let shows = meet_read p w t c.loop-place.forward_one k a i place c.loop-place.offset c.nodes-nodes.result c.state_at.result c.index.result.now c.meets.result c.requires.kept there.0 there.1 on.0
-          c.nodes-nodes.ensures.value c.state_at.ensures there.2 c.meets.ensures.meets in
+          let shows = meet_read p w t c.loop-place.forward_one k a i place c.loop-place.offset c.nodes-nodes.result c.leaves_row-ahead.result c.index.result.now c.ends_row-behind.result c.meets.result c.requires.kept there.0 there.1 on.0
+          c.nodes-nodes.ensures.value (c.leaves_row-ahead.ensures ∙ ap leaves_row c.state_at.ensures) there.2 c.ends_row-behind.ensures c.meets.ensures.meets in
           (on.0, on.1, λ under met. true≢false (sym (shows.1 met) ∙ c.if-not-meets.true));
       cost = cost;
       whole = λ all. absurd (omega (arith, all, there.1));
       counts = least_up _ c.loop-place.steps _ _ old.counts looked.0;
     }
-
-pub byte-byte-requires : goal.byte-byte-requires
-byte-byte-requires c =
-    let there = here (goal.at.byte-byte-requires c).After-index in
-    let region = c.requires.kept.region in
-    record { inside = omega (arith, there.1, region.within, region.inside) }
-
-pub next-code-requires : goal.next-code-requires
-next-code-requires c = record { table = c.loop-place.invariant.forward_one; offset = c.loop-place.invariant.offset }
 
 pub loop-place-preserved : goal.loop-place-preserved
 loop-place-preserved c =
@@ -104,8 +81,8 @@ loop-place-preserved c =
       offset = names_offset p c.next-code.new.self next.codes.table _ _ _ next.codes.names c.offset_of-offset.ensures;
       meets = λ a i low start follows.
           let on = old.meets a i low start follows in
-          let shows = meet_read p w t c.loop-place.forward_one k a i place c.loop-place.offset c.nodes-nodes.result c.state_at.result c.index.result.now c.meets.result c.requires.kept there.0 there.1 on.0
-          c.nodes-nodes.ensures.value c.state_at.ensures there.2 c.meets.ensures.meets in (
+          let shows = meet_read p w t c.loop-place.forward_one k a i place c.loop-place.offset c.nodes-nodes.result c.leaves_row-ahead.result c.index.result.now c.ends_row-behind.result c.meets.result c.requires.kept there.0 there.1 on.0
+          c.nodes-nodes.ensures.value (c.leaves_row-ahead.ensures ∙ ap leaves_row c.state_at.ensures) there.2 c.ends_row-behind.ensures c.meets.ensures.meets in (
             follows_next p w c.loop-place.forward_one c.next-code.new.self a i place c.byte-byte.result c.loop-place.offset c.offset_of-offset.result _ front one next.codes.adds.shape (let h = old.above in omega (arith, h, start)) c.byte-byte.ensures.byte
                 (λ h. eqb-true (place + 1) c.len-length.result h ∙ last, λ e. eq-eqb (place + 1) c.len-length.result (e ∙ sym last))
                 (names_state p c.next-code.new.self next.codes.table _ _ _ next.codes.names c.offset_of-offset.ensures) on.0,

@@ -16,21 +16,6 @@ loop-place-init c = record {
   counts = least_none _ _ (omega arith);
 }
 
-pub overflow_cast-state_at : goal.overflow_cast-state_at
-overflow_cast-state_at c =
-    let codes = c.next-code.ensures.codes in
-    let low = (names_offset c.args.subject.prepared.now c.next-code.new.self codes.table _ _ _ codes.names c.offset_of-offset.ensures).0 in
-    omega (arith, c.state_at.ensures, low, codes.table.room.count, codes.table.room.rows.few)
-
-pub byte-byte-requires : goal.byte-byte-requires
-byte-byte-requires c = let passes = c.requires.passes in record { inside = omega (arith, c.loop-place.invariant.below, passes.within, passes.region.inside) }
-
-pub state_at-requires : goal.state_at-requires
-state_at-requires c = c.next-code.ensures.codes.table.layout.small
-
-pub next-code-requires : goal.next-code-requires
-next-code-requires c = let passes = c.loop-place.invariant.down.passes in record { table = passes.region.table; offset = passes.there }
-
 pub returns : goal.returns
 returns c =
     let last = c.loop-place.invariant in
@@ -88,3 +73,9 @@ loop-place-preserved-then-table-epoch c =
       cost = ((let g = before.cost.0 in let f = next.cost.0 in let h = c.byte-byte.ensures.cost.0 in omega (arith, g, f, h)), down_cost (35 * length p.arena.expr.nodes) place c.loop-place.place c.loop-place.steps c.next-code.new.steps _ above (let f = next.cost.1 in let h = c.byte-byte.ensures.cost.1 in omega (arith, f, h, some)) before.cost.1);
       counts = least_both _ _ _ _ 2 _ before.counts (least_both _ c.byte-byte.new.steps _ 1 1 2 (least_counted _ _ 1 1 c.byte-byte.ensures.counts (omega arith)) next.counts (omega arith)) (omega arith);
     }
+
+pub overflow_cast-state_at : goal.overflow_cast-state_at
+overflow_cast-state_at c =
+    let codes = c.next-code.ensures.codes in
+    let low = (names_offset c.args.subject.prepared.now c.next-code.new.self codes.table _ _ _ codes.names c.offset_of-offset.ensures).0 in
+    omega (arith, c.state_at.ensures, low, codes.table.room.count, codes.table.room.rows.few)

@@ -1,36 +1,9 @@
 use Rattle.std.proofs.Common.{◌≡◌, ◌+◌, ◌-◌, ◌*◌, ◌/◌, ◌<◌, ◌≤◌, refl, sym, ap, ◌∙◌, subst, arith, length}
 use Rattle.sedpass.proofs.Words.{div-mul-le_self, lt-div-mul-add, TakesAtLeast, least_since}
 use Rattle.sedpass.specs.Kept.{EdgesFrom, again}
-use Rattle.sedpass.proofs.KeptLemmas.{added_few, edges_same, kept_passed, passes_first, region_kept, same_by, same_kept, same_shape}
+use Rattle.sedpass.proofs.KeptLemmas.{added_few, edges_same, kept_passed, same_by, same_kept, same_shape}
 use Rattle.sedpass.proofs.OwedLemmas.{again_cost}
 use Rattle.sedpass.proofs.kept.Kept.remake.Goals as goal
-
-pub edge_state-offset-requires : goal.edge_state-offset-requires
-edge_state-offset-requires c =
-    let k = c.args.self.now in
-    let region = c.requires.kept.region in
-    let width = c.args.table.now.room - 1 in
-    let after : c.args.place < c.args.place / width * width + width = lt-div-mul-add (omega (arith, region.table.room.rows.some)) in
-    let shape = c.empty.ensures.shape in
-    record {
-      region = region_kept c.args.subject.prepared.now c.args.subject.text.now c.args.table.now c.empty.new.self k k shape c.empty.ensures.table refl refl refl refl refl region.within region;
-      place = omega arith;
-      edge = λ before. rw (shape.0, shape.1) (omega (arith, before), c.requires.kept.edges (c.args.place / width) (omega (arith, c.requires.low, after)) (omega (arith, before)));
-    }
-
-pub pass-requires : goal.pass-requires
-pass-requires c =
-    let first = c.edge_state-offset.ensures in
-    let width = c.args.table.now.room - 1 in
-    let from : c.args.place / width * width ≤ c.args.place = div-mul-le_self c.args.place width in
-    let to : c.args.place < c.args.place / width * width + width = lt-div-mul-add (omega (arith, c.requires.kept.region.table.room.rows.some)) in
-    record {
-      passes =
-          passes_first c.args.subject.prepared.now c.args.subject.text.now c.args.table.now c.edge_state-offset.new.table c.args.self.now _ c.min-to.result c.edge_state-offset.result c.requires.kept.region
-          (same_shape c.args.table.now c.empty.new.self c.edge_state-offset.new.table c.empty.ensures.shape first.adds.shape) first.table first.states first.edges (ap (λ r. r.root) first.region) (ap (λ r. r.end) first.region) refl (omega arith)
-          first.there first.at;
-      order = omega (arith, from, to, c.requires.place);
-    }
 
 -- the states are made again up to the end of the block
 to_end : (c : goal.After-pass) → c.pass.new.self.region.to ≡ c.min-to.result

@@ -1,7 +1,7 @@
 use Rattle.std.proofs.Common.{◌↔◌, IsTrue, arith, length, not}
 use Rattle.sedpass.specs.Kept.{ends_shown}
 use Rattle.sedpass.specs.Regions.{ReachesEnd}
-use Rattle.sedpass.proofs.KeptLemmas.{as_asked, kept_mark, kept_row, marked_on, not_asked}
+use Rattle.sedpass.proofs.KeptLemmas.{as_asked, kept_mark, marked_on, not_asked}
 use Rattle.sedtext.proofs.CountLemmas.{least_none, least_both, least_counted, least_up}
 use Rattle.sedpass.proofs.kept.Kept.seek_in.Goals as goal
 
@@ -14,11 +14,6 @@ loop-place-init c = record {
   counts = least_none _ _ (omega arith);
 }
 
-pub get-requires : goal.get-requires
-get-requires c =
-    let row = kept_row c.args.subject.prepared.now c.args.subject.text.now c.args.table.now c.args.self.now c.loop-place.place c.index.result.now c.requires.kept (omega (arith, c.loop-place.invariant.above, c.requires.from)) c.loop-place-test.true c.index.ensures in
-    record { row = row.0; inside = omega (arith, row.1, c.requires.x) }
-
 pub returns-then-get-marked-clause-found : goal.returns-then-get-marked-clause-found
 returns-then-get-marked-clause-found c before =
     let p = c.args.subject.prepared.now in
@@ -26,7 +21,7 @@ returns-then-get-marked-clause-found c before =
     let t = c.args.table.now in
     let k = c.args.self.now in
     as_asked (ReachesEnd p.arena.expr.nodes w k.region.root (ends_shown t.way.all_starts (length w) k.region.end) c.args.x c.loop-place.place) c.get.result c.args.marked c.if-get-marked.true
-    (kept_mark p w t k c.args.x c.loop-place.place c.index.result.now c.get.result c.requires.kept c.requires.x (omega (arith, c.loop-place.invariant.above, c.requires.from)) before c.index.ensures c.get.ensures.mark)
+    (kept_mark p w t k c.args.x c.loop-place.place c.index.result.now c.ends_row-ends.result c.get.result c.requires.kept c.requires.x (omega (arith, c.loop-place.invariant.above, c.requires.from)) before c.index.ensures c.ends_row-ends.ensures c.get.ensures.mark)
 
 pub returns-then-get-marked-clause-counts : goal.returns-then-get-marked-clause-counts
 returns-then-get-marked-clause-counts c = least_up _ c.loop-place.steps _ _ c.loop-place.invariant.counts c.get.ensures.cost.0
@@ -42,7 +37,7 @@ loop-place-preserved c =
     let before = c.loop-place-test.true in
     let here : IsTrue (not c.args.marked) ↔ ReachesEnd p.arena.expr.nodes w k.region.root (ends_shown t.way.all_starts (length w) k.region.end) c.args.x c.loop-place.place =
     not_asked (ReachesEnd p.arena.expr.nodes w k.region.root (ends_shown t.way.all_starts (length w) k.region.end) c.args.x c.loop-place.place) c.get.result c.args.marked c.if-get-marked.false
-    (kept_mark p w t k c.args.x c.loop-place.place c.index.result.now c.get.result c.requires.kept c.requires.x (omega (arith, above, c.requires.from)) before c.index.ensures c.get.ensures.mark) in
+    (kept_mark p w t k c.args.x c.loop-place.place c.index.result.now c.ends_row-ends.result c.get.result c.requires.kept c.requires.x (omega (arith, above, c.requires.from)) before c.index.ensures c.ends_row-ends.ensures c.get.ensures.mark) in
     record {
       above = omega (arith, above);
       below = omega (arith, before);

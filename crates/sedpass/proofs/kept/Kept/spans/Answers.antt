@@ -2,7 +2,7 @@ use Rattle.std.proofs.Common.{◌≡◌, ◌<◌, ◌↔◌, sym, ap, ◌∙◌,
 use Rattle.sedpass.proofs.Words.{HasSpan, one_start, least_counted, least_since}
 use Rattle.sedpass.specs.Regions.{IsLastIn}
 use Rattle.sedpass.proofs.LeaveLemmas.{last_inside}
-use Rattle.sedpass.proofs.KeptLemmas.{keeps_same, kept_row, mark_spans}
+use Rattle.sedpass.proofs.KeptLemmas.{keeps_same, kept_rows, mark_spans}
 use Rattle.sedpass.proofs.kept.Kept.spans.Goals as goal
 
 pub is_null-requires : goal.is_null-requires
@@ -23,9 +23,10 @@ returns-then-place-self c =
 pub get-requires : goal.get-requires
 get-requires c =
     let to = c.ready.ensures.to in
-    let row = kept_row c.args.subject.prepared.now c.args.subject.text.now c.ready.new.table c.ready.new.self c.args.place c.index.result.now c.ready.ensures.keeps.kept c.ready.ensures.from (omega (arith, to.0, to.1)) c.index.ensures in
+    let wide = kept_rows c.args.subject.prepared.now c.args.subject.text.now c.ready.new.table c.ready.new.self c.args.place c.index.result.now c.ready.ensures.keeps.kept c.ready.ensures.from (omega (arith, to.0, to.1)) c.index.ensures in
     let up = last_inside c.args.subject.prepared.now.arena.expr.nodes c.args.subject.text.now c.args.self.now.region.root (one_start 0) c.requires.kept.region.table.expr.arena c.args.x c.requires.last in
-    record { row = row.0; inside = omega (arith, row.1, c.requires.kept.region.root.0, up) }
+    let row = c.ends_row.ensures in
+    record { row = omega (arith, row, wide.1); inside = omega (arith, wide.2 c.ends_row.result (omega (arith, row, wide.1)), c.requires.kept.region.root.0, up) }
 
 pub returns : goal.returns
 returns c =
@@ -40,7 +41,7 @@ returns c =
     record {
       keeps = ready.keeps;
       spans = subst (λ e. IsTrue c.get.result ↔ HasSpan p.arena.expr.nodes w c.args.x c.args.place e) ready.keeps.same.end
-          (mark_spans p w t k c.args.x c.args.place c.index.result.now c.get.result ready.keeps.kept one last ready.from before c.index.ensures c.get.ensures.mark);
+          (mark_spans p w t k c.args.x c.args.place c.index.result.now c.ends_row.result c.get.result ready.keeps.kept one last ready.from before c.index.ensures c.ends_row.ensures c.get.ensures.mark);
       cost = ((let one = ready.cost.0 in let two = c.get.ensures.cost.0 in omega (arith, one, two)), (let one = ready.cost.1 in let two = c.get.ensures.cost.1 in omega (arith, one, two)));
       counts = least_since _ c.ready.new.steps _ _ ready.cost.0 (least_counted _ _ 1 1 c.get.ensures.counts (omega arith));
     }

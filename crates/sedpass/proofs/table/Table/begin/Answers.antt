@@ -1,8 +1,8 @@
-use Rattle.std.proofs.Common.{length, refl, sym, subst, arith}
-use Rattle.sedpass.proofs.Words.{with_item, Way, Beginning, Table}
-use Rattle.sedpass.specs.Rows.{nodes_of}
+use Rattle.std.proofs.Common.{length, refl, sym, subst}
+use Rattle.sedpass.proofs.Words.{with_item, row_of, Way, Beginning, Table}
+use Rattle.sedpass.specs.Rows.{nodes_of, leaves_row, ends_row}
 use Rattle.sedpass.specs.Table.{AddsStates, BeginsIn, IsTable, MayBegin, NamesState}
-use Rattle.sedpass.proofs.TableLemmas.{adds_same, adds_then, adds_work, names_first, names_more, note_beginning, table_work}
+use Rattle.sedpass.proofs.TableLemmas.{adds_same, adds_then, adds_rows, names_first, names_more, note_beginning, table_rows}
 use Rattle.sedpass.proofs.table.Table.begin.Goals as goal
 
 pub returns-then-self-lt-LAST_EPOCHS-clause-codes : goal.returns-then-self-lt-LAST_EPOCHS-clause-codes
@@ -12,14 +12,14 @@ returns-then-self-lt-LAST_EPOCHS-clause-codes c =
     let T = c.args.self.now in
     let S = c.intern-code.new.self in
     let codes = c.intern-code.ensures.codes in
-    let added = adds_work c.args.prepared.now c.args.self.now c.first.new.work c.intern-code.new.self codes.adds in
+    let added = adds_rows c.args.prepared.now c.args.self.now c.first.new.rows c.first.ensures.keeps c.intern-code.new.self codes.adds in
     let code = c.intern-code.result in
     let root = c.args.root in
     let kind = c.args.kind in
     let fresh : Beginning = record { epoch = S.epoch; code = code } in
     let N : Table = record S { beginnings = with_item S.beginnings c.beginning_at-at.result fresh } in
-    let same : AddsStates m S N = adds_same m S N (refl, refl, refl, refl, refl) refl refl (λ x. refl) in
-    let begins = names_first p S T.way root code kind c.first.new.work.leaves c.first.new.work.ends codes.names c.first.ensures.first in
+    let same : AddsStates m S N = adds_same m S N (refl, refl, refl, refl, refl) refl refl (λ x low. refl) in
+    let begins = names_first p S T.way root code kind (row_of c.first.new.rows (leaves_row T.count)) (row_of c.first.new.rows (ends_row T.count)) codes.names c.first.ensures.first in
     let begins_now : NamesState m S (BeginsIn (nodes_of S.way p.arena.expr) S.way root kind) code = subst (λ (w : Way). NamesState m S (BeginsIn (nodes_of w p.arena.expr) w root kind) code) (sym codes.adds.shape.0) begins in
     let may : MayBegin p S.way root = subst (λ (w : Way). MayBegin p w root) (sym codes.adds.shape.0) c.requires.root in
     record {
@@ -31,18 +31,13 @@ returns-then-self-lt-LAST_EPOCHS-clause-codes c =
 pub returns-else-self-lt-LAST_EPOCHS-clause-codes : goal.returns-else-self-lt-LAST_EPOCHS-clause-codes
 returns-else-self-lt-LAST_EPOCHS-clause-codes c =
     let codes = c.intern-code.ensures.codes in
-    let added = adds_work c.args.prepared.now c.args.self.now c.first.new.work c.intern-code.new.self codes.adds in
+    let added = adds_rows c.args.prepared.now c.args.self.now c.first.new.rows c.first.ensures.keeps c.intern-code.new.self codes.adds in
     record {
       table = codes.table;
       adds = added;
-      names = names_first c.args.prepared.now c.intern-code.new.self c.args.self.now.way c.args.root c.intern-code.result c.args.kind c.first.new.work.leaves c.first.new.work.ends codes.names c.first.ensures.first;
+      names = names_first c.args.prepared.now c.intern-code.new.self c.args.self.now.way c.args.root c.intern-code.result c.args.kind
+          (row_of c.first.new.rows (leaves_row c.args.self.now.count)) (row_of c.first.new.rows (ends_row c.args.self.now.count)) codes.names c.first.ensures.first;
     }
 
-pub first-requires : goal.first-requires
-first-requires c =
-    let room = c.requires.table.room in
-    let is = room.work in
-    record { root = c.requires.root.0; wide = (omega (arith, room.marks, is.0), omega (arith, room.marks, is.1), omega (arith, room.marks, is.2), omega (arith, room.marks, is.3)) }
-
-pub intern-code-requires : goal.intern-code-requires
-intern-code-requires c = record { table = table_work c.args.prepared.now c.args.self.now c.first.new.work c.requires.table (c.first.ensures.wide _ c.requires.table.room.work); root = c.requires.root.0 }
+pub intern-code-requires-clause-table : goal.intern-code-requires-clause-table
+intern-code-requires-clause-table c = table_rows c.args.prepared.now c.args.self.now c.first.new.rows c.first.ensures.keeps c.requires.table

@@ -5,11 +5,6 @@ use Rattle.sedpass.specs.Table.{BeginsIn, NamesState, beginning_at, beginning_of
 use Rattle.sedpass.proofs.TableLemmas.{adds_none}
 use Rattle.sedpass.proofs.table.Table.first.Goals as goal
 
-pub index-known-requires : goal.index-known-requires
-index-known-requires c =
-    let room = c.requires.table.room in
-    omega (arith, c.beginning_at.ensures, room.begins c.args.root c.args.kind (omega (arith, c.requires.root.0, room.marks)), c.args.self.now.beginnings.ok)
-
 pub returns-then-known-self : goal.returns-then-known-self
 returns-then-known-self c =
     let p = c.args.prepared.now in
@@ -30,9 +25,6 @@ returns-then-known-self c =
       cost = (omega (arith, c.add.ensures.cost), omega (arith, c.add.ensures.cost, c.requires.table.expr.arena.nonempty));
       counts = least_counted c.args.steps.now c.add.new.self 1 1 c.add.ensures.counts (omega arith);
     }
-
-pub begin-requires : goal.begin-requires
-begin-requires c = record { table = c.requires.table; root = c.requires.root }
 
 pub returns : goal.returns
 returns c = record {

@@ -1,13 +1,7 @@
-use Rattle.std.proofs.Common.{◌+◌, ◌-◌, ◌*◌, ◌/◌, ◌^◌, ◌≤◌, length, refl, arith, nat_eq}
+use Rattle.std.proofs.Common.{◌+◌, ◌-◌, ◌*◌, ◌≤◌, length, refl, arith, nat_eq}
 use Rattle.sedpass.proofs.Words.{eqb-true, eq-eqb, least_counted, least_both}
-use Rattle.sedpass.specs.Rows.{nodes_of}
-use Rattle.sedpass.specs.Table.{state_of, LeadsOn}
-use Rattle.sedpass.proofs.TableLemmas.{names_map}
 use Rattle.sedpass.proofs.ForwardLemmas.{goes_on, over_cost, fill_cost}
 use Rattle.sedpass.proofs.table.Table.go_on.Goals as goal
-
-pub follow-at-requires : goal.follow-at-requires
-follow-at-requires c = record { table = c.requires.table; offset = c.requires.offset; over = c.requires.over; order = omega (arith, c.requires.inside, c.len-last.ensures.is); to = omega (arith, c.requires.inside, c.len-last.ensures.is) }
 
 pub returns-then-at : goal.returns-then-at
 returns-then-at c =
@@ -23,20 +17,6 @@ returns-then-at c =
       cost = (at.cost.0, over_cost (length c.args.prepared.now.arena.expr.nodes) c.args.from.place c.follow-at.result.place (c.len-last.result - 1) c.args.steps.now c.follow-at.new.steps (omega (arith, c.requires.table.expr.arena.nonempty)) moved at.cost.1);
       counts = at.counts;
     }
-
-pub byte-byte-requires : goal.byte-byte-requires
-byte-byte-requires c = record { inside = omega (arith, c.follow-at.ensures.within, c.len-last.ensures.is, c.requires.inside) }
-
-pub next-code-requires : goal.next-code-requires
-next-code-requires c = record { table = c.requires.table; offset = c.follow-at.ensures.offset }
-
-pub arrive-requires : goal.arrive-requires
-arrive-requires c =
-    let p = c.args.prepared.now in
-    let T = c.args.self.now in
-    let m = length p.arena.expr.nodes in
-    let edge = nat_eq c.follow-at.result.place (c.len-last.result - 1) in
-    record { table = c.next-code.ensures.codes.table; code = names_map m c.next-code.new.self (LeadsOn (nodes_of T.way p.arena.expr) T.way (state_of m T (c.follow-at.result.offset / 2 ^ T.layout.shift)) c.byte-byte.result edge) (λ a. Unit {0}) c.next-code.result (λ a h. tt) c.next-code.ensures.codes.names }
 
 pub returns : goal.returns
 returns c =

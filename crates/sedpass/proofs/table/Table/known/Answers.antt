@@ -8,9 +8,6 @@ use Rattle.sedpass.proofs.table.Table.known.Goals as goal
 there : (c : In-Some) → c.args.offset + c.in-Some.column < length c.args.self.now.cells.items
 there c = cell_there c.args.prepared.now c.args.self.now c.requires.table c.args.offset c.args.byte c.in-Some.column c.args.edge c.requires.offset c.in-Some.ensures
 
-pub overflow_add-offset : goal.overflow_add-offset
-overflow_add-offset c = omega (arith, there (goal.at.overflow_add-offset c).In-Some, c.args.self.now.cells.ok)
-
 pub index-requires : goal.index-requires
 index-requires c = omega (arith, there (goal.at.index-requires c).In-Some, c.args.self.now.cells.ok)
 

@@ -1,4 +1,4 @@
-use Rattle.std.proofs.Common.{rules, ◌+◌, ◌-◌, ◌*◌, ◌∙◌, length, refl, sym, ap, subst, inl, inr, arith}
+use Rattle.std.proofs.Common.{◌+◌, ◌-◌, ◌*◌, ◌∙◌, length, sym, ap, subst, inl, inr, arith}
 use Rattle.sedpass.proofs.Words.{not-false, Way, least_less, least_both}
 use Rattle.sedpass.specs.Rows.{nodes_of}
 use Rattle.sedpass.specs.Table.{BeginsIn, NamesState}
@@ -47,12 +47,6 @@ loop-at-preserved c =
       cost = (omega (arith, before.0, cost), omega (arith, before.1, cost));
       counts = least_both c.args.steps.now c.loop-at.steps c.go_on-at.new.steps (2 * (c.loop-at.at.place - c.args.from) + 1) (2 * (c.go_on-at.result.place - c.loop-at.at.place)) (2 * (c.go_on-at.result.place - c.args.from) + 1) i.counts go.counts (omega (arith, i.passes.after, go.after));
     }
-
-pub first-code-requires : goal.first-code-requires
-first-code-requires c = record { table = c.requires.table; root = (omega (arith, c.args.prepared.now.is_prepared.last), λ _. refl) }
-
-pub go_on-at-requires : goal.go_on-at-requires
-go_on-at-requires c = let i = c.loop-at.invariant in record { table = i.table; offset = i.offset; over = search rules; inside = omega (arith, c.if-at-len.true, c.len-in-loop-at.ensures.is) }
 
 pub returns-else-at-len : goal.returns-else-at-len
 returns-else-at-len c =

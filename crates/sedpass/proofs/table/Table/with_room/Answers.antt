@@ -13,13 +13,11 @@ returns c =
       layout = record { classes = replicate 256 0; columns = 0; shift = 0 };
       count = 0;
       epoch = 1;
-      leaves = c.in_ok-leaves.leaves;
-      ends = c.in_ok-ends.ends;
+      rows = c.in_ok-rows.rows;
       roots = c.copies.result;
       cells = c.room.result;
       index = c.copies-2.result;
       beginnings = c.copies-3.result;
-      work = c.in_ok-work.work;
     } in
     let before-3 = c.copies-3.ensures.refused given in
     let before-2 = c.copies-2.ensures.refused before-3 in
@@ -31,12 +29,9 @@ returns c =
     (record {
       some = c.requires.some;
       few = c.requires.few;
-      leaves = c.in_ok-leaves.ensures.count;
-      ends = c.in_ok-ends.ensures.count;
-      leaf_marks = c.in_ok-leaves.ensures.marks;
-      end_marks = c.in_ok-ends.ensures.marks;
+      rows = c.in_ok-rows.ensures.count;
+      long = λ q lt. c.in_ok-rows.ensures.marks q (omega (arith, lt, c.in_ok-rows.ensures.count));
       roots = omega (arith, c.copies.ensures.long before-room, T.roots.ok);
     })
-    c.in_ok-work.ensures
     (subst (λ n. c.args.room * n ≤ vec_capacity c.room.result) c.most_cells.ensures (c.room.ensures.room before-2)) index begins c.count_beginnings-kinds.ensures.begins noted in
     record { table = (has, refl, refl) }

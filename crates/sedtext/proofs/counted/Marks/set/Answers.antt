@@ -1,4 +1,4 @@
-use Rattle.std.proofs.Common.{◌≡◌, ◌<◌, ◌/◌, length, refl, ap, ◌∙◌, arith}
+use Rattle.std.proofs.Common.{◌≡◌, ◌<◌, ◌/◌, length, ap, ◌∙◌, arith}
 use Rattle.std.specs.Prelude.{slice_index_or, slice_set}
 use Rattle.sedtext.proofs.WordLemmas.{length-marks_of, marks_of-set}
 use Rattle.std.proofs.lemmas.List.{get_or_default}
@@ -23,6 +23,6 @@ returns-clause-marks c =
     let word = c.put_bit-word.result in
     let lt : c.args.i < n = omega (arith, ap length c.self.view_is, length-marks_of words n, c.requires.inside) in
     let is : c.index.result.now ≡ slice_index_or words (c.args.i / 64) 0 = c.index.ensures ∙ get_or_default words (c.args.i / 64) c.index.result.now 0 (omega (arith, lt, c.self.invariant)) in
-    marks_of-set words (slice_set words (c.args.i / 64) word) n c.args.i c.index.result.now word c.args.mark c.self.invariant lt is refl
+    marks_of-set words n c.args.i c.index.result.now word c.args.mark c.self.invariant lt is
     c.put_bit-word.ensures.same c.put_bit-word.ensures.other
     ∙ ap (λ l. slice_set l c.args.i c.args.mark) c.self.view_is

@@ -5,7 +5,7 @@ use Rattle.sedtext.proofs.counted.members.first_member.Goals as goal
 
 pub loop-place-preserved : goal.loop-place-preserved
 loop-place-preserved c = record {
-  missed = member_step c.args.set.now c.args.bytes.now c.args.from c.loop-place.place c.byte_at-byte.result c.has.result
+  missed = member_step c.args.set.now c.args.bytes.now 0 c.loop-place.place c.byte_at-byte.result c.has.result
       c.byte_at-byte.ensures.byte c.has.ensures.is c.if-has.false c.loop-place.invariant.missed;
 }
 

@@ -4,5 +4,5 @@ use Rattle.sedtext.proofs.counted.members.first_member.Given as goal
 
 abbrev pub invariant-loop-place : goal.invariant-loop-place
 invariant-loop-place l = record {
-  missed : (i : ℕ) → l.from ≤ i → i < l.place → MemberAt l.set l.bytes i → ⊥;
+  missed : (i : ℕ) → 0 ≤ i → i < l.place → MemberAt l.set l.bytes i → ⊥;
 }

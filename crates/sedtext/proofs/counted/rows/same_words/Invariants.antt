@@ -3,4 +3,4 @@ use Rattle.std.specs.Prelude.{slice_index_or}
 use Rattle.sedtext.proofs.counted.rows.same_words.Given as goal
 
 abbrev pub invariant-loop-x : goal.invariant-loop-x
-invariant-loop-x l = (k : ℕ) → k < l.x → slice_index_or l.words.items (l.at + k) 0 ≡ slice_index_or l.other.items k 0
+invariant-loop-x l = (k : ℕ) → k < l.x → slice_index_or l.words.items (l.at + k) 0 ≡ slice_index_or l.words.items (l.other + k) 0

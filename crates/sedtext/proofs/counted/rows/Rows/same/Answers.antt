@@ -1,32 +1,23 @@
-use Rattle.std.proofs.Common.{◌≤◌, ◌∙◌, false, length, sym, ap, arith}
-use Rattle.std.specs.Prelude.{slice_index_or}
-use Rattle.sedtext.proofs.WordLemmas.{length-marks_of, row_seen, marks_seen, words_there, row_agrees}
+use Rattle.std.proofs.Common.{◌*◌, ◌/◌, ◌∙◌, sym, arith}
+use Rattle.sedtext.proofs.WordLemmas.{marked_same, row_bit, words_there}
 use Rattle.sedtext.proofs.counted.rows.Rows.same.Goals as goal
 
-pub overflow_mul-self-inside : goal.overflow_mul-self-inside
-overflow_mul-self-inside c =
-    let there = words_there c.self.inside c.args.self.now c.self.view_is c.self.invariant c.args.row c.args.count c.requires.row c.requires.inside in
-    omega (arith, there, c.self.inside.words.ok)
+pub overflow_mul-at : goal.overflow_mul-at
+overflow_mul-at c = omega (arith, words_there c.self.inside c.args.self.now c.self.view_is c.self.invariant c.args.row c.args.count c.requires.row c.requires.inside, c.self.inside.words.ok)
+
+pub overflow_mul-other : goal.overflow_mul-other
+overflow_mul-other c = omega (arith, words_there c.self.inside c.args.self.now c.self.view_is c.self.invariant c.args.other_row c.args.count c.requires.other_row c.requires.there, c.self.inside.words.ok)
 
 pub same_words-requires-clause-inside : goal.same_words-requires-clause-inside
-same_words-requires-clause-inside c =
-    let there = words_there c.self.inside c.args.self.now c.self.view_is c.self.invariant c.args.row c.args.count c.requires.row c.requires.inside in
-    omega (arith, there)
+same_words-requires-clause-inside c = omega (arith, words_there c.self.inside c.args.self.now c.self.view_is c.self.invariant c.args.row c.args.count c.requires.row c.requires.inside)
 
 pub same_words-requires-clause-there : goal.same_words-requires-clause-there
-same_words-requires-clause-there c = omega (arith, ap length c.marks.view_is, length-marks_of c.marks.inside.words.items c.marks.inside.count, c.marks.invariant, c.requires.there, c.marks.inside.words.ok)
+same_words-requires-clause-there c = omega (arith, words_there c.self.inside c.args.self.now c.self.view_is c.self.invariant c.args.other_row c.args.count c.requires.other_row c.requires.there)
 
 pub returns-clause-same : goal.returns-clause-same
 returns-clause-same c hit k lt =
-    let width = c.self.inside.width in
     let words = c.self.inside.words.items in
-    let marks = c.self.inside.marks in
-    let row = c.args.row in
-    let n = c.marks.inside.count in
-    let all = marks_seen c.self.inside c.args.self.now c.self.view_is c.self.invariant row c.requires.row in
-    let low : c.args.count ≤ marks = omega (arith, all, c.requires.inside) in
-    let high : c.args.count ≤ n = omega (arith, ap length c.marks.view_is, length-marks_of c.marks.inside.words.items n, c.requires.there) in
-    ap (λ l. slice_index_or l k false) (sym (row_seen c.self.inside c.args.self.now c.self.view_is c.self.invariant row c.requires.row))
-    ∙ row_agrees words c.marks.inside.words.items width marks n row c.args.count low high
-    (λ x near inside. c.same_words.ensures.same hit x (omega arith)) k lt
-    ∙ ap (λ l. slice_index_or l k false) c.marks.view_is
+    let width = c.self.inside.width in
+    row_bit c.self.inside c.args.self.now c.self.view_is c.self.invariant c.args.row k c.requires.row (omega (arith, lt, c.requires.inside))
+    ∙ marked_same words words (width * c.args.row) (width * c.args.other_row) k (c.same_words.ensures.same hit (k / 64) (omega arith))
+    ∙ sym (row_bit c.self.inside c.args.self.now c.self.view_is c.self.invariant c.args.other_row k c.requires.other_row (omega (arith, lt, c.requires.there)))
