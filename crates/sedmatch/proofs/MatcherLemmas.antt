@@ -14,7 +14,7 @@ use Rattle.sedpass.proofs.OccurrenceLemmas.{answer_found, passed_by, search_fall
 use Rattle.sedmatch.specs.Direct.{IsDirect}
 use Rattle.sedmatch.specs.Stretches.{end_or}
 use Rattle.sedmatch.specs.Occurrences.{ServesFrom, ServesOn, owed, owed_after, owed_direct, owed_direct_after}
-use Rattle.sedmatch.specs.Passes.{ArePasses, IsEngine, searched_expression}
+use Rattle.sedmatch.specs.Passes.{IsEngine, searched_expression}
 use Rattle.sedmatch.specs.declared.direct.DirectForm.{DirectForm}
 use Rattle.sedmatch.specs.declared.occurrences.Occurrences.{Occurrences}
 use Rattle.sedmatch.specs.declared.passes.Passes.{Passes}
@@ -32,14 +32,6 @@ passes_are m v p q view is same = ap (λ (x : Passes). x.prepared.arena.expr) sa
 
 pub written_is : (m : SearchMethod) (v e : WrittenExpression) (form : DirectForm) → searched_expression m ≡ v → m ≡ Direct e form → e ≡ v
 written_is m v e form view is = sym (ap searched_expression is) ∙ view
-
--- passes that were made for the expression, and put elsewhere
-pub passes_made : (e : WrittenExpression) (made p : Passes) → ArePasses e made → p ≡ made → ArePasses p.prepared.arena.expr p × (p.prepared.arena.expr ≡ e)
-passes_made e made p are same = (subst (λ q. ArePasses q.prepared.arena.expr q) (sym same) (subst (λ v. ArePasses v made) (sym are.0.expr) are), ap (λ (q : Passes). q.prepared.arena.expr) same ∙ are.0.expr)
-
--- a form that was found for the expression, beside a copy of that
-pub form_found : (e copy : WrittenExpression) (found : Option DirectForm) (form : DirectForm) → IfSome found (IsDirect e) → found ≡ Some form → copy ≡ e → IsDirect copy form
-form_found e copy found form is there same = subst (λ v. IsDirect v form) (sym same) (subst (λ r. IfSome r (IsDirect e)) there is)
 
 -- What it finds and costs, by a look at the text.
 
@@ -83,16 +75,6 @@ look_paid n s t None at (Some f) is low pays lies = (pays.0, (let h = pays.1 in 
 look_paid n s t (Some q) at None is low pays lies = (pays.0, (let h = pays.1 in omega (arith, is, low, h)))
 look_paid n s t (Some q) at (Some f) is low pays lies =
     (pays.0, (let h = pays.1 in let after = lies.2.1 in let on = lies.1 in omega (arith, is, after, on, h)))
-
--- or the second one, after the null string at a place
-pub looks_paid : (n s u t q : ℕ) (f : Option (ℕ × ℕ)) → q ≤ n → CostsWithin s u (4 * (q + 1)) (4 * q) → CostsWithin u t (4 * (end_or n f + 1)) (4 * (q + 1)) → IfSome f (λ g. (q + 1 ≤ g.0) × (g.0 ≤ g.1) × (g.1 ≤ n)) →
-    CostsWithin s t (owed_direct n (Some q)) (owed_direct_after n f)
-looks_paid n s u t q f low one two lies =
-    look_paid n s t (Some q) q f refl low (omega (arith, one.0, two.0), (let h = one.1 in let k = two.1 in omega (arith, h, k))) (lies_past f lies)
-  where
-    lies_past : (f : Option (ℕ × ℕ)) → IfSome f (λ g. (q + 1 ≤ g.0) × (g.0 ≤ g.1) × (g.1 ≤ n)) → IfSome f (LiesOn n (Some q))
-    lies_past None lies = tt
-    lies_past (Some g) lies = (lies.1, lies.2, (omega (arith, lies.0), omega (arith, lies.0, lies.1)))
 
 -- What a search costs, by either way.
 

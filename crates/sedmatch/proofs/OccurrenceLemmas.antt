@@ -205,15 +205,6 @@ own_there e w o has by = let own = has.own by in slice_get_within o.own.items o.
 pub own_is : (e : WrittenExpression) (w : List ℕ) (o : Occurrences) → HasTable e w o → IsTrue o.by_own → (v u : Option Table) → v ≡ get_or o.own.items o.number v → v ≡ u → slice_get o.own.items o.number ≡ Some u
 own_is e w o has by v u at is = slice_get_read o.own.items (length o.own.items) o.number v refl (own_there e w o has by) at ∙ ap (λ z. Some z) is
 
-pub own_serves : (p : Prepared) (w : List ℕ) (o : Occurrences) (b : Table) → HasTable p.arena.expr w o → IsTrue o.by_own → slice_get o.own.items o.number ≡ Some (Some b) → SearchServes p w b o.seeking
-own_serves p w o b has by is =
-    let own = has.own by in
-    let same : own.0 ≡ b = same_there own.0 b (same_there (Some own.0) (Some b) (sym own.1 ∙ is)) in
-    subst (λ t. SearchServes p w t o.seeking) same (own.2 p refl)
-
-pub own_missing : (e : WrittenExpression) (w : List ℕ) (o : Occurrences) → HasTable e w o → IsTrue o.by_own → slice_get o.own.items o.number ≡ Some None → ⊥
-own_missing e w o has by none = let own = has.own by in let h : Some (Some own.0) ≡ Some None = sym own.1 ∙ none in cc
-
 -- After a search.
 
 module _ (p : Prepared) (w : List ℕ) (a a' b b' : Table) (o : Occurrences) (s : Seeking) (at : RoomAt (length w) o.number p.arena.expr o) (done : Searched p w a a' b b' o.seeking s) where

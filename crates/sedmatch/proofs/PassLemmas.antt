@@ -1,21 +1,18 @@
 -- An expression that is searched by passes: what they say of a text, its tables, and the room for them.
-use Rattle.std.proofs.Common.{◌≡◌, ◌∙◌, ℕ, ◌+◌, ◌-◌, ◌*◌, ◌/◌, ◌<◌, ◌≤◌, ◌↔◌, [], List, length, vec_capacity, Bool, Option, Some, None, IsTrue, true≢false, refl, sym, ap, subst, ⊎_elim, arith, mul-le-mul_left}
-use Rattle.std.specs.Prelude.{is_some, slice_set}
+use Rattle.std.proofs.Common.{◌≡◌, ◌∙◌, ℕ, ◌+◌, ◌-◌, ◌*◌, ◌/◌, ◌<◌, ◌≤◌, ◌↔◌, [], List, length, vec_capacity, Bool, Some, IsTrue, refl, sym, ap, subst, ⊎_elim, arith, mul-le-mul_left}
+use Rattle.std.specs.Prelude.{slice_set}
 use Rattle.std.proofs.lemmas.Bool.{cases_lt}
 use Rattle.std.proofs.Math.Nat.{lt-div-mul-add}
 use Rattle.sedre.specs.Arena.{IsExpr}
-use Rattle.sedre.specs.Tree.{WrittenExpression, expression_tree, Tree}
+use Rattle.sedre.specs.Tree.{WrittenExpression, expression_tree}
 use Rattle.sedre.specs.Steps.{Takes, TakesAtLeast}
-use Rattle.sedtext.specs.Beginnings.{AllBegin}
 use Rattle.sedtext.specs.Costs.{CostsWithin}
-use Rattle.sedtext.specs.declared.beginnings.Begins.TheVariants.{AtStart}
 use Rattle.sedtext.specs.Following.{LooksPast}
 use Rattle.sedtext.specs.Groups.{no_groups}
 use Rattle.sedtext.specs.Spans.{SomeFound, Matches}
 use Rattle.sedtext.proofs.GroupLemmas.{Captures-none, no_groups_at}
 use Rattle.sedtext.specs.Required.{Narrowed}
-use Rattle.sedtext.specs.Reach.{IsLongestFrom}
-use Rattle.sedpass.specs.Decide.{AreGroupTables, AreRoomy, HasDesk, HasSpace, SameRooms, SameTables}
+use Rattle.sedpass.specs.Decide.{AreGroupTables, AreRoomy, HasDesk, HasSpace, SameRooms}
 use Rattle.sedpass.specs.Kept.{KeptRoom, SameSpace}
 use Rattle.sedtext.specs.Words.{row_of}
 use Rattle.sedpass.specs.Table.{IsForwardOne, IsTable, SameRoom, SameShape}
@@ -54,14 +51,6 @@ shown_past e w from start s t u answered some is looks counts shows over cost =
       cost = ((let a = looks.0 in let b = cost.0 in omega (arith, a, b)), (let a = looks.1 in let b = cost.1 in omega (arith, a, b, few)));
     }
 
--- where all matches begin where the text does, the longest from a place shows whether one begins from there on
-pub anchored_shown : (e : Tree) (w : List ℕ) (from : ℕ) (r : Option ℕ) (answered : Bool) → from ≤ length w → AllBegin e AtStart → IsLongestFrom e w from r → answered ≡ is_some r → IsTrue answered ↔ SomeFound e w from
-anchored_shown e w from None answered within begins longest is = (
-  (λ h. absurd (true≢false (sym h ∙ is))),
-  (λ f. let zero = begins w f.0 f.1 f.4 in let low = f.2 in let at : f.0 ≡ from = omega arith in absurd (longest f.1 (subst (λ i. Matches e w i f.1) at f.4))),
-)
-anchored_shown e w from (Some j) answered within begins longest is = ((λ h. (from, j, omega arith, within, longest.0)), (λ f. is))
-
 -- one entry alone takes no step
 one_alone : (s n : ℕ) → n ≡ 1 → TakesAtLeast s s (n - 1)
 unfolding TakesAtLeast
@@ -85,9 +74,6 @@ whole_shown e w span s expr none spans =
 pub shape_room : (t t' : Table) → SameShape t t' → SameRoom t t'
 shape_room t t' same = (same.0, same.1, same.3, same.4)
 
-pub rooms_of : (t t' : GroupTables) → SameTables t t' → SameRooms t t'
-rooms_of t t' same = record { reverse_one = shape_room t.reverse_one t'.reverse_one same.reverse_one; forward_one = shape_room t.forward_one t'.forward_one same.forward_one }
-
 -- the one of passes forwards from one start
 pub one_of : (p : Prepared) (t : GroupTables) → AreGroupTables p t → IsForwardOne p t.forward_one
 one_of p t are = record { table = are.forward_one; forwards = ap (λ v. v.mirrored) are.ways.forward_one; single = ap (λ v. v.all_starts) are.ways.forward_one }
@@ -98,14 +84,6 @@ groups_after p t after are table same = record {
   ways = record { reverse_one = are.ways.reverse_one; forward_one = same.0 ∙ are.ways.forward_one };
   reverse_one = are.reverse_one;
   forward_one = table;
-}
-
--- and where both decided groups
-pub groups_decided : (s : Subject) (t after : GroupTables) (kept : Kept) → AreGroupTables s.prepared.now t → HasDesk s after kept → SameTables t after → AreGroupTables s.prepared.now after
-groups_decided s t after kept are desk same = record {
-  ways = record { reverse_one = same.reverse_one.0 ∙ are.ways.reverse_one; forward_one = same.forward_one.0 ∙ are.ways.forward_one };
-  reverse_one = desk.reverse_one;
-  forward_one = desk.forward_one.table;
 }
 
 -- The desk.
@@ -170,23 +148,6 @@ kept_room m n t k way places enough marks = record {
   marks = marks;
 }
 
--- those of a desk are enough for its tables, also where they are fitted to an expression
-desk_enough : (d : Desk) (room : ℕ) → IsDesk d → room ≡ d.shared.groups.reverse_one.room → 2 ≤ room → d.max_text < length d.room.kept.edges / 2 * (room - 1)
-desk_enough d room is same some = blocks_enough d.max_text (d.shared.groups.reverse_one.room - 1) room (length d.room.kept.edges) (omega (arith, same, some)) (ap (λ v. v - 1) same) is.space.edges
-
-pub desk_keeps : (d : Desk) (p : Prepared) (reverse_any : Table) (m n : ℕ) → IsDesk d → IsTable p reverse_any → SameRoom d.reverse_any reverse_any → n ≤ d.max_text → m ≤ d.max_nodes → KeptRoom m n reverse_any d.room.kept
-desk_keeps d p reverse_any m n is table same short few =
-    let enough = desk_enough d reverse_any.room is (same.1 ∙ is.states) table.room.rows.some in
-    let places = is.space.places in
-    kept_room m n reverse_any d.room.kept (same.0 ∙ is.reverse_any.1) (omega (arith, places, short)) (omega (arith, enough, short)) (λ q low. let marks = is.space.marks q low in omega (arith, marks, few))
-
--- and those that serve all do, fitted to it
-pub shared_decides : (s : Subject) (fitted : GroupTables) (d : Desk) → AreGroupTables s.prepared.now fitted → SameRooms d.shared.groups fitted → IsDesk d → length s.text.now ≤ d.max_text →
-    length s.prepared.now.arena.expr.nodes ≤ d.max_nodes → HasDesk s fitted d.room.kept
-shared_decides s fitted d tables fit is short few =
-    let enough = desk_enough d fitted.reverse_one.room is fit.reverse_one.1 tables.reverse_one.room.rows.some in
-    own_decides s fitted d (length s.text.now) tables is short few refl (omega (arith, enough, short))
-
 -- a table that was fitted to an expression and served it goes the same way, and has all its room
 pub used : (way : Way) (m : ℕ) (p : Prepared) (t fitted after : Table) → IsRoomyWay way m t → SameRoom t fitted → SameRoom fitted after → IsTable p after → IsRoomyWay way m after
 used way m p t fitted after roomy fit same table = (roomy_still m p t after roomy.0 (same.0 ∙ fit.0, same.1 ∙ fit.1, same.2 ∙ fit.2, same.3 ∙ fit.3) table, same.0 ∙ fit.0 ∙ roomy.1)
@@ -197,11 +158,6 @@ groups_used m p t fitted after roomy fit same reverse_one forward_one =
     let back = used _ m p t.reverse_one fitted.reverse_one after.reverse_one (roomy.reverse_one, roomy.ways.reverse_one) fit.reverse_one same.reverse_one reverse_one in
     let on = used _ m p t.forward_one fitted.forward_one after.forward_one (roomy.forward_one, roomy.ways.forward_one) fit.forward_one same.forward_one forward_one in
     record { ways = record { reverse_one = back.1; forward_one = on.1 }; reverse_one = back.0; forward_one = on.0 }
-
-pub one_used : (m : ℕ) (p : Prepared) (t : GroupTables) (fitted after : Table) → AreRoomy m t → SameRoom t.forward_one fitted → SameShape fitted after → IsTable p after → AreRoomy m (record t { forward_one = after })
-one_used m p t fitted after roomy fit same table =
-    let on = used _ m p t.forward_one fitted after (roomy.forward_one, roomy.ways.forward_one) fit (shape_room fitted after same) table in
-    record { ways = record { reverse_one = roomy.ways.reverse_one; forward_one = on.1 }; reverse_one = roomy.reverse_one; forward_one = on.0 }
 
 -- and all tables
 pub all_used : (m : ℕ) (p : Prepared) (t fitted after : PassTables) → HavePassRoom m t → SamePassRoom t fitted → SamePassRoom fitted after → ArePassTables p after → HavePassRoom m after

@@ -1,12 +1,12 @@
 -- The groups that are given as due, as the state of a decision; what nodes and regions cost.
 use Rattle.std.proofs.Common.{◌≡◌, ℕ, zero, suc, ◌+◌, ◌-◌, ◌*◌, ◌<◌, ◌≤◌, ◌↔◌, ◌&&◌, not, Bool, true, false, List, [], ◌∷◌, length, Option, None, Some, IsTrue, refl, sym, ap, ◌∙◌, subst, inl, inr, ⊎_elim, true≢false, arith, mul-le-mul_left, IfSome, eqb, nat_lt, slice_get, slice_set, slice_index_or, vec_capacity}
-use Rattle.sedpass.proofs.Words.{bit_at, and_parts, and_from, cases_Bool, cases_lt, lt-ltb, le-ltb, cond_some, ext_get_or, length-set, mul-le-mul_right, Tree, WrittenExpression, tree_at, expression_tree, IsArena, IsExpr, IsPart, AreRanges, Takes, Node, NodeId, Set, Seq, Group, Star, tree_at-node, LastCut, LastCopy, CostsWithin, SpansOfGroups, HasSpan, one_start, CopiesLead, node_at, close_at, Matches-forward, GroupSet, Matched, Kept, Region, Subject, Facts, Table}
+use Rattle.sedpass.proofs.Words.{bit_at, and_parts, and_from, cases_Bool, cases_lt, lt-ltb, le-ltb, cond_some, ext_get_or, length-set, mul-le-mul_right, Tree, tree_at, IsArena, IsExpr, IsPart, AreRanges, Takes, Node, NodeId, Set, Seq, Group, Star, tree_at-node, LastCut, LastCopy, CostsWithin, SpansOfGroups, HasSpan, one_start, CopiesLead, node_at, close_at, Matches-forward, GroupSet, Matched, Kept, Region, Subject, Facts, Table}
 use Rattle.sedpass.specs.Decide.{spans_in, undecided, HasAll, flags_of, known_groups, EndsRegion, IsAtEnd, IsGroupDesk, HasDesk, IsSetAt, AreGroupTables, HasSpace, SameTables, KeepsGroupDesk, part_cost, nodes_in, subject_text, NoneSettled, NodeMatches}
 use Rattle.sedpass.specs.Kept.{AllMarked, SameKept, SameSpace, ends_shown, owed_region, KeepsRegion}
 use Rattle.sedpass.specs.Prepared.{IsFacts, is_one_set, repeated_set, reported, holds, AllLong}
 use Rattle.sedpass.specs.Regions.{CeasesAt, IsLastIn, NextCopy, ReachesEnd, IsRunOf, repeated, in_group}
 use Rattle.sedpass.specs.Table.{IsTable, SameShape, MayBegin}
-use Rattle.sedpass.specs.Walks.{settle, drop_groups, GroupIsIn, NoneDue, IsFirstState, has_group}
+use Rattle.sedpass.specs.Walks.{settle, drop_groups, NoneDue, IsFirstState, has_group}
 use Rattle.sedpass.specs.declared.groups.GroupRoom.{GroupRoom}
 use Rattle.sedpass.specs.declared.groups.GroupTables.{GroupTables}
 use Rattle.sedpass.proofs.KeptLemmas.{same_shape, space_same, space_then}
@@ -76,14 +76,7 @@ dropped nodes x facts old new spans is whole blank without =
     drop_as (tree_at nodes x) (known_groups old spans) (known_groups new spans) blank refl refl (λ k.
     flags_left old facts.groups new k (has_group (tree_at nodes x) k) None whole (is.groups k) (without k))
 
--- the groups of the whole expression, and a start with them
-pub all_shown : (e : WrittenExpression) (root : ℕ) (facts : Facts) → root + 1 ≡ length e.nodes → IsFacts (tree_at e.nodes root) root facts → HasAll facts.groups (expression_tree e)
-all_shown e root facts last is k low high has =
-    let same : length e.nodes - 1 ≡ root = omega arith in
-    is.groups k
-    ∙ and_from (reported k) (has_group (tree_at e.nodes root) k) (and_from (nat_lt 0 k) (nat_lt k 10) (lt-ltb 0 k (omega arith)) (lt-ltb k 10 high))
-    (subst (λ x. GroupIsIn (tree_at e.nodes x) k) same has)
-
+-- a start with the groups of the whole expression
 pub starts_due : (e : Tree) (i j : ℕ) (due : GroupSet) → holds due 0 ≡ false → HasAll due e → IsFirstState e i j (known_groups due (undecided i j))
 starts_due e i j due whole all = record {
   whole = whole;

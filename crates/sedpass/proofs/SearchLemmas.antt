@@ -249,11 +249,6 @@ trial_is e w begins from start place end all next passed within reached longest 
   longest = longest;
 }
 
--- where none can begin any more none is found
-pub none_further : (e : Tree) (w : List ℕ) (begins : Begins) (from p : ℕ) → AllBegin e begins → NoneIn e w from p → NextStart begins w p None → NotFound e w from
-none_further e w begins from p all none next i k low high span =
-    elim (cases_lt i p) [ inl before ↦ none i k low before span | inr at ↦ next i at high (all w i k span) ]
-
 -- the first place at which one can begin is as good as one before it
 pub some_from : (e : Tree) (w : List ℕ) (begins : Begins) (from start : ℕ) → AllBegin e begins → NextStart begins w from (Some start) → SomeFound e w start ↔ SomeFound e w from
 some_from e w begins from start all next = (

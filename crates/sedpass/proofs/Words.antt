@@ -8,7 +8,7 @@ pub use Rattle.sedre.specs.Steps.{Takes, TakesAtLeast}
 pub use Rattle.sedre.specs.declared.types.Node.{Node}
 pub use Rattle.sedre.specs.declared.types.Node.TheVariants.{Alt, Begin, Empty, End, Group, Opt, Seq, Set, Star}
 pub use Rattle.sedre.specs.declared.types.NodeId.{NodeId}
-pub use Rattle.sedtext.proofs.CountLemmas.{counted_twice, least_both, least_counted, least_less, least_none, least_since, least_up}
+pub use Rattle.sedtext.proofs.CountLemmas.{least_both, least_counted, least_less, least_none, least_since, least_up}
 pub use Rattle.sedtext.proofs.MatchingLemmas.{both-iff, either-iff, found-iff, groups_after-is, not_found-iff}
 pub use Rattle.sedtext.proofs.MirrorLemmas.{HasSpan-mirror, get-reverse}
 pub use Rattle.sedtext.proofs.NodeLemmas.{node_at, parts_below, size-parts, size-pos}
@@ -31,10 +31,10 @@ pub use Rattle.sedtext.specs.declared.starts.Starts.{Starts}
 pub use Rattle.std.proofs.Math.Bool.{and-false, beq}
 pub use Rattle.std.proofs.Math.Nat.{div-mul-le_self, lt-div-mul-add, mod-eq_of_lt, mul-le-mul_right, pow-le-pow_right}
 pub use Rattle.std.proofs.lemmas.Bool.{and_from, and_parts, both_ways, cases_Bool, cases_eq, cases_lt, eq-eqb, eqb-true, le-ltb, lt-ltb, ltb-true, ne_eqb, not-false, or_cases, or_left, or_right}
-pub use Rattle.std.proofs.lemmas.List.{ext_get_or, get_or-replicate, get_or-set_other, get_or-set_same, get_or_default, length-reverse, length-set, nil_from_length, reverse-append, take_all, take_more}
+pub use Rattle.std.proofs.lemmas.List.{ext_get_or, get_or-replicate, get_or-set_other, get_or-set_same, get_or_default, length-reverse, length-set, nil_from_length, reverse-append, take_more}
 pub use Rattle.std.proofs.lemmas.Nat.{and_le_r, same_from_place, shl-shr, shl_below, shl_whole}
 pub use Rattle.std.proofs.lemmas.Nat.Bits.{bit_at-lt, bit_at-pow_other, bit_at-pow_same, bit_at-trailing_zeros, bit_at-zero, bit_at_above, bit_at_and, bit_at_not, bit_at_ones, bit_at_or}
-pub use Rattle.std.proofs.lemmas.Option.{cond_some, get_or_from_slice_get, none-some, same_Some, slice_get_cases, slice_get_past, slice_get_read, slice_get_within, unwrap_or-slice_get}
+pub use Rattle.std.proofs.lemmas.Option.{cond_some, get_or_from_slice_get, none-some, same_Some, slice_get_past, slice_get_read, slice_get_within, unwrap_or-slice_get}
 pub use Rattle.std.specs.Int.{bit_at, from_bool, trailing_zeros}
 pub use Rattle.std.specs.Option.{option_eq, option_or}
 pub use Rattle.std.specs.Vec.{with_item}

@@ -1,5 +1,5 @@
 use Rattle.sedre.specs.Tree.{expression_tree}
-use Rattle.sedmatch.proofs.DirectLemmas.{direct_answer, looks_at_match, looks_from, span_lies}
+use Rattle.sedmatch.proofs.DirectLemmas.{direct_answer, looks_from, span_lies}
 use Rattle.sedmatch.proofs.direct.direct_span.Goals as goal
 
 pub returns-clause-answer : goal.returns-clause-answer
@@ -7,10 +7,6 @@ returns-clause-answer c e is = direct_answer e c.args.form.now is c.args.text.no
 
 pub returns-clause-lies : goal.returns-clause-lies
 returns-clause-lies c = span_lies c.args.form.now c.args.text.now c.args.from c.form_span.result c.form_span.ensures.span
-
-pub returns-clause-counts : goal.returns-clause-counts
-returns-clause-counts c =
-    looks_at_match c.args.form.now c.args.text.now c.args.from c.args.steps.now c.form_span.new.steps c.form_span.result c.form_span.ensures.span c.form_span.ensures.counts
 
 pub returns-clause-passes : goal.returns-clause-passes
 returns-clause-passes c = λ e is early.

@@ -1,25 +1,7 @@
 use Rattle.std.proofs.Common.{Some, refl, arith}
 use Rattle.std.specs.Vec.{with_item}
-use Rattle.sedmatch.proofs.OccurrenceLemmas.{own_is, own_missing, own_searched, own_serves, own_there, shared_searched, shows}
+use Rattle.sedmatch.proofs.OccurrenceLemmas.{own_is, own_searched, shared_searched, shows}
 use Rattle.sedmatch.proofs.occurrences.next_by.Goals as goal
-
-pub index_mut-requires : goal.index_mut-requires
-index_mut-requires c =
-    let inside = own_there c.args.prepared.now.arena.expr c.args.text.now c.make_ready.new.self c.make_ready.ensures.ready.table c.if-not-occurrences.false in
-    omega (arith, inside, c.make_ready.new.self.own.ok.0)
-
-pub next_with-requires-2-clause-ready : goal.next_with-requires-2-clause-ready
-next_with-requires-2-clause-ready c = record {
-  begins = c.requires.sought.begins;
-  forward_one = c.requires.forward_one;
-  serves = own_serves c.args.prepared.now c.args.text.now c.make_ready.new.self c.in-Some.reverse c.make_ready.ensures.ready.table c.if-not-occurrences.false
-      (own_is c.args.prepared.now.arena.expr c.args.text.now c.make_ready.new.self c.make_ready.ensures.ready.table c.if-not-occurrences.false _ _ c.index_mut.ensures.value c.in-Some.is);
-}
-
-pub unreachable-requires : goal.unreachable-requires
-unreachable-requires c =
-    own_missing c.args.prepared.now.arena.expr c.args.text.now c.make_ready.new.self c.make_ready.ensures.ready.table c.if-not-occurrences.false
-    (own_is c.args.prepared.now.arena.expr c.args.text.now c.make_ready.new.self c.make_ready.ensures.ready.table c.if-not-occurrences.false _ _ c.index_mut.ensures.value c.in_default.is)
 
 pub returns-then-not-occurrences-clause-answered : goal.returns-then-not-occurrences-clause-answered
 returns-then-not-occurrences-clause-answered c =

@@ -1,17 +1,11 @@
 use Rattle.std.proofs.Common.{refl}
-use Rattle.sedmatch.proofs.PassLemmas.{desk_again, groups_decided, own_decides}
+use Rattle.sedmatch.proofs.PassLemmas.{desk_again, own_decides}
 use Rattle.sedmatch.proofs.passes.groups_by.Goals as goal
 
 pub groups_with-requires-clause-desk : goal.groups_with-requires-clause-desk
 groups_with-requires-clause-desk c =
     let own = rw c.in-Some.is at c.requires.passes.1 in
     own_decides _ c.in-Some.own.groups c.args.desk.now c.len.result own.2 c.requires.desk.0 c.requires.desk.1 c.requires.desk.2 c.len.ensures.is (c.has_blocks.ensures c.if-has_blocks.true)
-
-pub returns-then-has_blocks-clause-passes : goal.returns-then-has_blocks-clause-passes
-returns-then-has_blocks-clause-passes c =
-    let own = rw c.in-Some.is at c.requires.passes.1 in
-    let done = c.groups_with.ensures.room in
-    (refl, (own.0, own.1, groups_decided _ c.in-Some.own.groups c.groups_with.new.tables _ own.2 done.desk done.shape))
 
 pub returns-then-has_blocks-clause-desk : goal.returns-then-has_blocks-clause-desk
 returns-then-has_blocks-clause-desk c =

@@ -1,11 +1,8 @@
-use Rattle.std.proofs.Common.{◌∙◌, length, refl, arith}
+use Rattle.std.proofs.Common.{◌∙◌, refl, arith}
 use Rattle.sedre.specs.Tree.{expression_tree}
-use Rattle.sedmatch.proofs.PassLemmas.{all_used, desk_again, passes_fewer, shown_past}
+use Rattle.sedmatch.proofs.PassLemmas.{all_used, desk_again, shown_past}
 use Rattle.sedpass.proofs.KeptLemmas.{space_same}
 use Rattle.sedmatch.proofs.passes.matches_by.Goals as goal
-
-pub matches_with-requires-clause-from : goal.matches_with-requires-clause-from
-matches_with-requires-clause-from c = (c.in-Some.ensures.narrowed (expression_tree c.args.passes.now.prepared.arena.expr) c.requires.passes.0.required).1
 
 pub returns-in-Some-own-clause-answered : goal.returns-in-Some-own-clause-answered
 returns-in-Some-own-clause-answered c =
@@ -15,12 +12,6 @@ returns-in-Some-own-clause-answered c =
     let done = c.matches_with.ensures in
     shown_past p.arena.expr c.args.text.now c.args.from c.in-Some.start c.args.steps.now c.skip_to_literal.new.steps c.matches_with.new.steps c.matches_with.result (omega (arith, last))
     (first.narrowed (expression_tree p.arena.expr) c.requires.passes.0.required) first.cost first.counts done.matches done.passes done.cost
-
-pub fit-requires : goal.fit-requires
-fit-requires c = passes_fewer (length c.args.passes.now.prepared.arena.expr.nodes) c.args.desk.now.max_nodes c.args.desk.now.shared c.requires.desk.0.shared c.requires.desk.2
-
-pub matches_with-requires-2-clause-from : goal.matches_with-requires-2-clause-from
-matches_with-requires-2-clause-from c = (c.in-Some.ensures.narrowed (expression_tree c.args.passes.now.prepared.arena.expr) c.requires.passes.0.required).1
 
 pub returns-clause-desk : goal.returns-clause-desk
 returns-clause-desk c =

@@ -14,8 +14,3 @@ loop-x-preserved c =
       stem = one_link_more links (c.loop-x.x - 1) c.index-chain-x.result c.loop-x.stem c.in_ok-stem.stem (omega arith) c.index-chain-x.is c.in_ok-stem.ensures
           (subst (λ v. (nodes : List Node) (w : List ℕ) (i j : ℕ) → ChainLeads nodes w (drop v links) i j ↔ StemLeads c.loop-x.stem w i j) next c.loop-x.invariant.stem);
     }
-
-pub returns : goal.returns
-returns c =
-    let all : c.loop-x.x ≡ 0 = omega arith in
-    subst (λ v. (nodes : List Node) (w : List ℕ) (i j : ℕ) → ChainLeads nodes w (drop v c.args.chain.now) i j ↔ StemLeads c.loop-x.stem w i j) all c.loop-x.invariant.stem

@@ -3,7 +3,7 @@ use Rattle.std.specs.Option.{unwrap_or}
 use Rattle.sedre.specs.Tree.{expression_tree}
 use Rattle.sedtext.specs.Following.{LiesOn}
 use Rattle.sedpass.proofs.OccurrenceLemmas.{lies_behind}
-use Rattle.sedmatch.proofs.MatcherLemmas.{first_next, look_paid, looks_paid, next_by_null, none_of, some_of, within_at}
+use Rattle.sedmatch.proofs.MatcherLemmas.{first_next, look_paid, next_by_null, none_of, some_of, within_at}
 use Rattle.sedmatch.proofs.OccurrenceLemmas.{lies_first, looks_passed, looks_since}
 use Rattle.sedmatch.proofs.OnceLemmas.{counts_since}
 use Rattle.sedmatch.proofs.table_matcher.next_direct.Goals as goal
@@ -49,14 +49,6 @@ returns-clause-next c = λ e is.
     let at = c.unwrap_or-at.result in
     next_by_null (expression_tree e) w c.args.last at c.direct_span-first.result c.past_null.result c.is_null_at.result true (some_of c.args.last c.is_none.result at c.is_none.ensures c.if-is_none.false c.unwrap_or-at.ensures)
     (within_at (length w) c.args.last at c.unwrap_or-at.ensures c.requires.last) (c.direct_span-first.ensures.answer e is) c.is_null_at.ensures.passed c.if-not-is_null_at.false (c.past_null.ensures.next e is)
-
-pub returns-clause-cost : goal.returns-clause-cost
-returns-clause-cost c =
-    let n = length c.args.text.now in
-    let at = c.unwrap_or-at.result in
-    let some = some_of c.args.last c.is_none.result at c.is_none.ensures c.if-is_none.false c.unwrap_or-at.ensures in
-    let one = rw (c.is_null_at.ensures.null c.if-not-is_null_at.false) at c.direct_span-first.ensures.cost in
-    rw some (looks_paid n c.args.steps.now c.direct_span-first.new.steps c.past_null.new.steps at c.past_null.result (within_at n c.args.last at c.unwrap_or-at.ensures c.requires.last) one c.past_null.ensures.cost c.past_null.ensures.lies)
 
 pub returns-clause-counts : goal.returns-clause-counts
 returns-clause-counts c = counts_since c.past_null.result c.args.steps.now c.direct_span-first.new.steps c.past_null.new.steps c.direct_span-first.ensures.cost.0 c.past_null.ensures.counts

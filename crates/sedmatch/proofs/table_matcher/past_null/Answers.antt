@@ -9,15 +9,3 @@ pub returns-clause-next : goal.returns-clause-next
 returns-clause-next c = λ e is.
     let w = c.args.text.now in
     further (length w) c.args.at c.direct_span.result (leftmost_longest (expression_tree e) w (c.args.at + 1)) (λ on. answer_found (expression_tree e) w (c.args.at + 1) c.direct_span.result (omega (arith, on)) (c.direct_span.ensures.answer e is)) (λ off. absurd (omega (arith, off)))
-
-pub returns-clause-lies : goal.returns-clause-lies
-returns-clause-lies c = c.direct_span.ensures.lies
-
-pub returns-clause-cost : goal.returns-clause-cost
-returns-clause-cost c = c.direct_span.ensures.cost
-
-pub returns-clause-counts : goal.returns-clause-counts
-returns-clause-counts c = c.direct_span.ensures.counts
-
-pub returns-clause-passes : goal.returns-clause-passes
-returns-clause-passes c = c.direct_span.ensures.passes

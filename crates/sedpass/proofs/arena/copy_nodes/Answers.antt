@@ -1,5 +1,5 @@
 use Rattle.std.proofs.Common.{◌≡◌, Some, refl, ◌++◌, ◌∷◌, [], length, ap, sym, ◌∙◌, length-append, arith, slice_get, take}
-use Rattle.sedpass.proofs.Words.{take_more, take_all, slice_get_within, get_or_from_slice_get, parts_below, least_none}
+use Rattle.sedpass.proofs.Words.{take_more, slice_get_within, get_or_from_slice_get, parts_below, least_none}
 use Rattle.sedre.specs.Steps.{TakesAtLeast, TakesExactly}
 use Rattle.sedpass.proofs.FactLemmas.{facts_more}
 use Rattle.sedpass.proofs.arena.copy_nodes.Goals as goal
@@ -43,6 +43,3 @@ loop-x-preserved c =
       nodes_room = cc;
       facts_room = cc;
     }
-
-pub returns-clause-copied : goal.returns-clause-copied
-returns-clause-copied c = c.loop-x.invariant.copied ∙ take_all c.loop-x.x c.args.expr.now.nodes (omega arith)

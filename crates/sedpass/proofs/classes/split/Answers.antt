@@ -1,6 +1,6 @@
 use Rattle.std.proofs.Common.{◌+◌, ◌*◌, ◌≡◌, refl, ◌∙◌, length-set, arith, inr}
 use Rattle.std.proofs.lemmas.List.{get_or-replicate}
-use Rattle.sedpass.proofs.ClassLemmas.{bit_low, key_of, given_more, finer}
+use Rattle.sedpass.proofs.ClassLemmas.{bit_low, key_of, given_more}
 use Rattle.sedpass.proofs.classes.split.Goals as goal
 
 pub loop-byte-init : goal.loop-byte-init
@@ -24,8 +24,3 @@ loop-byte-preserved c =
       given = given_more (key_of c.args.classes.now c.args.set.now) c.loop-byte.numbers c.loop-byte.of c.give-count.new.numbers _ c.loop-byte.count c.give-count.result c.loop-byte.byte (2 * c.from.result + c.from-in-loop-byte.result) (omega arith)
           key (omega (arith, bit_low c.has.result)) given refl old.given;
     }
-
-pub returns : goal.returns
-returns c =
-    let end : c.loop-byte.byte ≡ 256 = omega arith in
-    finer c.args.classes.now c.args.set.now c.loop-byte.numbers c.loop-byte.of c.loop-byte.count c.loop-byte.invariant.wide (omega arith) c.loop-byte.invariant.numbering (rw (← end) c.loop-byte.invariant.given)

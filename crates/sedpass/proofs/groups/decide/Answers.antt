@@ -21,30 +21,6 @@ all-init c =
       works = rw begun (works_none s (first ∷ []) decided c.args.steps.now blank (there, tt));
     }
 
-pub forget-requires : goal.forget-requires
-forget-requires c =
-    let works = rw (popped _ _ _ c.in-Some.ensures.items, c.in-Forget.is) at c.all.invariant.works in
-    record { inside = works.ready.0; decided = works.decided }
-
-pub spine-requires : goal.spine-requires
-spine-requires c =
-    let p = c.args.subject.prepared.now in
-    let keeps = c.all.invariant.keeps in
-    let works = rw (popped _ _ _ c.in-Some.ensures.items, c.in-Apart.is) at c.all.invariant.works in
-    record {
-      arena = c.is_expression.ensures.arena;
-      ready = works.ready;
-      enough = omega (arith, works.less, c.is_expression.ensures.sizes p.root (omega (arith, p.is_prepared.last)), p.is_prepared.last, c.requires.room, c.push_reserved.ensures.capacity, keeps.tasks, c.pop.ensures.capacity);
-      desk = keeps.desk;
-      keeps_blank = works.decided;
-    }
-
-pub all-smaller-in-Forget : goal.all-smaller-in-Forget
-all-smaller-in-Forget c = rw (popped _ _ _ c.in-Some.ensures.items, c.in-Forget.is) (omega arith)
-
-pub all-smaller : goal.all-smaller
-all-smaller c = rw (popped _ _ _ c.in-Some.ensures.items, c.in-Apart.is) (omega (arith, c.spine.ensures.works.less))
-
 pub all-preserved-in-Forget : goal.all-preserved-in-Forget
 all-preserved-in-Forget c =
     let inv = c.all.invariant in

@@ -1,5 +1,5 @@
-use Rattle.std.proofs.Common.{rules, ◌-◌, ◌<◌, length, inl, inr, refl, arith}
-use Rattle.sedpass.proofs.Words.{both_ways, Star, HasSpan, least_less, least_none, least_both, least_up}
+use Rattle.std.proofs.Common.{◌-◌, ◌<◌, length, inl, inr, refl, arith}
+use Rattle.sedpass.proofs.Words.{Star, HasSpan, least_none, least_both, least_up}
 use Rattle.sedpass.specs.Decide.{nodes_in, subject_text}
 use Rattle.sedpass.proofs.DecideLemmas.{copy_fixed, copy_ceases, copy_pays, desk_forward_one, desk_same, desk_then, ends_still, owed_here, part_low}
 use Rattle.sedpass.proofs.MeetingLemmas.{copy_walk}
@@ -9,27 +9,11 @@ use Rattle.sedpass.proofs.groups.last_copy.Goals as goal
 pub has_empty_copy-taken-requires : goal.has_empty_copy-taken-requires
 has_empty_copy-taken-requires c = rw c.index-part.ensures (part_inside c.args.subject c.args.here (Star c.args.a c.args.first) c.requires.stands c.args.a.index refl)
 
-pub returns-then-taken : goal.returns-then-taken
-returns-then-taken c =
-    let look = c.has_empty_copy-taken.ensures in
-    let copy = rw c.index-part.ensures at look.copy in
-    record {
-      copy = inr (c.if-here.true, copy.0 c.if-taken.true, refl);
-      desk = desk_same c.args.subject c.args.tables.now c.args.kept.now c.requires.desk;
-      cost = (look.cost.0, omega (arith, look.cost.1));
-      counts = λ is_open. least_up c.args.steps.now c.args.steps.now c.has_empty_copy-taken.new.steps _ (least_none c.args.steps.now _ (omega (arith, c.if-here.true))) look.cost.0;
-    }
+pub returns-then-taken-clause-counts : goal.returns-then-taken-clause-counts
+returns-then-taken-clause-counts c = λ is_open. least_up c.args.steps.now c.args.steps.now c.has_empty_copy-taken.new.steps _ (least_none c.args.steps.now _ (omega (arith, c.if-here.true))) c.has_empty_copy-taken.ensures.cost.0
 
-pub returns-else-taken : goal.returns-else-taken
-returns-else-taken c =
-    let look = c.has_empty_copy-taken.ensures in
-    let copy = rw c.index-part.ensures at look.copy in
-    record {
-      copy = (c.if-here.true, λ both. both_ways _ c.if-taken.false (copy.1 both));
-      desk = desk_same c.args.subject c.args.tables.now c.args.kept.now c.requires.desk;
-      cost = (look.cost.0, omega (arith, look.cost.1));
-      counts = λ is_open. least_up c.args.steps.now c.args.steps.now c.has_empty_copy-taken.new.steps _ (least_none c.args.steps.now _ (omega (arith, c.if-here.true))) look.cost.0;
-    }
+pub returns-else-taken-clause-counts : goal.returns-else-taken-clause-counts
+returns-else-taken-clause-counts c = λ is_open. least_up c.args.steps.now c.args.steps.now c.has_empty_copy-taken.new.steps _ (least_none c.args.steps.now _ (omega (arith, c.if-here.true))) c.has_empty_copy-taken.ensures.cost.0
 
 pub facts_at-requires : goal.facts_at-requires
 facts_at-requires c = rw c.index-part.ensures (part_inside c.args.subject c.args.here (Star c.args.a c.args.first) c.requires.stands c.args.a.index refl)
@@ -38,15 +22,10 @@ pub overflow_sub-result : goal.overflow_sub-result
 overflow_sub-result c =
     omega (arith, (copy_fixed c.args.subject c.args.here c.args.a c.args.first _ c.in-Some.length _ c.requires.stands (omega (arith, c.requires.stands.there.up, c.if-here.false)) c.index-part.ensures c.facts_at.ensures.facts c.in-Some.is).0)
 
-pub returns-in-Some : goal.returns-in-Some
-returns-in-Some c =
+pub returns-in-Some-clause-copy : goal.returns-in-Some-clause-copy
+returns-in-Some-clause-copy c =
     let some : c.args.here.start < c.args.here.stop = omega (arith, c.requires.stands.there.up, c.if-here.false) in
-    record {
-      copy = inl (some, (copy_fixed c.args.subject c.args.here c.args.a c.args.first _ c.in-Some.length _ c.requires.stands some c.index-part.ensures c.facts_at.ensures.facts c.in-Some.is).1);
-      desk = desk_same c.args.subject c.args.tables.now c.args.kept.now c.requires.desk;
-      cost = (omega arith, omega arith);
-      counts = search rules;
-    }
+    inl (some, (copy_fixed c.args.subject c.args.here c.args.a c.args.first _ c.in-Some.length _ c.requires.stands some c.index-part.ensures c.facts_at.ensures.facts c.in-Some.is).1)
 
 pub copies-init : goal.copies-init
 copies-init c =
@@ -61,17 +40,8 @@ copies-init c =
       counts = least_none c.args.steps.now (c.args.here.start - c.args.here.start) (omega arith);
     }
 
-pub cut-end-requires : goal.cut-end-requires
-cut-end-requires c =
-    let inv = c.copies.invariant in
-    let desk = inv.desk.desk in
-    record {
-      kept = desk.region;
-      forward_one = desk.forward_one.table;
-      forwards = (desk.forward_one.forwards, desk.forward_one.single);
-      a = rw c.index-part.ensures (part_low c.args.subject c.copies.kept.region c.args.here (Star c.args.a c.args.first) c.args.a.index c.requires.stands inv.ends refl);
-      from = omega (arith, c.copies-test.true, inv.ends.1);
-    }
+pub cut-end-requires-clause-a : goal.cut-end-requires-clause-a
+cut-end-requires-clause-a c = rw c.index-part.ensures (part_low c.args.subject c.copies.kept.region c.args.here (Star c.args.a c.args.first) c.args.a.index c.requires.stands c.copies.invariant.ends refl)
 
 pub copies-smaller : goal.copies-smaller
 copies-smaller c =
@@ -104,13 +74,8 @@ copies-preserved c =
       counts = least_both c.args.steps.now c.copies.steps cut.new.steps _ _ _ inv.counts cut.ensures.counts (omega (arith, inv.low, next.after));
     }
 
-pub returns : goal.returns
-returns c =
+pub returns-clause-cost : goal.returns-clause-cost
+returns-clause-cost c =
     let inv = c.copies.invariant in
     let owed_is = owed_here c.args.subject c.args.kept.now.region c.args.here c.requires.ends in
-    record {
-      copy = inl (omega (arith, c.requires.stands.there.up, c.if-here.false), inv.walk c.copies.copy (inr (omega (arith, c.copies-test.false, inv.within), refl)));
-      desk = inv.desk;
-      cost = (inv.cost.0, omega (arith, inv.cost.1, owed_is));
-      counts = λ is_open. least_less c.args.steps.now c.copies.steps (c.copies.end - c.args.here.start) (c.args.here.stop - c.args.here.start) inv.counts (omega (arith, c.copies-test.false));
-    }
+    (inv.cost.0, omega (arith, inv.cost.1, owed_is))

@@ -1,63 +1,43 @@
 use Rattle.std.proofs.Common.{◌+◌, ◌-◌, ◌*◌, ◌<◌, length, refl, inl, arith}
 use Rattle.sedpass.proofs.Words.{slice_get_within, Seq, least_less, least_none}
 use Rattle.sedpass.specs.Decide.{nodes_in}
-use Rattle.sedpass.proofs.DecideLemmas.{desk_forward_one, desk_same, part_low, owed_here, run_paid, meet_paid, cut_ceases, cut_runs}
-use Rattle.sedpass.proofs.KeptLemmas.{space_same}
+use Rattle.sedpass.proofs.DecideLemmas.{desk_forward_one, part_low, owed_here, run_paid, meet_paid, cut_ceases, cut_runs}
 use Rattle.sedpass.proofs.TurnLemmas.{part_inside}
 use Rattle.sedpass.proofs.groups.last_cut.Goals as goal
 
-pub fixed_cut-requires : goal.fixed_cut-requires
-fixed_cut-requires c = c.requires.stands
-
-pub returns-in-Some : goal.returns-in-Some
-returns-in-Some c = record {
-  cut = rw c.in-Some.is at c.fixed_cut.ensures.cut;
-  same = record { root = refl; end = refl; space = space_same c.args.kept.now };
-  desk = desk_same c.args.subject c.args.tables.now c.args.kept.now c.requires.desk;
-  cost = (omega arith, omega arith);
-  counts = λ left right.
-      let same = rw c.in-Some.is at (c.fixed_cut.ensures.open left right) in
-      least_none c.args.steps.now (c.in-Some.cut - c.args.here.start) (omega (arith, same));
-}
+pub returns-in-Some-clause-counts : goal.returns-in-Some-clause-counts
+returns-in-Some-clause-counts c = λ left right.
+    let same = rw c.in-Some.is at (c.fixed_cut.ensures.open left right) in
+    least_none c.args.steps.now (c.in-Some.cut - c.args.here.start) (omega (arith, same))
 
 pub facts_at-requires : goal.facts_at-requires
 facts_at-requires c = rw c.index-left.ensures (part_inside c.args.subject c.args.here (Seq c.args.a c.args.b) c.requires.stands c.args.a.index (inl refl))
 
-pub seek-requires : goal.seek-requires
-seek-requires c =
+pub seek-requires-clause-x : goal.seek-requires-clause-x
+seek-requires-clause-x c =
     let run = rw c.in-Some-run.is at c.facts_at.ensures.run in
-    record { kept = c.requires.desk.region; x = slice_get_within (nodes_in c.args.subject) c.in-Some-run.leaf _ run.1.1; from = omega (arith, c.requires.stands.there.up, c.requires.ends.1) }
+    slice_get_within (nodes_in c.args.subject) c.in-Some-run.leaf _ run.1.1
 
-pub returns-in-Some-run : goal.returns-in-Some-run
-returns-in-Some-run c =
-    let here = c.args.here in
-    let there = c.requires.stands.there in
+pub returns-in-Some-run-clause-cut : goal.returns-in-Some-run-clause-cut
+returns-in-Some-run-clause-cut c =
     let seek = c.seek.ensures in
     let run = rw c.in-Some-run.is at c.facts_at.ensures.run in
     let left = rw c.index-left.ensures at run.0 in
-    let some : here.start < here.stop = omega (arith, there.up, c.fixed_cut.ensures.some c.in_default.is) in
-    record {
-      cut = cut_runs c.args.subject c.args.tables.now c.args.kept.now here c.args.a c.args.b c.in-Some-run.leaf c.seek.result c.requires left run.1 seek.after seek.passed seek.found;
-      same = seek.keeps.same;
-      desk = desk_forward_one c.args.subject c.args.tables.now c.seek.new.table c.args.tables.now.forward_one c.args.kept.now c.seek.new.self c.requires.desk seek.keeps c.requires.desk.forward_one.table (refl, refl, refl, refl, refl);
-      cost = (
-        seek.cost.0,
-        run_paid (length (nodes_in c.args.subject)) c.args.steps.now c.seek.new.steps _ _ here.start c.seek.result (here.stop - here.start) (omega (arith, there.inside)) (omega (arith, some))
-            (omega (arith, some, seek.within, c.requires.ends.1)) (owed_here c.args.subject c.args.kept.now.region here c.requires.ends) seek.cost.1,
-      );
-      counts = λ left right. seek.counts;
-    }
+    cut_runs c.args.subject c.args.tables.now c.args.kept.now c.args.here c.args.a c.args.b c.in-Some-run.leaf c.seek.result c.requires left run.1 seek.after seek.passed seek.found
 
-pub cut-requires : goal.cut-requires
-cut-requires c =
-    let desk = c.requires.desk in
-    record {
-      kept = desk.region;
-      forward_one = desk.forward_one.table;
-      forwards = (desk.forward_one.forwards, desk.forward_one.single);
-      a = rw c.index-left.ensures (part_low c.args.subject c.args.kept.now.region c.args.here (Seq c.args.a c.args.b) c.args.a.index c.requires.stands c.requires.ends (inl refl));
-      from = omega (arith, c.requires.stands.there.up, c.requires.ends.1);
-    }
+pub returns-in-Some-run-clause-cost : goal.returns-in-Some-run-clause-cost
+returns-in-Some-run-clause-cost c =
+    let here = c.args.here in
+    let there = c.requires.stands.there in
+    let seek = c.seek.ensures in
+    let some : here.start < here.stop = omega (arith, there.up, c.fixed_cut.ensures.some c.in_default.is) in (
+      seek.cost.0,
+      run_paid (length (nodes_in c.args.subject)) c.args.steps.now c.seek.new.steps _ _ here.start c.seek.result (here.stop - here.start) (omega (arith, there.inside)) (omega (arith, some))
+          (omega (arith, some, seek.within, c.requires.ends.1)) (owed_here c.args.subject c.args.kept.now.region here c.requires.ends) seek.cost.1,
+    )
+
+pub cut-requires-clause-a : goal.cut-requires-clause-a
+cut-requires-clause-a c = rw c.index-left.ensures (part_low c.args.subject c.args.kept.now.region c.args.here (Seq c.args.a c.args.b) c.args.a.index c.requires.stands c.requires.ends (inl refl))
 
 pub returns : goal.returns
 returns c =

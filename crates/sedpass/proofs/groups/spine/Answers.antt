@@ -1,23 +1,11 @@
-use Rattle.std.proofs.Common.{◌≡◌, ◌∷◌, Some, length, reverse, ◌∙◌, true≢false, sym, ap, subst, arith}
+use Rattle.std.proofs.Common.{◌≡◌, ◌∷◌, Some, length, reverse, sym, ap, subst, arith}
 use Rattle.sedpass.proofs.Words.{length-reverse, Apart}
 use Rattle.sedpass.specs.Decide.{AreReady, GoesOn, Works, nodes_in, subject_text, waiting, weights}
 use Rattle.sedpass.specs.Regions.{all_of}
-use Rattle.sedpass.proofs.DecideLemmas.{desk_then, may_begin, tables_same}
-use Rattle.sedpass.proofs.KeptLemmas.{space_same, space_then}
+use Rattle.sedpass.proofs.DecideLemmas.{desk_then, tables_same}
+use Rattle.sedpass.proofs.KeptLemmas.{space_same}
 use Rattle.sedpass.proofs.SpineLemmas.{done, done_once, no_more, turned_goes, works_none, works_then, works_turn}
 use Rattle.sedpass.proofs.groups.spine.Goals as goal
-
-pub begin-requires : goal.begin-requires
-begin-requires c =
-    let desk = c.requires.desk in
-    let there = c.requires.ready.0 in
-    record {
-      table = desk.reverse_one;
-      room = desk.places;
-      root = may_begin c.args.subject c.args.tables.now c.args.here.node desk.one_end there.inside;
-      whole = λ all. absurd (true≢false (sym all ∙ desk.one_end));
-      end = there.fits;
-    }
 
 pub nodes-init : goal.nodes-init
 nodes-init c =
@@ -28,12 +16,6 @@ nodes-init c =
       room = omega arith;
       works = works_none c.args.subject (Apart c.args.here ∷ reverse c.args.room.now.tasks.items) c.args.decided.now c.args.steps.now c.requires.keeps_blank c.requires.ready;
     }
-
-pub turn-then-requires : goal.turn-then-requires
-turn-then-requires c =
-    let inv = c.nodes.invariant in
-    let ready = subst (λ at. AreReady (nodes_in c.args.subject) (subject_text c.args.subject) (waiting at c.nodes.room.tasks.items)) c.in-Some.is inv.works.ready in
-    record { arena = c.requires.arena; there = ready.0; ends = subst (GoesOn c.args.subject c.nodes.room.kept.region) c.in-Some.is inv.goes; desk = inv.keeps.desk; decided = inv.works.decided }
 
 pub put-at-requires : goal.put-at-requires
 put-at-requires c =
@@ -68,18 +50,4 @@ nodes-preserved c =
       room = omega (arith, inv.room, put.ensures.room);
       works = subst (λ tasks. Works s first c.args.decided.now tasks turn.new.decided (done put.result) c.args.steps.now turn.new.steps) (sym put.ensures.items)
           (works_then s first _ _ c.args.decided.now c.nodes.decided turn.new.decided 0 1 (done put.result) c.args.steps.now c.nodes.steps turn.new.steps (done_once put.result) works turned);
-    }
-
-pub returns : goal.returns
-returns c =
-    let inv = c.nodes.invariant in
-    let desk = inv.keeps.desk in
-    record {
-      room = record {
-        desk = record { reverse_one = desk.region.region.table; places = desk.region.region.room; one_end = desk.one_end; forward_one = desk.forward_one };
-        shape = inv.keeps.shape;
-        space = space_then c.args.room.now.kept c.begin.new.self c.nodes.room.kept c.begin.ensures.space inv.keeps.space;
-        tasks = inv.room;
-      };
-      works = subst (λ at. Works c.args.subject (Apart c.args.here ∷ reverse c.args.room.now.tasks.items) c.args.decided.now (waiting at c.nodes.room.tasks.items) c.nodes.decided (done at) c.args.steps.now c.nodes.steps) c.in_default.is inv.works;
     }

@@ -1,4 +1,4 @@
-use Rattle.std.proofs.Common.{inl, inr, refl, arith}
+use Rattle.std.proofs.Common.{inl, refl, arith}
 use Rattle.sedpass.specs.Decide.{spans_in, nodes_in}
 use Rattle.sedpass.proofs.DecideLemmas.{desk_same, none_due}
 use Rattle.sedpass.proofs.SpineLemmas.{least_look}
@@ -12,13 +12,8 @@ returns-then-not-meets c =
     (λ k has due. both_ways _ c.if-not-meets.true (c.meets.ensures.1 (k, has, due))) in
     record { turned = inl (none, refl, refl, refl); desk = desk_same c.args.subject c.args.tables.now c.args.kept.now c.requires.desk; decided = c.requires.decided; counts = least_none c.args.steps.now _ (omega arith) }
 
-pub returns : goal.returns
-returns c =
+pub returns-clause-counts : goal.returns-clause-counts
+returns-clause-counts c =
     let look = c.look-node in
     let turn = c.turn_node.ensures in
-    record {
-      turned = inr (look.result, look.new.steps, look.ensures.node, look.ensures.counts, look.ensures.cost, turn.turned);
-      desk = turn.desk;
-      decided = turn.decided;
-      counts = least_look c.args.steps.now look.new.steps c.turn_node.new.steps (spans_in c.args.decided.now.spans) (spans_in c.turn_node.new.decided.spans) look.ensures.counts turn.turned.cost.0 turn.few;
-    }
+    least_look c.args.steps.now look.new.steps c.turn_node.new.steps (spans_in c.args.decided.now.spans) (spans_in c.turn_node.new.decided.spans) look.ensures.counts turn.turned.cost.0 turn.few

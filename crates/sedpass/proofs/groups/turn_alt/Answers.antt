@@ -1,33 +1,12 @@
-use Rattle.std.proofs.Common.{refl, sym, inl, inr, arith}
+use Rattle.std.proofs.Common.{refl, sym, inl, inr}
 use Rattle.sedpass.proofs.Words.{both_ways, Alt}
-use Rattle.sedpass.specs.Decide.{KeepsGroupDesk}
 use Rattle.sedpass.specs.Regions.{last_of}
-use Rattle.sedpass.proofs.DecideLemmas.{desk_forward_one, ends_still, look_paid}
+use Rattle.sedpass.proofs.DecideLemmas.{ends_still, look_paid}
 use Rattle.sedpass.proofs.TurnLemmas.{alt_turned}
-use Rattle.sedpass.proofs.groups.turn_alt.Goals.{After-spans-spans}
 use Rattle.sedpass.proofs.groups.turn_alt.Goals as goal
 
-pub spans-spans-requires : goal.spans-spans-requires
-spans-spans-requires c =
-    let desk = c.requires.desk in
-    record {
-      kept = desk.region;
-      all_starts = desk.one_end;
-      last = rw c.index-left.ensures (last_of c.args.here.node c.args.a.index (Alt c.args.a c.args.b) c.requires.stands.is (inl refl) c.requires.ends.0);
-      place = omega (arith, c.requires.stands.there.up, c.requires.ends.1);
-    }
-
--- where the left alternative was looked at, the region is as it was
-looked : (c : After-spans-spans) → KeepsGroupDesk c.args.subject c.args.tables.now (record c.args.tables.now { reverse_one = c.spans-spans.new.table }) c.args.kept.now c.spans-spans.new.self
-looked c =
-    let desk = c.requires.desk in
-    desk_forward_one c.args.subject c.args.tables.now c.spans-spans.new.table c.args.tables.now.forward_one c.args.kept.now c.spans-spans.new.self desk c.spans-spans.ensures.keeps desk.forward_one.table (refl, refl, refl, refl, refl)
-
-pub returns-then-spans-clause-desk : goal.returns-then-spans-clause-desk
-returns-then-spans-clause-desk c = looked (goal.at.returns-then-spans-clause-desk c).After-spans-spans
-
-pub returns-else-spans-clause-desk : goal.returns-else-spans-clause-desk
-returns-else-spans-clause-desk c = looked (goal.at.returns-else-spans-clause-desk c).After-spans-spans
+pub spans-spans-requires-clause-last : goal.spans-spans-requires-clause-last
+spans-spans-requires-clause-last c = rw c.index-left.ensures (last_of c.args.here.node c.args.a.index (Alt c.args.a c.args.b) c.requires.stands.is (inl refl) c.requires.ends.0)
 
 pub returns-then-spans-clause-turned : goal.returns-then-spans-clause-turned
 returns-then-spans-clause-turned c = λ state.

@@ -97,11 +97,6 @@ loop-x-preserved c =
           );
     }
 
-pub returns-clause-keeps : goal.returns-clause-keeps
-returns-clause-keeps c =
-    subst (λ l. KeepsRows (Others l (ends_row c.args.state)) c.args.rows.now c.loop-x.rows) c.leaves_row-leaves.ensures
-    (subst (λ l. KeepsRows (Others c.leaves_row-leaves.result l) c.args.rows.now c.loop-x.rows) c.ends_row-ends.ensures c.loop-x.invariant.keeps)
-
 pub returns-clause-row : goal.returns-clause-row
 returns-clause-row c w s place nulls ended begins =
     let act = c.args.act in

@@ -5,24 +5,6 @@ use Rattle.sedpass.proofs.Words.{least_both, least_up}
 use Rattle.sedpass.proofs.ForwardLemmas.{forward_one_still}
 use Rattle.sedpass.proofs.search.next_kept.Goals as goal
 
-pub seek-start-requires : goal.seek-start-requires
-seek-start-requires c =
-    record { kept = c.requires.kept; x = omega (arith, c.args.subject.prepared.now.is_prepared.last); from = omega (arith, c.requires.from, c.requires.kept.region.whole c.requires.all_starts) }
-
-pub begins_there-requires : goal.begins_there-requires
-begins_there-requires c = record { start = omega (arith, c.seek-start.ensures.within, c.requires.kept.region.inside) }
-
-pub cut-end-requires : goal.cut-end-requires
-cut-end-requires c =
-    let seek = c.seek-start.ensures in
-    record {
-      kept = seek.keeps.kept;
-      forward_one = c.requires.forward_one.table;
-      forwards = (c.requires.forward_one.forwards, c.requires.forward_one.single);
-      a = omega (arith, seek.keeps.same.root, c.requires.kept.region.root.1 c.requires.all_starts);
-      from = omega (arith, seek.within, seek.keeps.same.end);
-    }
-
 pub returns-then-not-begins_there : goal.returns-then-not-begins_there
 returns-then-not-begins_there c =
     let m = length c.args.subject.prepared.now.arena.expr.nodes in

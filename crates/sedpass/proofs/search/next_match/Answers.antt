@@ -12,9 +12,6 @@ searched c =
     searched_by c.args.subject.prepared.now c.args.subject.text.now c.args.forward_one.now c.try_all.new.forward_one c.args.reverse_any.now c.args.seeking.now c.try_all.new.tried c.requires.ready
     c.try_all.ensures.forward_one c.try_all.ensures.forward_one_shape
 
-pub try_all-requires : goal.try_all-requires
-try_all-requires c = record { from = c.requires.from; begins = c.requires.ready.begins; forward_one = c.requires.ready.forward_one; tried = omega (arith, c.if-seeking-len.true, c.len.ensures.is) }
-
 pub returns-in-Hit : goal.returns-in-Hit
 returns-in-Hit c =
     let e = expression_tree c.args.subject.prepared.now.arena.expr in
@@ -56,6 +53,7 @@ returns-in-Nothing c =
     }
 
 -- where the pass from the text's end goes on
+
 comes : (c : After-begin_kept) → ComesTo c.args.subject.prepared.now c.args.subject.text.now c.args.forward_one.now c.if-not-seeking.forward_one c.args.seeking.now c.if-not-seeking.seeking c.args.from c.if-not-seeking.start c.args.steps.now c.if-not-seeking.steps
 comes c = elim c.if-not-seeking.branch [
   | then-not-seeking+then-seeking-len+in-Tired w ↦ rw (w.forward_one-is, w.seeking-is, w.steps-is, w.start-is)
@@ -64,19 +62,6 @@ comes c = elim c.if-not-seeking.branch [
   | else-not-seeking w ↦ rw (w.forward_one-is, w.seeking-is, w.steps-is, w.start-is)
       (comes_at_once c.args.subject.prepared.now c.args.subject.text.now c.args.forward_one.now c.args.seeking.now c.args.from c.args.steps.now c.requires.from)
 ]
-
-pub begin_kept-requires : goal.begin_kept-requires
-begin_kept-requires c = elim c.if-not-seeking.branch [
-  | then-not-seeking+then-seeking-len+in-Tired w ↦ rw w.seeking-is (searched_by c.args.subject.prepared.now c.args.subject.text.now c.args.forward_one.now w.try_all.new.forward_one c.args.reverse_any.now c.args.seeking.now w.try_all.new.tried c.requires.ready
-      w.in-Tired.ensures.forward_one w.in-Tired.ensures.forward_one_shape).serves
-  | else-not-seeking w ↦ rw w.seeking-is c.requires.ready.serves
-]
-
-pub next_kept-requires : goal.next_kept-requires
-next_kept-requires c =
-    let ready = c.requires.ready in
-    let came = comes (goal.at.next_kept-requires c).After-begin_kept in
-    record { from = came.within; forward_one = elim c.if-not-seeking.branch [ then-not-seeking+then-seeking-len+in-Tired w ↦ rw w.forward_one-is w.in-Tired.ensures.forward_one | else-not-seeking w ↦ rw w.forward_one-is ready.forward_one ]; kept = c.begin_kept.ensures.kept; all_starts = ready.serves.all_starts }
 
 pub returns : goal.returns
 returns c =

@@ -1,40 +1,13 @@
 use Rattle.std.proofs.Common.{◌≡◌, ◌+◌, ◌-◌, ◌≤◌, ℕ, length, Option, None, Some, refl, subst, arith, IfSome}
 use Rattle.sedpass.proofs.Words.{expression_tree, IsLongestFrom, Matches-forward, Matches-within, least_none}
 use Rattle.sedpass.proofs.KeptLemmas.{same_shape}
-use Rattle.sedpass.proofs.SearchLemmas.{found_at, hit_paid, hit_room, none_further, none_more, none_on, looks_tried, trial_cost, trial_is}
+use Rattle.sedpass.proofs.SearchLemmas.{found_at, hit_paid, hit_room, none_more, none_on, looks_tried, trial_cost, trial_is}
 use Rattle.sedpass.proofs.ForwardLemmas.{forward_one_still}
 use Rattle.sedpass.proofs.search.try_all.Goals.{else-start-length-via-then-start-length+else-tried-length, else-start-length-via-else-start-length}
 use Rattle.sedpass.proofs.search.try_all.Goals as goal
 
-pub next_start-requires : goal.next_start-requires
-next_start-requires c = record { from = omega (arith, c.loop-start-test.true, c.len-length.ensures.is) }
-
-pub run-passed-requires : goal.run-passed-requires
-run-passed-requires c = let forward_one = c.loop-start.invariant.forward_one in record { table = forward_one.table; forwards = forward_one.forwards; from = c.in-Some.ensures.next.1 }
-
-pub overflow_add-tried : goal.overflow_add-tried
-overflow_add-tried c = omega (arith, c.loop-start.invariant.room, c.saturating_sub.ensures, c.run-passed.ensures.within, c.requires.tried, c.len-length.ensures.short, c.len-length.ensures.is)
-
-pub overflow_add-tried-in-loop-start-2 : goal.overflow_add-tried-in-loop-start-2
-overflow_add-tried-in-loop-start-2 c = omega (arith, c.loop-start.invariant.room, c.run-passed.ensures.within, c.requires.tried, c.len-length.ensures.short, c.len-length.ensures.is)
-
-pub returns-in_default : goal.returns-in_default
-returns-in_default c =
-    let next = c.in_default.ensures in
-    let i = c.loop-start.invariant in
-    record {
-      forward_one = i.forward_one;
-      forward_one_shape = i.forward_one_shape;
-      made = record {
-        answer = none_further (expression_tree c.args.subject.prepared.now.arena.expr) c.args.subject.text.now c.args.subject.prepared.now.begins c.args.from c.loop-start.start c.requires.begins i.none next.next;
-        few = i.room;
-        cost = (omega (arith, i.cost.0, next.cost), omega (arith, i.cost.1, next.cost));
-        counts = tt;
-      };
-    }
-
-pub returns-in-Some-end : goal.returns-in-Some-end
-returns-in-Some-end c =
+pub returns-in-Some-end-clause-made : goal.returns-in-Some-end-clause-made
+returns-in-Some-end-clause-made c =
     let e = c.args.subject.prepared.now.arena.expr in
     let w = c.args.subject.text.now in
     let first = c.in-Some.first in
@@ -52,22 +25,18 @@ returns-in-Some-end c =
     let few = i.few (let h = c.loop-start-test.true in let g = c.len-length.ensures.is in omega (arith, h, g)) in
     let paid = trial_cost (length e.nodes) c.loop-start.start first place c.loop-start.steps c.next_start.new.steps c.run-passed.new.steps is.passed next.cost.1 run.cost.1 in
     record {
-      forward_one = forward_one_still c.args.subject.prepared.now c.loop-start.forward_one c.run-passed.new.self i.forward_one run.table run.shape;
-      forward_one_shape = same_shape c.args.forward_one.now c.loop-start.forward_one c.run-passed.new.self i.forward_one_shape run.shape;
-      made = record {
-        answer = (found_at e w c.args.from first end (omega (arith, i.after, is.after)) (none_on e w c.args.from c.loop-start.start first i.none is.none) long, within);
-        few = rw c.saturating_sub.ensures (hit_room c.loop-start.tried place end c.args.from first (length w) _ (omega (arith, i.after, is.after)) is.passed is.within on within few);
-        cost = (
-          omega (arith, i.cost.0, next.cost, run.cost),
-          rw c.saturating_sub.ensures (hit_paid (length e.nodes) c.args.from c.loop-start.start first place end c.loop-start.tried c.args.tried.now c.args.steps.now c.loop-start.steps c.run-passed.new.steps (omega (arith, c.args.subject.prepared.now.is_prepared.last))
-              is.after on is.passed i.cost.1 paid),
-        );
-        counts = looks_tried c.args.from c.loop-start.start first c.run-passed.result.place c.args.steps.now c.loop-start.steps c.next_start.new.steps c.run-passed.new.steps i.counts c.in-Some.ensures.counts run.counts (end + 1 - c.args.from) (omega (arith, reached, is.after, is.passed));
-      };
+      answer = (found_at e w c.args.from first end (omega (arith, i.after, is.after)) (none_on e w c.args.from c.loop-start.start first i.none is.none) long, within);
+      few = rw c.saturating_sub.ensures (hit_room c.loop-start.tried place end c.args.from first (length w) _ (omega (arith, i.after, is.after)) is.passed is.within on within few);
+      cost = (
+        omega (arith, i.cost.0, next.cost, run.cost),
+        rw c.saturating_sub.ensures (hit_paid (length e.nodes) c.args.from c.loop-start.start first place end c.loop-start.tried c.args.tried.now c.args.steps.now c.loop-start.steps c.run-passed.new.steps (omega (arith, c.args.subject.prepared.now.is_prepared.last))
+            is.after on is.passed i.cost.1 paid),
+      );
+      counts = looks_tried c.args.from c.loop-start.start first c.run-passed.result.place c.args.steps.now c.loop-start.steps c.next_start.new.steps c.run-passed.new.steps i.counts c.in-Some.ensures.counts run.counts (end + 1 - c.args.from) (omega (arith, reached, is.after, is.passed));
     }
 
-pub returns-then-tried-length : goal.returns-then-tried-length
-returns-then-tried-length c =
+pub returns-then-tried-length-clause-made : goal.returns-then-tried-length-clause-made
+returns-then-tried-length-clause-made c =
     let e = c.args.subject.prepared.now.arena.expr in
     let w = c.args.subject.text.now in
     let first = c.in-Some.first in
@@ -80,32 +49,14 @@ returns-then-tried-length c =
     let few = i.few (let h = c.loop-start-test.true in let g = c.len-length.ensures.is in omega (arith, h, g)) in
     let paid = trial_cost (length e.nodes) c.loop-start.start first c.run-passed.result.place c.loop-start.steps c.next_start.new.steps c.run-passed.new.steps is.passed next.cost.1 run.cost.1 in
     record {
-      forward_one = forward_one_still c.args.subject.prepared.now c.loop-start.forward_one c.run-passed.new.self i.forward_one run.table run.shape;
-      forward_one_shape = same_shape c.args.forward_one.now c.loop-start.forward_one c.run-passed.new.self i.forward_one_shape run.shape;
-      made = record {
-        answer = (
-          omega (arith, i.after, is.after),
-          omega (arith, c.if-start-length.true, c.len-length.ensures.is),
-          none_more e w c.args.from first (none_on e w c.args.from c.loop-start.start first i.none is.none) (subst (IsLongestFrom (expression_tree e) w first) none is.longest),
-        );
-        few = omega (arith, few, is.passed, is.within, i.after, is.after);
-        cost = (omega (arith, i.cost.0, next.cost, run.cost), omega (arith, i.cost.1, paid));
-        counts = looks_tried c.args.from c.loop-start.start first c.run-passed.result.place c.args.steps.now c.loop-start.steps c.next_start.new.steps c.run-passed.new.steps i.counts c.in-Some.ensures.counts run.counts (first + 1 - c.args.from) (omega (arith, is.after));
-      };
-    }
-
-pub returns : goal.returns
-returns c =
-    let i = c.loop-start.invariant in
-    record {
-      forward_one = i.forward_one;
-      forward_one_shape = i.forward_one_shape;
-      made = record {
-        answer = λ h k low high. i.none h k low (omega (arith, high, c.loop-start-test.false, c.len-length.ensures.is));
-        few = i.room;
-        cost = (i.cost.0, omega (arith, i.cost.1, i.within));
-        counts = tt;
-      };
+      answer = (
+        omega (arith, i.after, is.after),
+        omega (arith, c.if-start-length.true, c.len-length.ensures.is),
+        none_more e w c.args.from first (none_on e w c.args.from c.loop-start.start first i.none is.none) (subst (IsLongestFrom (expression_tree e) w first) none is.longest),
+      );
+      few = omega (arith, few, is.passed, is.within, i.after, is.after);
+      cost = (omega (arith, i.cost.0, next.cost, run.cost), omega (arith, i.cost.1, paid));
+      counts = looks_tried c.args.from c.loop-start.start first c.run-passed.result.place c.args.steps.now c.loop-start.steps c.next_start.new.steps c.run-passed.new.steps i.counts c.in-Some.ensures.counts run.counts (first + 1 - c.args.from) (omega (arith, is.after));
     }
 
 pub loop-start-init : goal.loop-start-init

@@ -27,21 +27,12 @@ returns-clause-groups c = (report-iff (expression_tree c.args.self.now) c.args.t
 pub returns-clause-lies : goal.returns-clause-lies
 returns-clause-lies c = report_lies (length c.args.text.now) (expression_tree c.args.self.now) c.args.text.now c.args.start c.args.end c.match-self.result c.requires.order c.requires.inside (answered c).report
 
-pub returns-clause-none_cost : goal.returns-clause-none_cost
-returns-clause-none_cost c = (answered c).none_cost
-
 pub returns-clause-cost : goal.returns-clause-cost
 returns-clause-cost c =
     let cost = (answered c).cost in
     let inside = c.requires.inside in
     let most = groups_within (length c.args.self.now.nodes) (length c.args.text.now) (c.args.end - c.args.start) (omega (arith, inside)) in
     (cost.0, omega (arith, cost.1, most))
-
-pub returns-clause-linear_cost : goal.returns-clause-linear_cost
-returns-clause-linear_cost c = (answered c).cost
-
-pub returns-clause-counts : goal.returns-clause-counts
-returns-clause-counts c = (answered c).counts
 
 pub returns-clause-entered : goal.returns-clause-entered
 returns-clause-entered c = (answered c).entered

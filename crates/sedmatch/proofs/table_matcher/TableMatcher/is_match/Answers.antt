@@ -17,14 +17,5 @@ answered c =
           rw (w.result-is, w.steps-is) (rw is at w.matches_by.ensures.answered)
     ]
 
-pub returns-clause-matches : goal.returns-clause-matches
-returns-clause-matches c = (answered c).exact
-
 pub returns-clause-computed : goal.returns-clause-computed
 returns-clause-computed c = same_test c.match-self.result (expression_tree c.args.self.now) c.args.text.now c.args.from c.requires.from (answered c).exact
-
-pub returns-clause-cost : goal.returns-clause-cost
-returns-clause-cost c = (answered c).cost
-
-pub returns-clause-passes : goal.returns-clause-passes
-returns-clause-passes c = (answered c).passes

@@ -31,9 +31,6 @@ answered c =
           rw (w.result-is, w.occurrences-is, w.steps-is) (rw is at w.next_by_passes.ensures.answered)
     ]
 
-pub returns-clause-next : goal.returns-clause-next
-returns-clause-next c = (answered c).next
-
 pub returns-clause-occurs : goal.returns-clause-occurs
 returns-clause-occurs c = (answered c).occurs
 
@@ -45,9 +42,6 @@ returns-clause-cost c = (answered c).cost
 
 pub returns-clause-once : goal.returns-clause-once
 returns-clause-once c = (answered c).once
-
-pub returns-clause-counts : goal.returns-clause-counts
-returns-clause-counts c = (answered c).counts
 
 pub returns-clause-passes : goal.returns-clause-passes
 returns-clause-passes c = (answered c).passes

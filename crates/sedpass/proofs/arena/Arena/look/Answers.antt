@@ -1,4 +1,4 @@
-use Rattle.std.proofs.Common.{◌≡◌, ◌<◌, ◌≤◌, ◌∙◌, refl, ap, sym, Some, subst, arith, slice_get, length}
+use Rattle.std.proofs.Common.{◌≡◌, ◌<◌, ◌∙◌, refl, ap, sym, Some, subst, arith, slice_get, length}
 use Rattle.sedpass.proofs.Words.{slice_get_read, IsArena, WrittenExpression, seen, seen-arena, seen-node, parts_below}
 use Rattle.sedpass.specs.Prepared.{HeldExpression}
 use Rattle.sedpass.proofs.arena.Arena.look.Goals as goal
@@ -18,6 +18,3 @@ returns-clause-node c =
 
 pub returns-clause-parts : goal.returns-clause-parts
 returns-clause-parts c = parts_below (seen c.args.mirrored c.args.self.now.expr).nodes (returns-clause-arena c) c.args.x c.node_seen.result (returns-clause-node c) c.args.x (omega arith)
-
-pub returns-clause-few : goal.returns-clause-few
-returns-clause-few c = subst (λ (h : HeldExpression). length h.expr.nodes ≤ 65536) c.self.view_is c.self.invariant.few
