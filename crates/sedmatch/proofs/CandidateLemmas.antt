@@ -17,8 +17,7 @@ use Rattle.sedtext.specs.declared.counted.sieve.Sieve.{Sieve}
 use Rattle.sedmatch.specs.Candidates.{IsBefore, NoMatchBefore}
 use Rattle.sedmatch.specs.Direct.{SpannedAs}
 use Rattle.sedmatch.specs.Stretches.{ComesFirst}
-use Rattle.sedmatch.specs.declared.direct.DirectForm.TheVariants.{Stretch as StretchForm, Anchored, Literal}
-use Rattle.sedmatch.specs.declared.stretches.Anchoring.{Anchoring}
+use Rattle.sedmatch.specs.declared.direct.DirectForm.TheVariants.{Stretch as StretchForm, Literal}
 use Rattle.sedmatch.specs.declared.stretches.Stretch.{Stretch}
 
 -- A part of a text.
@@ -78,9 +77,6 @@ module _ (e : Tree) (w : List ℕ) (r : Option ℕ) where
 
   pub stretch_before : (s : Stretch) → SpannedAs e (StretchForm s) → FirstFrom (ComesFirst s.first w) 0 r → NoMatchBefore e w r
   stretch_before s form first = shown_before (ComesFirst s.first) (λ before line behind. comes_there before line behind s.first) (λ v i j low at. ((form v i j low).0 at).0.0) first
-
-  pub anchored_before : (s : Stretch) (ends : Anchoring) → SpannedAs e (Anchored s ends) → FirstFrom (ComesFirst s.first w) 0 r → NoMatchBefore e w r
-  anchored_before s ends form first = shown_before (ComesFirst s.first) (λ before line behind. comes_there before line behind s.first) (λ v i j low at. ((form v i j low).0 at).0.0) first
 
   pub literal_before : (literal : List ℕ) → SpannedAs e (Literal literal) → FirstLiteral w literal 0 r → NoMatchBefore e w r
   literal_before literal form first = shown_before (λ v. OccursAt v literal) (λ before line behind. occurs_there before line behind literal) (λ v i j low at. ((form v i j low).0 at).0) first

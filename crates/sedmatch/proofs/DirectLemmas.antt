@@ -1,46 +1,40 @@
 -- Expressions whose matches a look at the text shows.
-use Rattle.std.proofs.Common.{◌≡◌, ℕ, ◌+◌, ◌-◌, ◌≤◌, List, length, Option, Some, None, refl, subst, arith}
+use Rattle.std.proofs.Common.{◌≡◌, ℕ, ◌-◌, ◌≤◌, List, length, Option, Some, None, refl, subst, arith}
 use Rattle.std.specs.Prelude.{IfSome}
 use Rattle.sedre.specs.Tree.{Tree, WrittenExpression, expression_tree}
 use Rattle.sedre.specs.Steps.{TakesAtLeast}
 use Rattle.sedtext.specs.Answer.{SpanAnswer}
 use Rattle.sedtext.specs.Following.{CanEndEarly}
-use Rattle.sedtext.specs.Required.{FirstLiteral}
 use Rattle.sedmatch.specs.Direct.{FirstSpan, FormSpans, IsDirect, SpannedAs, bytes_looked_at}
 use Rattle.sedmatch.specs.Stretches.{IsAnchored, behind_first, bytes_sought}
 use Rattle.sedmatch.specs.declared.direct.DirectForm.{DirectForm}
-use Rattle.sedmatch.specs.declared.direct.DirectForm.TheVariants.{Stretch, Anchored, FixedRun, Literal}
+use Rattle.sedmatch.specs.declared.direct.DirectForm.TheVariants.{Stretch, FixedRun, Literal}
 use Rattle.sedmatch.specs.declared.stretches.Anchoring.{Anchoring}
 use Rattle.sedmatch.specs.declared.stretches.Anchoring.TheVariants.{AtEnd}
 use Rattle.sedtext.proofs.CountLemmas.{least_less}
 use Rattle.sedtext.proofs.SpanLemmas.{Matches-forward}
 use Rattle.sedmatch.proofs.StretchLemmas.{first_forward, follow_on}
 
-pub span_literal : (literal w : List ℕ) (p i j : ℕ) → FirstLiteral w literal p (Some i) → j ≡ i + length literal → FirstSpan (Literal literal) w p (Some (i, j))
-span_literal literal w p i j here is =
-    (here.0, (here.1, is), (let fits = here.1.fits in omega (arith, fits, is)), (λ k h. omega (arith, h.1, is)), λ h k low lt s. here.2 h low lt s.0)
-
 -- a match ends where it begins or after it
 ends_on : (form : DirectForm) (w : List ℕ) (i j : ℕ) → FormSpans form w i j → i ≤ j
 ends_on (Stretch t) w i j s = let on = follow_on t.rest w (behind_first t.first i) j s.0.1 in omega (arith, on, first_forward t.first i)
 ends_on (FixedRun members count) w i j s = omega (arith, s.1)
 ends_on (Literal literal) w i j s = omega (arith, s.1)
-ends_on (Anchored t ends) w i j s = let on = follow_on t.rest w (behind_first t.first i) j s.0.1 in omega (arith, on, first_forward t.first i)
 
 pub span_lies : (form : DirectForm) (w : List ℕ) (p : ℕ) (r : Option (ℕ × ℕ)) → FirstSpan form w p r → IfSome r (λ f. (p ≤ f.0) × (f.0 ≤ f.1) × (f.1 ≤ length w))
 span_lies form w p None none = tt
 span_lies form w p (Some f) span = (span.0, ends_on form w f.0 f.1 span.1, span.2)
 
 -- and all from the place on from which it is sought, unless all matches end with the text
-sought_from : (anchoring : Anchoring) (p i j : ℕ) → (anchoring ≡ AtEnd → ⊥) → j - p ≤ bytes_sought anchoring p (i, j)
-sought_from AtEnd p i j early = absurd (early refl)
+sought_from : (ends : Option Anchoring) (p i j : ℕ) → (ends ≡ Some AtEnd → ⊥) → j - p ≤ bytes_sought ends p (i, j)
+sought_from (Some AtEnd) p i j early = absurd (early refl)
 sought_from _ p i j early = omega arith
 
 looked_from : (e : Tree) (form : DirectForm) (p i j : ℕ) → SpannedAs e form → CanEndEarly e → j - p ≤ bytes_looked_at form p (i, j)
-looked_from e (Anchored s ends) p i j is (v, h, k, early, spans) =
+looked_from e (Stretch s) p i j is (v, h, k, early, spans) =
     let low = Matches-forward e v h k spans in
     let at = (is v h k (omega (arith, low, early))).0 spans in
-    sought_from ends p i j (λ last. let end : k ≡ length v = subst (λ z. IsAnchored (Some z) v h k) last at.1 in omega (arith, early, end))
+    sought_from s.ends p i j (λ last. let end : k ≡ length v = subst (λ z. IsAnchored z v h k) last at.1 in omega (arith, early, end))
 looked_from e _ p i j is early = omega arith
 
 pub looks_from : (e : Tree) (form : DirectForm) (p s t : ℕ) (r : Option (ℕ × ℕ)) → SpannedAs e form → CanEndEarly e → IfSome r (λ f. TakesAtLeast s t (bytes_looked_at form p f)) →

@@ -1,9 +1,8 @@
 -- A matcher: that what it answers is of the expression that it seeks, and what it costs.
-use Rattle.std.proofs.Common.{◌≡◌, ◌∙◌, ℕ, zero, suc, ◌+◌, ◌-◌, ◌*◌, ◌<◌, ◌≤◌, Bool, true, false, List, length, Option, Some, None, IfSome, IsTrue, refl, sym, ap, subst, true≢false, arith, mul-le-mul_left, mul-add}
+use Rattle.std.proofs.Common.{◌≡◌, ◌∙◌, ℕ, zero, suc, ◌+◌, ◌-◌, ◌*◌, ◌≤◌, Bool, true, false, List, length, Option, Some, None, IfSome, IsTrue, refl, sym, ap, subst, true≢false, arith, mul-le-mul_left, mul-add}
 use Rattle.std.proofs.Math.Nat.{mul-le-mul_right}
-use Rattle.std.specs.Prelude.{is_some, nat_lt, not, if◌then◌else◌}
+use Rattle.std.specs.Prelude.{nat_lt, if◌then◌else◌}
 use Rattle.std.specs.Option.{unwrap_or}
-use Rattle.std.proofs.lemmas.Bool.Decides.{nat_tests}
 use Rattle.sedre.specs.Steps.{Takes}
 use Rattle.sedre.specs.Tree.{WrittenExpression, Tree}
 use Rattle.sedtext.specs.Costs.{CostsWithin}
@@ -12,9 +11,8 @@ use Rattle.sedtext.specs.Following.{EndsWithin, LiesOn, next_span}
 use Rattle.sedtext.specs.Matching.{leftmost_longest, unless_null_at}
 use Rattle.sedpass.proofs.OccurrenceLemmas.{answer_found, passed_by, search_falls}
 use Rattle.sedmatch.specs.Direct.{IsDirect}
-use Rattle.sedmatch.specs.Stretches.{end_or}
 use Rattle.sedmatch.specs.Occurrences.{ServesFrom, ServesOn, owed, owed_after, owed_direct, owed_direct_after}
-use Rattle.sedmatch.specs.Passes.{IsEngine, searched_expression}
+use Rattle.sedmatch.specs.Passes.{ArePasses, IsEngine, IsSought, searched_expression}
 use Rattle.sedmatch.specs.declared.direct.DirectForm.{DirectForm}
 use Rattle.sedmatch.specs.declared.occurrences.Occurrences.{Occurrences}
 use Rattle.sedmatch.specs.declared.passes.Passes.{Passes}
@@ -30,51 +28,18 @@ direct_is m v e form view inv is = subst (λ x. IsDirect x form) (sym (ap search
 pub passes_are : (m : SearchMethod) (v : WrittenExpression) (p q : Passes) → searched_expression m ≡ v → searched_expression m ≡ q.prepared.arena.expr → p ≡ q → p.prepared.arena.expr ≡ v
 passes_are m v p q view is same = ap (λ (x : Passes). x.prepared.arena.expr) same ∙ sym is ∙ view
 
-pub written_is : (m : SearchMethod) (v e : WrittenExpression) (form : DirectForm) → searched_expression m ≡ v → m ≡ Direct e form → e ≡ v
-written_is m v e form view is = sym (ap searched_expression is) ∙ view
+pub sought_is : (m : SearchMethod) (v : WrittenExpression) (p q : Passes) → searched_expression m ≡ v → searched_expression m ≡ q.prepared.arena.expr → p ≡ q → ArePasses q.prepared.arena.expr q → IsSought v p.prepared
+sought_is m v p q view is same are = subst (λ x. IsSought x p.prepared) (passes_are m v p q view is same) (subst (λ (x : Passes). ArePasses x.prepared.arena.expr x) (sym same) are).0
 
--- What it finds and costs, by a look at the text.
-
--- the match one byte further on
-pub further : (n at : ℕ) (r x : Option (ℕ × ℕ)) → (at < n → r ≡ x) → (n ≤ at → r ≡ None) → r ≡ (if nat_lt at n then x else None)
-further n at r x on off = by (nat_lt at n) refl
-  where
-    by : (b : Bool) → nat_lt at n ≡ b → r ≡ (if b then x else None)
-    by true is = on (grind (arith, nat_tests))
-    by false is = off (grind (arith, nat_tests))
-
-pub none_of : (last : Option ℕ) (b : Bool) → is_some last ≡ not b → b ≡ true → last ≡ None
-none_of None b is yes' = refl
-none_of (Some q) b is yes' = absurd (true≢false (is ∙ ap not yes'))
-
-pub some_of : (last : Option ℕ) (b : Bool) (at : ℕ) → is_some last ≡ not b → b ≡ false → at ≡ unwrap_or last 0 → last ≡ Some at
-some_of None b at is no' at_is = absurd (true≢false (sym (is ∙ ap not no')))
-some_of (Some q) b at is no' at_is = ap (λ v. Some v) (sym at_is)
-
-pub within_at : (n : ℕ) (last : Option ℕ) (at : ℕ) → at ≡ unwrap_or last 0 → EndsWithin n last → at ≤ n
-within_at n None at is within = omega (arith, is)
-within_at n (Some q) at is within = omega (arith, is, within)
-
--- the first occurrence, and one that is behind another or is moved on from the null string there
-pub first_next : (e : Tree) (w : List ℕ) (last : Option ℕ) (at : ℕ) (r : Option (ℕ × ℕ)) → last ≡ None → at ≡ unwrap_or last 0 → SpanAnswer e w at r → r ≡ next_span (leftmost_longest e w) (length w) last
-first_next e w None at r is at_is answer = answer_found e w 0 r (omega arith) (subst (λ v. SpanAnswer e w v r) at_is answer)
-first_next e w (Some q) at r is at_is answer = absurd (let h : Some q ≡ None = is in cc)
-
-pub next_by_null : (e : Tree) (w : List ℕ) (last : Option ℕ) (at : ℕ) (first r : Option (ℕ × ℕ)) (b b' : Bool) → last ≡ Some at → at ≤ length w → SpanAnswer e w at first →
+-- the occurrence behind another one: the match sought from its end on, or from the next byte on where that is the null string there
+pub next_by_null : (e : Tree) (w : List ℕ) (last : Option ℕ) (at : ℕ) (first r : Option (ℕ × ℕ)) (b b' : Bool) → last ≡ Some at → EndsWithin (length w) last → SpanAnswer e w (unwrap_or last 0) first →
     ((other : Option (ℕ × ℕ)) → unless_null_at (λ (f : ℕ × ℕ). f) at first other ≡ (if b then other else first)) → b ≡ b' →
     r ≡ (if b' then (if nat_lt at (length w) then leftmost_longest e w (at + 1) else None) else first) → r ≡ next_span (leftmost_longest e w) (length w) last
-next_by_null e w last at first r b b' is low answer passed same r_is =
+next_by_null e w last at first r b b' is within answer passed same r_is =
     let other : Option (ℕ × ℕ) = if nat_lt at (length w) then leftmost_longest e w (at + 1) else None in
-    subst (λ v. r ≡ next_span (leftmost_longest e w) (length w) v) (sym is) (passed_by at first (leftmost_longest e w at) other r b b' (answer_found e w at first low answer) (passed other) same r_is)
-
--- the first look answers
-pub look_paid : (n s t : ℕ) (last : Option ℕ) (at : ℕ) (f : Option (ℕ × ℕ)) → at ≡ unwrap_or last 0 → at ≤ n → CostsWithin s t (4 * (end_or n f + 1)) (4 * at) → IfSome f (LiesOn n last) →
-    CostsWithin s t (owed_direct n last) (owed_direct_after n f)
-look_paid n s t None at None is low pays lies = (pays.0, (let h = pays.1 in omega (arith, h)))
-look_paid n s t None at (Some f) is low pays lies = (pays.0, (let h = pays.1 in let on = lies.1 in omega (arith, on, h)))
-look_paid n s t (Some q) at None is low pays lies = (pays.0, (let h = pays.1 in omega (arith, is, low, h)))
-look_paid n s t (Some q) at (Some f) is low pays lies =
-    (pays.0, (let h = pays.1 in let after = lies.2.1 in let on = lies.1 in omega (arith, is, after, on, h)))
+    let low : at ≤ length w = subst (EndsWithin (length w)) is within in
+    let found = answer_found e w at first low (subst (λ v. SpanAnswer e w (unwrap_or v 0) first) is answer) in
+    subst (λ v. r ≡ next_span (leftmost_longest e w) (length w) v) (sym is) (passed_by at first (leftmost_longest e w at) other r b b' found (passed other) same r_is)
 
 -- What a search costs, by either way.
 
@@ -89,7 +54,7 @@ least m n q o f s t some up on pays =
 -- a node at least pays for them
 pub direct_owed : (m n : ℕ) (last : Option ℕ) (o : Occurrences) (r : Option (ℕ × ℕ)) (s t : ℕ) → 1 ≤ m → (last ≡ None → IsTrue o.is_fresh) → IfSome r (LiesOn n last) → CostsWithin s t (owed_direct n last) (owed_direct_after n r) →
     CostsWithin s t (owed m n last o) (owed_after m n r o)
-direct_owed m n last o r s t some fresh lies pays = (pays.0, by o.is_fresh refl)
+direct_owed m n last o r s t some fresh lies pays = (pays.0, to o.is_fresh refl last r fresh lies pays.1)
   where
     open_to : (b : Bool) (q : ℕ) → o.is_fresh ≡ b → owed m n (Some q) o ≡ (if b then 372 * m * (n + 1) + owed_direct n (Some q) else owed_behind m n o.seeking q)
     open_to b q is = ap (λ (v : Bool). if v then 372 * m * (n + 1) + owed_direct n (Some q) else owed_behind m n o.seeking q) is
@@ -110,9 +75,6 @@ direct_owed m n last o r s t some fresh lies pays = (pays.0, by o.is_fresh refl)
         let after = lies.2.1 in
         let c = least m n q o f.1 s t some (omega (arith, after)) lies.1 h in
         omega (arith, a, b, c)
-
-    by : (b : Bool) → o.is_fresh ≡ b → t + owed_after m n r o ≤ s + owed m n last o
-    by b is = to b is last r fresh lies pays.1
 
 one_call : (m n : ℕ) → 1 ≤ m → 12 * (n + 1) ≤ 64 * m * m * (n + 1) * (n + 1)
 one_call zero n some = omega (arith, some)

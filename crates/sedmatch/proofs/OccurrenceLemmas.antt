@@ -1,7 +1,7 @@
 -- The tables by which all occurrences are found, and what the searches cost.
-use Rattle.std.proofs.Common.{◌≡◌, [], ◌∷◌, ◌++◌, length-append, ℕ, zero, suc, ◌+◌, ◌-◌, ◌*◌, ◌/◌, ◌<◌, ◌≤◌, ◌⊎◌, Bool, true, false, List, length, get_or, Option, Some, None, IfSome, IsTrue, refl, sym, ap, ◌∙◌, subst, true≢false, ⊎_elim, inl, inr, arith, mul-le-mul_left, length-set, get_or-set_same, get_or-set_other}
+use Rattle.std.proofs.Common.{◌≡◌, [], ◌∷◌, ◌++◌, length-append, ℕ, zero, suc, ◌+◌, ◌-◌, ◌*◌, ◌<◌, ◌≤◌, ◌⊎◌, Bool, true, false, List, length, get_or, Option, Some, None, IfSome, IsTrue, refl, sym, ap, ◌∙◌, subst, true≢false, ⊎_elim, inl, inr, arith, mul-le-mul_left, length-set, get_or-set_same, get_or-set_other}
 use Rattle.std.specs.Option.{unwrap_or}
-use Rattle.std.specs.Prelude.{slice_get, slice_set, vec_capacity, if◌then◌else◌}
+use Rattle.std.specs.Prelude.{slice_get, slice_set, if◌then◌else◌}
 use Rattle.std.specs.Vec.{with_item}
 use Rattle.std.proofs.lemmas.Bool.{cases_eq, cases_lt}
 use Rattle.std.proofs.lemmas.Grind.{get_or-set_at}
@@ -12,7 +12,6 @@ use Rattle.sedtext.specs.Costs.{CostsWithin}
 use Rattle.sedre.specs.Steps.{TakesAtLeast}
 use Rattle.sedtext.specs.Following.{LiesOn, OccursAfter, bytes_passed, next_span}
 use Rattle.sedtext.specs.Matching.{leftmost_longest}
-use Rattle.sedtext.specs.Words.{row_of}
 use Rattle.sedpass.specs.Kept.{KeptRoom, SameSpace}
 use Rattle.sedpass.specs.Search.{Searched, SearchServes, owed_after_search, search_cost, owed_behind}
 use Rattle.sedpass.specs.Table.{IsRoomy, IsTable, SameRoom}
@@ -23,11 +22,11 @@ use Rattle.sedpass.specs.declared.table.Table.{Table}
 use Rattle.sedpass.proofs.KeptLemmas.{space_same}
 use Rattle.sedpass.proofs.OccurrenceLemmas.{search_falls}
 use Rattle.sedpass.proofs.SearchLemmas.{search_long, serves_for, table_for}
-use Rattle.sedpass.proofs.TableLemmas.{roomy_fewer, roomy_still}
-use Rattle.sedmatch.proofs.PassLemmas.{blocks_enough, few_looks, kept_room, shape_room}
+use Rattle.sedpass.proofs.TableLemmas.{roomy_still}
+use Rattle.sedmatch.proofs.PassLemmas.{few_looks}
 use Rattle.sedmatch.specs.declared.occurrences.Occurrences.{Occurrences}
-use Rattle.sedmatch.specs.Passes.{IsRoomyWay, reverse_any_way}
-use Rattle.sedmatch.specs.Occurrences.{HasTable, HaveOwn, IsReverseAny, IsReady, RoomAt, RoomFor, ServesFrom, SearchTakes, ServesIn, ServesOn, AnswersNext, owed, owed_after, owed_search}
+use Rattle.sedmatch.specs.Passes.{reverse_any_way}
+use Rattle.sedmatch.specs.Occurrences.{HasTable, HaveOwn, IsReverseAny, IsReady, RoomAt, ServesFrom, SearchTakes, ServesIn, ServesOn, AnswersNext, owed, owed_after, owed_search}
 use Rattle.sedtext.proofs.CountLemmas.{least_less, least_since}
 
 -- Lists.
@@ -121,17 +120,7 @@ module _ (e : WrittenExpression) (old new : Occurrences) (keeps : KeepsTables e 
 -- Where a search begins: the table that is chosen.
 
 module _ (p : Prepared) (w : List ℕ) (o : Occurrences) (at : RoomAt (length w) o.number p.arena.expr o) where
-  -- an expression's own table has some states
-  pub own_states : (t : Table) → slice_get o.own.items o.number ≡ Some (Some t) → (2 ≤ t.room) × (t.room ≤ 65535)
-  own_states t there = let table = (at.own t there).1 p refl in (table.room.rows.some, table.room.rows.few)
-
-  -- its own is ready for the text, where its blocks are enough
-  pub own_kept : (t : Table) → slice_get o.own.items o.number ≡ Some (Some t) → length w < length o.seeking.kept.edges / 2 * (t.room - 1) →
-      KeptRoom (length p.arena.expr.nodes) (length w) t o.seeking.kept
-  own_kept t there enough =
-      let kept = at.shared.2 in
-      kept_room (length p.arena.expr.nodes) (length w) t o.seeking.kept (at.own t there).0 kept.places enough kept.marks
-
+  -- its own is ready for the text
   pub own_ready : (s : Seeking) (t : Table) → slice_get o.own.items o.number ≡ Some (Some t) → s.kept ≡ o.seeking.kept → SearchServes p w t s →
       IsReady p.arena.expr w o (record o { seeking = s; by_own = true; is_fresh = false })
   own_ready s t there same serves =
@@ -145,9 +134,6 @@ module _ (p : Prepared) (w : List ℕ) (o : Occurrences) (at : RoomAt (length w)
       }) w at (record { own = λ h. (t, there, serves_each p w t s serves); shared = λ h. absurd (true≢false h) })
 
   -- that of all is, fitted to the expression
-  pub shared_kept : (t : Table) → SameRoom o.shared t → KeptRoom (length p.arena.expr.nodes) (length w) t o.seeking.kept
-  shared_kept t same = kept_still (length w) (length p.arena.expr.nodes) o.seeking.kept o.seeking.kept o.shared t at.shared.2 same (space_same o.seeking.kept)
-
   pub shared_ready : (s : Seeking) (t : Table) → SameRoom o.shared t → IsTable p t → s.kept ≡ o.seeking.kept → SearchServes p w t s →
       IsReady p.arena.expr w o (record o { seeking = s; shared = t; by_own = false; is_fresh = false })
   shared_ready s t room table same serves =
@@ -199,11 +185,10 @@ paid m n last old mid new r s t some fresh same begun used pays =
     (pays.0, (let h = pays.1 in omega (arith, h, due, after)))
 
 -- its own table, where it is in use
-pub own_there : (e : WrittenExpression) (w : List ℕ) (o : Occurrences) → HasTable e w o → IsTrue o.by_own → o.number < length o.own.items
-own_there e w o has by = let own = has.own by in slice_get_within o.own.items o.number (Some own.0) own.1
-
 pub own_is : (e : WrittenExpression) (w : List ℕ) (o : Occurrences) → HasTable e w o → IsTrue o.by_own → (v u : Option Table) → v ≡ get_or o.own.items o.number v → v ≡ u → slice_get o.own.items o.number ≡ Some u
-own_is e w o has by v u at is = slice_get_read o.own.items (length o.own.items) o.number v refl (own_there e w o has by) at ∙ ap (λ z. Some z) is
+own_is e w o has by v u at is =
+    let own = has.own by in
+    slice_get_read o.own.items (length o.own.items) o.number v refl (slice_get_within o.own.items o.number (Some own.0) own.1) at ∙ ap (λ z. Some z) is
 
 -- After a search.
 
@@ -211,7 +196,8 @@ module _ (p : Prepared) (w : List ℕ) (a a' b b' : Table) (o : Occurrences) (s 
   pub shared_searched : o.by_own ≡ false → o.shared ≡ b → IsReady p.arena.expr w o (record o { seeking = s; shared = b' })
   shared_searched by is =
       let new : Occurrences = record o { seeking = s; shared = b' } in
-      let room : SameRoom o.shared b' = subst (λ v. SameRoom v b') (sym is) (shape_room b b' done.tables.reverse_any_shape) in
+      let shape = done.tables.reverse_any_shape in
+      let room : SameRoom o.shared b' = subst (λ v. SameRoom v b') (sym is) (shape.0, shape.1, shape.3, shape.4) in
       still_ready p.arena.expr o new (record {
         number = refl;
         space = done.tables.space;
@@ -258,30 +244,17 @@ pub record AreFirst (es : List WrittenExpression) (n : ℕ) (own : List (Option 
   pub long : length own ≡ n
   pub each : HaveOwn es own
 
-pub one_more : (es : List WrittenExpression) (n : ℕ) (own own' : List (Option Table)) (e : WrittenExpression) (o : Option Table) → AreFirst es n own → slice_get es n ≡ Some e → IfSome o (IsReverseAny e) → own' ≡ own ++ o ∷ [] → AreFirst es (n + 1) own'
-one_more es n own own' e o are sought reverse_any push = record {
+pub one_more : (es : List WrittenExpression) (n : ℕ) (own own' : List (Option Table)) (e : WrittenExpression) (o : Option Table) → AreFirst es n own → n < length es → e ≡ get_or es n e → IfSome o (IsReverseAny e) → own' ≡ own ++ o ∷ [] → AreFirst es (n + 1) own'
+one_more es n own own' e o are inside here reverse_any push = record {
   long = (let h = ap (λ (xs : List (Option Table)). length xs) push in let l = length-append own (o ∷ []) in let m = are.long in omega (arith, h, l, m));
   each = λ x f is t at. ⊎_elim
       (λ (old : slice_get own x ≡ Some (Some t)). are.each x f is t old)
       (λ (new : (x ≡ length own) × (Some t ≡ o)).
+      let sought : slice_get es n ≡ Some e = slice_get_read es (length es) n e refl inside here in
       let one : e ≡ f = same_there e f (sym sought ∙ ap (λ v. slice_get es v) (sym (new.0 ∙ are.long)) ∙ is) in
       subst (λ v. IsReverseAny v t) one (subst (λ (v : Option Table). IfSome v (IsReverseAny e)) (sym new.1) reverse_any))
       (push_cases own o (Some t) x (sym (ap (λ xs. slice_get xs x) push) ∙ at));
 }
-
-pub room_made : (text most width : ℕ) (es : List WrittenExpression) (o : Occurrences) → text < vec_capacity o.seeking.kept.states → length o.seeking.kept.edges ≡ 2 * (text / width + 1) →
-    ((q : ℕ) → q < length o.seeking.kept.edges → length (row_of o.seeking.kept.edges q) ≡ most) → 1 ≤ width → text / width + 1 ≤ 32768 → IsRoomyWay reverse_any_way most o.shared → o.shared.room ≡ width + 1 →
-    HaveOwn es o.own.items → ((x : ℕ) (e : WrittenExpression) → slice_get es x ≡ Some e → length e.nodes ≤ most) → RoomFor text es o
-room_made text most width es o places edges marks some few roomy room own fit = record {
-  each = λ x e is. let less = fit x e is in record {
-    shared = (roomy_fewer (length e.nodes) most o.shared less roomy.0, roomy.1, kept_room (length e.nodes) text o.shared o.seeking.kept roomy.1 places enough (λ q low. let long = marks q low in omega (arith, long, less)));
-    few = omega (arith, edges, few);
-    own = own x e is;
-  };
-}
-  where
-    enough : text < length o.seeking.kept.edges / 2 * (o.shared.room - 1)
-    enough = blocks_enough text width o.shared.room (length o.seeking.kept.edges) some (omega (arith, room)) edges
 
 -- The first occurrence.
 

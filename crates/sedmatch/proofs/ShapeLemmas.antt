@@ -1,5 +1,5 @@
 -- Stems, and one link more before them.
-use Rattle.std.proofs.Common.{◌≡◌, ℕ, ◌+◌, ◌≤◌, ◌⊎◌, ◌↔◌, Bool, false, true≢false, List, ◌∷◌, drop, drop-cons, length, suc, take, Option, Some, None, refl, sym, ap, ◌∙◌, subst, arith}
+use Rattle.std.proofs.Common.{◌≡◌, ℕ, ◌+◌, ◌≤◌, ◌⊎◌, ◌↔◌, Bool, List, ◌∷◌, drop, drop-cons, length, suc, take, Option, Some, None, refl, sym, ap, ◌∙◌, subst, arith}
 use Rattle.std.specs.Prelude.{IfSome, slice_index_or}
 use Rattle.std.proofs.lemmas.List.{take_all}
 use Rattle.std.proofs.lemmas.Option.{IfSome_then}
@@ -10,25 +10,33 @@ use Rattle.sedtext.specs.Runs.{SetRepeats}
 use Rattle.sedtext.specs.declared.links.Link.{Link}
 use Rattle.sedtext.specs.declared.links.Link.TheVariants.{Byte, Run}
 use Rattle.sedmatch.specs.Direct.{FormSpans, IsDirect}
-use Rattle.sedmatch.specs.Shapes.{IsPlaced, StemLeads}
-use Rattle.sedmatch.specs.Stretches.{Follow, StretchBytes}
+use Rattle.sedmatch.specs.Stretches.{Follow, IsAnchored, StemLeads, StretchBytes}
 use Rattle.sedmatch.specs.declared.direct.DirectForm.{DirectForm}
 use Rattle.sedmatch.specs.declared.shapes.Stem.{Stem}
+use Rattle.sedmatch.specs.declared.stretches.Anchoring.{Anchoring}
+use Rattle.sedmatch.specs.declared.stretches.Anchoring.TheVariants.{AtEnd}
 
 -- the stem is the link, and the one behind it
 abbrev IsWith : Link → Stem → Stem → Type 0
 IsWith link behind stem = (nodes : List Node) (w : List ℕ) (i j : ℕ) → StemLeads stem w i j ↔ ((k : ℕ) × LinkLeads nodes w link i k × StemLeads behind w k j)
 
--- before a stem that is not at the beginning of the text, and in which no byte comes first
-module _ (link : Link) (behind : Stem) (s : List Bool) (anywhere : behind.at_start ≡ false) (first : behind.first ≡ None) where
-  placed : (w : List ℕ) (k i j : ℕ) → IsPlaced behind w k j → IsPlaced behind w i j
-  placed w k i j at = ((λ t. absurd (true≢false (sym t ∙ anywhere))), at.1)
+-- a stem that is placed so can begin anywhere
+abbrev pub BeginsAnywhere : Option Anchoring → Type 0
+BeginsAnywhere ends = (w : List ℕ) (k i j : ℕ) → IsAnchored ends w k j → IsAnchored ends w i j
 
+pub free_anywhere : (ends : Option Anchoring) → ends ≡ None → BeginsAnywhere ends
+free_anywhere ends is w k i j at = subst (λ v. IsAnchored v w i j) (sym is) tt
+
+pub free_at_end : (ends : Option Anchoring) → ends ≡ Some AtEnd → BeginsAnywhere ends
+free_at_end ends is w k i j at = subst (λ v. IsAnchored v w i j) (sym is) (subst (λ v. IsAnchored v w k j) is at)
+
+-- before such a stem in which no byte comes first
+module _ (link : Link) (behind : Stem) (s : List Bool) (placed : BeginsAnywhere behind.ends) (first : behind.first ≡ None) where
   following : (rest : Option (List Bool)) (w : List ℕ) (i j : ℕ) → StretchBytes behind.first rest w i j ↔ Follow rest w i j
   following rest w i j = ((λ at. (subst (λ v. StretchBytes v rest w i j) first at).1), (λ on. subst (λ v. StretchBytes v rest w i j) (sym first) (tt, on)))
 
   -- a byte
-  pub with_byte : link ≡ Byte s → IsWith link behind (record { at_start = behind.at_start; first = Some s; rest = behind.rest; at_end = behind.at_end })
+  pub with_byte : link ≡ Byte s → IsWith link behind (record { first = Some s; rest = behind.rest; ends = behind.ends })
   with_byte is nodes w i j = (
     (λ h. (i + 1, subst (λ v. LinkLeads nodes w v i (i + 1)) (sym is) (h.0.0, refl), ((following behind.rest w (i + 1) j).1 h.0.1, placed w i (i + 1) j h.1))),
     λ f.
@@ -37,7 +45,7 @@ module _ (link : Link) (behind : Stem) (s : List Bool) (anywhere : behind.at_sta
   )
 
   -- a run, where none follows
-  pub with_run : link ≡ Run s → behind.rest ≡ None → IsWith link behind (record { at_start = behind.at_start; first = behind.first; rest = Some s; at_end = behind.at_end })
+  pub with_run : link ≡ Run s → behind.rest ≡ None → IsWith link behind (record { first = behind.first; rest = Some s; ends = behind.ends })
   with_run is rest nodes w i j = (
     λ h.
         let none = (following behind.rest w j j).1 (subst (λ v. Follow v w j j) (sym rest) refl) in

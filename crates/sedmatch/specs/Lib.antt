@@ -7,7 +7,6 @@ pub use Rattle.sedtext.specs.SearchRoom
 pub use Rattle.sedtext.specs.Costs
 pub use Rattle.sedtext.specs.Following
 pub mod Direct
-pub mod Shapes
 pub mod Stretches
 pub mod Candidates
 pub mod Passes

@@ -83,12 +83,9 @@ owed_direct_after n None = 0
 owed_direct_after n (Some f) = owed_direct n (Some f.1)
 
 -- and those that either may
-abbrev pub owed_from : ℕ → ℕ → ℕ → Occurrences → ℕ
-owed_from m n q o = if o.is_fresh then 372 * m * (n + 1) + owed_direct n (Some q) else owed_behind m n o.seeking q
-
 abbrev pub owed : ℕ → ℕ → Option ℕ → Occurrences → ℕ
 owed m n None o = 416 * m * (n + 1)
-owed m n (Some q) o = owed_from m n q o
+owed m n (Some q) o = if o.is_fresh then 372 * m * (n + 1) + owed_direct n (Some q) else owed_behind m n o.seeking q
 
 abbrev pub owed_after : ℕ → ℕ → Option (ℕ × ℕ) → Occurrences → ℕ
 owed_after m n None o = 0

@@ -1,6 +1,6 @@
 -- Private to the proofs: no contract of a public item cites what is here.
 -- An expression that is searched by passes, with its tables, and the room for passes.
-use Rattle.std.specs.Prelude.{◌≡◌, ℕ, ◌+◌, ◌-◌, ◌*◌, ◌/◌, ◌≤◌, ◌↔◌, Bool, true, false, List, length, vec_capacity, IfSome, IsTrue}
+use Rattle.std.specs.Prelude.{◌≡◌, ℕ, ◌+◌, ◌-◌, ◌*◌, ◌/◌, ◌≤◌, ◌↔◌, Bool, true, List, length, vec_capacity, IfSome, IsTrue}
 use Rattle.sedre.specs.Tree.{WrittenExpression, expression_tree}
 use Rattle.sedre.specs.Steps.{Takes, TakesAtLeast}
 use Rattle.sedtext.specs.Beginnings.{AllBegin}
@@ -9,22 +9,17 @@ use Rattle.sedtext.specs.Following.{LooksPast}
 use Rattle.sedtext.specs.Groups.{SpansOfGroups}
 use Rattle.sedtext.specs.Required.{IsRequired}
 use Rattle.sedtext.specs.Spans.{SomeFound}
-use Rattle.sedpass.specs.Decide.{AreGroupTables, AreRoomy, HasSpace, SameRooms, spans_in}
-use Rattle.sedpass.specs.Table.{IsRoomy, IsTable, SameRoom}
+use Rattle.sedpass.specs.Decide.{AreRoomy, AreTables, HasSpace, spans_in}
+use Rattle.sedpass.specs.Table.{IsRoomy}
 use Rattle.sedpass.specs.Walks.{EntersGroups}
 use Rattle.sedpass.specs.declared.nodes.Prepared.{Prepared}
 use Rattle.sedpass.specs.declared.rows.Way.{Way}
 use Rattle.sedpass.specs.declared.table.Table.{Table}
 use Rattle.sedmatch.specs.Direct.{IsDirect}
-use Rattle.sedmatch.specs.declared.passes.PassTables.{PassTables}
 use Rattle.sedmatch.specs.declared.passes.Passes.{Passes}
 use Rattle.sedmatch.specs.declared.scratch.Desk.{Desk}
 use Rattle.sedmatch.specs.declared.table_matcher.SearchMethod.{SearchMethod}
 use Rattle.sedmatch.specs.declared.table_matcher.SearchMethod.TheVariants.{Direct, Passes as ByPasses}
-
--- the way of passes forwards in which every place is a start
-abbrev pub forward_any_way : Way
-forward_any_way = record { mirrored = false; all_starts = true }
 
 -- the way of passes from the text's end, of which each place's state is kept
 abbrev pub reverse_any_way : Way
@@ -36,29 +31,17 @@ pub record IsSought (e : WrittenExpression) (p : Prepared) : Type 0 where
   pub begins : AllBegin (expression_tree e) p.begins
   pub required : IsRequired (expression_tree e) p.required
 
--- the tables serve the expression
-abbrev pub ArePassTables : Prepared → PassTables → Type 0
-ArePassTables p t = IsTable p t.forward_any × (t.forward_any.way ≡ forward_any_way) × AreGroupTables p t.groups
-
 -- the table goes this way, and has room for expressions of at most m nodes
 abbrev pub IsRoomyWay : Way → ℕ → Table → Type 0
 IsRoomyWay way m t = IsRoomy m t × (t.way ≡ way)
 
--- the tables have all their room for expressions of at most m nodes
-abbrev pub HavePassRoom : ℕ → PassTables → Type 0
-HavePassRoom m t = IsRoomyWay forward_any_way m t.forward_any × AreRoomy m t.groups
-
--- each of the tables has the room that it had, whatever it serves
-abbrev pub SamePassRoom : PassTables → PassTables → Type 0
-SamePassRoom old new = SameRoom old.forward_any new.forward_any × SameRooms old.groups new.groups
-
 -- what was found out is right, and the tables are for the expression, where it has some of its own
 abbrev pub ArePasses : WrittenExpression → Passes → Type 0
-ArePasses e p = IsSought e p.prepared × IfSome p.own (ArePassTables p.prepared)
+ArePasses e p = IsSought e p.prepared × IfSome p.own (AreTables p.prepared)
 
 -- what was found out is the same, and its own tables are still for it
 abbrev pub KeepsPasses : Passes → Passes → Type 0
-KeepsPasses old new = (new.prepared ≡ old.prepared) × IfSome new.own (ArePassTables new.prepared)
+KeepsPasses old new = (new.prepared ≡ old.prepared) × IfSome new.own (AreTables new.prepared)
 
 -- the expression that is searched, and that it is searched rightly
 abbrev pub searched_expression : SearchMethod → WrittenExpression
@@ -72,10 +55,10 @@ IsEngine (ByPasses p) = ArePasses p.value.prepared.arena.expr p.value
 -- Passes can be made there over texts of at most `max_text` bytes, for expressions of at most `max_nodes` nodes, by the tables that
 -- serve all.
 pub record IsDesk (d : Desk) : Type 0 where
-  pub space : HasSpace d.max_text (d.max_text / (d.shared.groups.reverse_one.room - 1) + 1) d.max_nodes d.room
+  pub space : HasSpace d.max_text (d.max_text / (d.shared.reverse_one.room - 1) + 1) d.max_nodes d.room
   pub reverse_any : IsRoomyWay reverse_any_way d.max_nodes d.reverse_any
-  pub states : d.reverse_any.room ≡ d.shared.groups.reverse_one.room
-  pub shared : HavePassRoom d.max_nodes d.shared
+  pub states : d.reverse_any.room ≡ d.shared.reverse_one.room
+  pub shared : AreRoomy d.max_nodes d.shared
   pub few : length d.room.kept.edges ≤ 65536
 
 -- they can be made there over this text, for this expression

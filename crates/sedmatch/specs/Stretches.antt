@@ -3,6 +3,7 @@
 use Rattle.std.specs.Prelude.{◌≡◌, ℕ, ◌+◌, ◌-◌, ◌<◌, ◌≤◌, ◌⊎◌, Bool, List, length, Option, Some, None}
 use Rattle.sedtext.specs.Bytes.{MemberAt}
 use Rattle.sedtext.specs.Runs.{SetRepeats}
+use Rattle.sedmatch.specs.declared.shapes.Stem.{Stem}
 use Rattle.sedmatch.specs.declared.stretches.Anchoring.{Anchoring}
 use Rattle.sedmatch.specs.declared.stretches.Anchoring.TheVariants.{AtStart, AtEnd, Whole, AtEitherEnd}
 use Rattle.sedmatch.specs.declared.stretches.Stretch.{Stretch}
@@ -33,6 +34,10 @@ IsAnchored (Some AtStart) w i j = i ≡ 0
 IsAnchored (Some AtEnd) w i j = j ≡ length w
 IsAnchored (Some Whole) w i j = (i ≡ 0) × (j ≡ length w)
 IsAnchored (Some AtEitherEnd) w i j = (i ≡ 0) ⊎ (j ≡ length w)
+
+-- the stem leads from i to j
+abbrev pub StemLeads : Stem → List ℕ → ℕ → ℕ → Type 0
+StemLeads stem w i j = StretchBytes stem.first stem.rest w i j × IsAnchored stem.ends w i j
 
 -- the spans of a stretch that is anchored so
 abbrev pub StretchSpans : Stretch → Option Anchoring → List ℕ → ℕ → ℕ → Type 0
@@ -66,8 +71,8 @@ abbrev pub end_or : ℕ → Option (ℕ × ℕ) → ℕ
 end_or n None = n
 end_or n (Some f) = f.1
 
--- How many bytes are looked at at least where an anchored stretch is found from p on. At the end of the text it is sought back from
--- there, and these are its own.
-abbrev pub bytes_sought : Anchoring → ℕ → ℕ × ℕ → ℕ
-bytes_sought AtEnd p f = f.1 - f.0
+-- How many bytes are looked at at least where a stretch that is anchored so is found from p on. At the end of the text it is sought
+-- back from there, and these are its own.
+abbrev pub bytes_sought : Option Anchoring → ℕ → ℕ × ℕ → ℕ
+bytes_sought (Some AtEnd) p f = f.1 - f.0
 bytes_sought other p f = f.1 - p

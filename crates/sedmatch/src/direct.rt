@@ -9,20 +9,18 @@
 ghost use Rattle.std.specs.Prelude.{◌+◌, ◌-◌, ◌*◌, ◌≤◌, length, IfOk, IfSome};
 ghost use Rattle.sedre.specs.Arena.{IsExpr};
 ghost use Rattle.sedre.specs.Tree.{WrittenExpression, expression_tree};
-ghost use Rattle.sedre.specs.Steps.{Takes, TakesAtLeast};
+ghost use Rattle.sedre.specs.Steps.{TakesAtLeast};
 ghost use Rattle.sedtext.specs.Answer.{SpanAnswer};
 ghost use Rattle.sedtext.specs.Costs.{CostsWithin};
 ghost use Rattle.sedtext.specs.Following.{CanEndEarly};
 ghost use Rattle.sedtext.specs.Links.{IsChain};
-ghost use Rattle.sedmatch.specs.Candidates.{NoMatchBefore};
-ghost use Rattle.sedmatch.specs.Direct.{FirstSpan, IsDirect, LeadsAs, bytes_looked_at};
+ghost use Rattle.sedmatch.specs.Direct.{FirstSpan, IsDirect, bytes_looked_at};
 ghost use Rattle.sedmatch.specs.Passes.{AnswersMatch};
 ghost use Rattle.sedmatch.specs.Stretches.{end_or};
-ghost use Rattle.sedmatch.specs.declared.direct.DirectForm.TheVariants.{FixedRun, Literal as LiteralForm};
 
 use crate::Span;
-use crate::shapes::{form_at_ends, stretch_of};
-use crate::stretches::{Anchoring, Stretch, anchored_span, find_first, stretch_span};
+use crate::shapes::{form_at_ends, form_of, stem_of};
+use crate::stretches::{Stretch, stretch_span};
 use memchr::memmem::Finder;
 use sedre::{ByteSet, Expr, Steps};
 use sedtext::counted::Text;
@@ -35,25 +33,12 @@ use std::alloc::{AllocError, Global};
 /// The form of the matches of an expression.
 #[derive(Drop)]
 pub enum DirectForm {
-    /// A byte, bytes of a set that follow, or both.
+    /// A byte, bytes of a set that follow, or both, anywhere or at the ends of the text.
     Stretch(Stretch),
-    /// The same at the ends of the text.
-    Anchored(Stretch, Anchoring),
     /// As many bytes of the set as the number says.
     FixedRun(ByteSet, usize),
     /// A literal of two bytes or more, as it is sought.
     Literal(Finder<'static>),
-}
-
-/// The literal that the chain is, where it has two bytes or more. A single byte is sought faster as one.
-fn literal_of(alloc: Global, chain: &[Link]) -> Result<Option<Finder<'static>>, AllocError>
-    ensures literal { IfOk result (λ r. IfSome r (λ l. LeadsAs chain.now (LiteralForm l))) }
-{
-    let bytes = literal_at(alloc, chain, 0)?;
-    if bytes.len() < 2 || bytes.len() < chain.len() {
-        return Ok(None);
-    }
-    Ok(Some(Finder::new(&bytes).into_owned(alloc)?))
 }
 
 /// For proofs: what was read is an expression, with no more nodes than one may have.
@@ -79,10 +64,13 @@ pub fn direct_form_of(
     if expr.groups() > 0 {
         return Ok(None);
     }
-    if let Some(form) = stretch_of(chain) {
-        return Ok(Some(form));
+    // A single byte is sought faster as a stretch than as a literal.
+    if let Some(stem) = stem_of(chain) {
+        return Ok(Some(form_of(stem)));
     }
-    if let Some(finder) = literal_of(alloc, chain)? {
+    let bytes = literal_at(alloc, chain, 0)?;
+    if bytes.len() == chain.len() {
+        let finder = Finder::new(&bytes).into_owned(alloc)?;
         return Ok(Some(DirectForm::Literal(finder)));
     }
     if let Some((set, count)) = fixed_run_of(chain) {
@@ -97,40 +85,6 @@ pub fn direct_form_of(
     }
 }
 
-/// The first bytes of the set from `from` on, as many as the number says.
-#[inline(always)]
-fn fixed_run_span(
-    set: &ByteSet,
-    count: usize,
-    text: &Text,
-    from: usize,
-    steps: &mut Steps,
-) -> Option<Span>
-    requires from { from ≤ length text.now }
-    ensures span { FirstSpan (FixedRun set.now count) text.now from result }
-    ensures cost { CostsWithin steps.old steps.new (4 * (end_or (length text.now) result + 1)) (4 * from) }
-    ensures counts { IfSome result (λ f. TakesAtLeast steps.old steps.new (f.1 - from)) }
-{
-    match find_fixed_run(set, count, text, from, steps) {
-        None => None,
-        Some(start) => Some((start, text.after(start, count))),
-    }
-}
-
-/// The literal where it first occurs from `from` on.
-#[inline(always)]
-fn literal_span(finder: &Finder, text: &Text, from: usize, steps: &mut Steps) -> Option<Span>
-    requires from { from ≤ length text.now }
-    ensures span { FirstSpan (LiteralForm finder.now) text.now from result }
-    ensures cost { CostsWithin steps.old steps.new (4 * (end_or (length text.now) result + 1)) (4 * from) }
-    ensures counts { IfSome result (λ f. TakesAtLeast steps.old steps.new (f.1 - from)) }
-{
-    match find_literal(text, finder, from, steps) {
-        None => None,
-        Some(start) => Some((start, text.after(start, finder.needle().len()))),
-    }
-}
-
 /// The longest of the matches of this form that begin first from `from` on.
 // On short texts a call of its own costs as much as the search.
 #[inline(always)]
@@ -142,9 +96,14 @@ fn form_span(form: &DirectForm, text: &Text, from: usize, steps: &mut Steps) -> 
 {
     match form {
         DirectForm::Stretch(stretch) => stretch_span(stretch, text, from, steps),
-        DirectForm::Anchored(stretch, ends) => anchored_span(stretch, *ends, text, from, steps),
-        DirectForm::FixedRun(set, count) => fixed_run_span(set, *count, text, from, steps),
-        DirectForm::Literal(finder) => literal_span(finder, text, from, steps),
+        DirectForm::FixedRun(set, count) => match find_fixed_run(set, *count, text, from, steps) {
+            None => None,
+            Some(start) => Some((start, text.after(start, *count))),
+        },
+        DirectForm::Literal(finder) => match find_literal(text, finder, from, steps) {
+            None => None,
+            Some(start) => Some((start, text.after(start, finder.needle().len()))),
+        },
     }
 }
 
@@ -167,18 +126,4 @@ pub fn direct_matches(form: &DirectForm, text: &Text, from: usize, steps: &mut S
     ensures { (e : WrittenExpression) → IsDirect e form.now → AnswersMatch e text.now from steps.old steps.new result }
 {
     direct_span(form, text, from, steps).is_some()
-}
-
-/// A place of the text before which no line has a match of this form, or None where no line has one.
-pub fn direct_candidate(form: &DirectForm, text: &Text, steps: &mut Steps) -> Option<usize>
-    ensures before { (e : WrittenExpression) → IsDirect e form.now → NoMatchBefore (expression_tree e) text.now result }
-    ensures cost { Takes steps.old steps.new (25 * (length text.now + 1)) }
-    ensures counts { IfSome result (λ k. TakesAtLeast steps.old steps.new k) }
-{
-    match form {
-        DirectForm::Stretch(stretch) => find_first(&stretch.first, text, 0, steps),
-        DirectForm::Anchored(stretch, _) => find_first(&stretch.first, text, 0, steps),
-        DirectForm::Literal(finder) => find_literal(text, finder, 0, steps),
-        DirectForm::FixedRun(_, _) => Some(0),
-    }
 }

@@ -1,5 +1,5 @@
 //! All occurrences in one text, one after another.
-ghost use Rattle.std.specs.Prelude.{◌≡◌, ℕ, List, Option, false, if◌then◌else◌, ◌+◌, ◌-◌, ◌*◌, ◌/◌, ◌^◌, ◌<◌, ◌≤◌, length, IfOk, IfSome, IsTrue, slice_get, Some};
+ghost use Rattle.std.specs.Prelude.{◌≡◌, ℕ, List, Option, false, if◌then◌else◌, ◌+◌, ◌*◌, ◌^◌, ◌<◌, ◌≤◌, length, IfOk, IfSome, IsTrue, slice_get, Some};
 ghost use Rattle.std.specs.Option.{unwrap_or};
 ghost use Rattle.sedre.specs.Tree.{WrittenExpression, expression_tree};
 ghost use Rattle.sedtext.specs.Costs.{CostsWithin};
@@ -8,7 +8,7 @@ ghost use Rattle.sedtext.specs.Matching.{leftmost_longest, unless_null_at};
 ghost use Rattle.sedpass.specs.Search.{MaySearch, Searched, owed_after_search, owed_behind};
 ghost use Rattle.sedpass.specs.Table.{IsForwardOne, SameShape};
 ghost use Rattle.sedpass.specs.declared.table.Table.{Table};
-ghost use Rattle.sedmatch.specs.Occurrences.{HasTable, HaveOwn, IsReverseAny, IsReady, RoomAt, RoomFor, SearchTakes, ServesFrom, AnswersNext, owed_search};
+ghost use Rattle.sedmatch.specs.Occurrences.{HasTable, HaveOwn, IsReady, RoomAt, RoomFor, SearchTakes, ServesFrom, AnswersNext, owed_search};
 ghost use Rattle.sedmatch.specs.Passes.{IsSought};
 
 use crate::Span;
@@ -54,51 +54,22 @@ pub struct Occurrences {
     is_fresh: bool,
 }
 
-/// A table of its own for passes from the text's end, where the expression has tables.
-fn own_table(alloc: Global, matcher: &TableMatcher) -> Result<Option<Table>, AllocError>
-    ensures { IfOk result (λ r. IfSome r (IsReverseAny matcher.now)) }
-{
-    let Some(prepared) = matcher.prepared() else {
-        return Ok(None);
-    };
-    let mut table = Table::with_room(alloc, REVERSE_ANY, OWN_STATES, prepared.nodes())?;
-    table.fit(prepared);
-    Ok(Some(table))
-}
-
-/// Such tables for the first of the expressions.
+/// Tables for passes from the text's end for the first of the expressions, those of them that have tables.
 fn own_tables(alloc: Global, matchers: &[TableMatcher]) -> Result<Vec<Option<Table>>, AllocError>
     ensures { IfOk result (λ own. HaveOwn matchers.now own.items) }
 {
     let count = matchers.len().min(MOST_OWN);
     let mut own = Vec::with_capacity(alloc, count)?;
     for x in 0..count {
-        own.push_reserved(own_table(alloc, &matchers[x])?);
+        let Some(prepared) = matchers[x].prepared() else {
+            own.push_reserved(None);
+            continue;
+        };
+        let mut table = Table::with_room(alloc, REVERSE_ANY, OWN_STATES, prepared.nodes())?;
+        table.fit(prepared);
+        own.push_reserved(Some(table));
     }
     Ok(own)
-}
-
-/// The table of its own of the expression of this number, where it has one and what is kept has room for the blocks of its passes over
-/// a text of so many bytes.
-fn own_for<'a>(
-    own: &'a Vec<Option<Table>>,
-    number: usize,
-    kept: &Kept,
-    bytes: usize,
-) -> Option<&'a Table>
-    requires states { (t : Table) → slice_get own.now.items number ≡ Some (Some t) → (2 ≤ t.room) × (t.room ≤ 65535) }
-    requires few { length kept.now.edges ≤ 65536 }
-    ensures own { IfSome result (λ t. slice_get own.now.items number ≡ Some (Some t.now)) }
-    ensures room { IfSome result (λ t. bytes < length kept.now.edges / 2 * (t.now.room - 1)) }
-{
-    let Some(Some(table)) = own.get(number) else {
-        return None;
-    };
-    if has_blocks(kept, table.room, bytes) {
-        Some(table)
-    } else {
-        None
-    }
 }
 
 impl Occurrences {
@@ -165,12 +136,13 @@ impl Occurrences {
         }
         self.is_fresh = false;
         let subject = Subject { prepared, text };
-        match own_for(&self.own, self.number, &self.seeking.kept, text.len()) {
-            Some(own) => {
+        match self.own.get(self.number) {
+            // What is kept has room for the blocks of its passes over the text.
+            Some(Some(own)) if has_blocks(&self.seeking.kept, own.room, text.len()) => {
                 self.by_own = true;
                 begin_text(subject, own, &mut self.seeking);
             }
-            None => {
+            _ => {
                 self.by_own = false;
                 self.shared.fit(prepared);
                 begin_text(subject, &self.shared, &mut self.seeking);

@@ -1,42 +1,29 @@
 //! An expression that is searched by passes: what is found out of it once, its tables, and what they show of a text.
-ghost use Rattle.std.specs.Prelude.{◌≡◌, ℕ, List, ◌+◌, ◌-◌, ◌*◌, ◌/◌, ◌<◌, ◌≤◌, ◌↔◌, [], length, vec_capacity, IfOk, IfSome, IsTrue};
+ghost use Rattle.std.specs.Prelude.{◌≡◌, ℕ, List, ◌+◌, ◌-◌, ◌*◌, ◌/◌, ◌<◌, ◌≤◌, ◌↔◌, [], length, vec_capacity, IfOk, IsTrue};
 ghost use Rattle.sedre.specs.Arena.{IsExpr};
-ghost use Rattle.sedre.specs.Tree.{Tree, WrittenExpression, expression_tree};
-ghost use Rattle.sedre.specs.Steps.{Takes, TakesAtLeast};
+ghost use Rattle.sedre.specs.Tree.{WrittenExpression, expression_tree};
+ghost use Rattle.sedre.specs.Steps.{Takes};
 ghost use Rattle.sedtext.specs.Beginnings.{AllBegin};
 ghost use Rattle.sedtext.specs.Following.{LooksPast};
 ghost use Rattle.sedtext.specs.Links.{IsChain};
 ghost use Rattle.sedtext.specs.Places.{Ascending};
-ghost use Rattle.sedtext.specs.Required.{IsRequired};
 ghost use Rattle.sedtext.specs.Spans.{SomeFound, Matches};
-ghost use Rattle.sedpass.specs.Decide.{HasDesk, KeepsGroupRoom};
-ghost use Rattle.sedmatch.specs.Candidates.{NoMatchBefore};
-ghost use Rattle.sedmatch.specs.Passes.{ArePasses, ArePassTables, HavePassRoom, SamePassRoom, IsDeskFor, KeepsDesk, KeepsPasses, AnswersGroups, AnswersMatch};
+ghost use Rattle.sedpass.specs.Decide.{AreTables, HasDesk, KeepsGroupRoom, SameRooms};
+ghost use Rattle.sedmatch.specs.Passes.{ArePasses, IsDeskFor, KeepsDesk, KeepsPasses, AnswersGroups, AnswersMatch};
 
 use crate::Span;
 use crate::scratch::Desk;
 use crate::table_room::TableRoom;
-use sedpass::groups::{GroupRoom, GroupSpans, GroupTables, all_groups, decide};
+use sedpass::groups::{GroupRoom, GroupSpans, Tables, all_groups, decide};
 use sedpass::kept::{Kept, Subject};
 use sedpass::nodes::Prepared;
 use sedpass::rows::Way;
-use sedpass::table::Table;
 use sedre::{Expr, Steps};
 use sedtext::beginnings::{Begins, how_begins, next_start};
 use sedtext::counted::Text;
-use sedtext::counted::lookups::{find_literal, sift};
 use sedtext::links::Link;
 use sedtext::required::{find_required, skip_to_literal};
 use std::alloc::{AllocError, Global};
-
-/// The tables by which an expression is searched.
-#[derive(Drop)]
-pub struct PassTables {
-    /// Forwards, every place a start.
-    pub forward_any: Table,
-    /// Forwards from one start, and those for groups.
-    pub groups: GroupTables,
-}
 
 /// An expression that is searched by passes.
 #[derive(Drop)]
@@ -44,14 +31,8 @@ pub struct Passes {
     /// The expression, made ready for them.
     pub prepared: Prepared,
     /// Its own tables, if there is room for them.
-    pub own: Option<PassTables>,
+    pub own: Option<Tables>,
 }
-
-/// The way of passes forwards in which every place is a start.
-const FORWARD_ANY: Way = Way {
-    mirrored: false,
-    all_starts: true,
-};
 
 /// The way of passes from the text's end, of which each place's state is kept.
 pub const REVERSE_ANY: Way = Way {
@@ -59,59 +40,14 @@ pub const REVERSE_ANY: Way = Way {
     all_starts: true,
 };
 
-/// How many tables an expression has: three here, and `reverse_any` for all occurrences in a text.
+/// How many tables an expression has: three in [`Tables`], and `reverse_any` for all occurrences in a text.
 const TABLES: usize = 4;
 
 /// How many bytes so many states take in all tables of an expression, at most.
-fn size_of(nodes: usize, states: usize) -> usize {
+pub fn size_of(nodes: usize, states: usize) -> usize {
     let cells = 16 * nodes.saturating_add(1).min(64);
     let state = cells + nodes / 4 + 64;
     state.saturating_mul(TABLES).saturating_mul(states)
-}
-
-impl PassTables {
-    /// Empty tables with room for so many states each of any expression of at most so many nodes, which serve none yet. Fails
-    /// only where a request for memory was refused.
-    pub fn with_room(alloc: Global, room: usize, nodes: usize) -> Result<PassTables, AllocError>
-        requires some { 2 ≤ room }
-        requires few { room ≤ 65535 }
-        requires nodes { 1 ≤ nodes }
-        requires short { nodes ≤ 65536 }
-        ensures tables { IfOk result (HavePassRoom nodes) }
-        ensures room { IfOk result (λ t. t.groups.reverse_one.room ≡ room) }
-    {
-        Ok(PassTables {
-            forward_any: Table::with_room(alloc, FORWARD_ANY, room, nodes)?,
-            groups: GroupTables::with_room(alloc, room, nodes)?,
-        })
-    }
-
-    /// Begins to serve an expression, and forgets what was of another one.
-    pub fn fit(&mut self, prepared: &Prepared)
-        requires { HavePassRoom (length prepared.now.arena.expr.nodes) self.old }
-        ensures tables { ArePassTables prepared.now self.new }
-        ensures room { SamePassRoom self.old self.new }
-    {
-        self.forward_any.fit(prepared);
-        self.groups.fit(prepared);
-    }
-}
-
-/// Tables for an expression, if they don't take more room than there is.
-fn own_tables(
-    alloc: Global,
-    prepared: &Prepared,
-    room: TableRoom,
-) -> Result<Option<PassTables>, AllocError>
-    ensures { IfOk result (λ own. IfSome own (ArePassTables prepared.now)) }
-{
-    let (states, nodes) = (room.states.clamp(2, 513), prepared.nodes());
-    if size_of(nodes, states) > room.bytes {
-        return Ok(None);
-    }
-    let mut own = PassTables::with_room(alloc, states, nodes)?;
-    own.fit(prepared);
-    Ok(Some(own))
 }
 
 /// An expression that is searched by passes, whose chain this is, with its own tables if there is room for them.
@@ -128,49 +64,29 @@ pub fn new_passes(
     let mut prepared = Prepared::new(alloc, expr, steps)?;
     prepared.begins = how_begins(alloc, expr, chain, steps)?;
     prepared.required = find_required(alloc, chain)?;
-    let own = own_tables(alloc, &prepared, room)?;
+    let (states, nodes) = (room.states.clamp(2, 513), prepared.nodes());
+    let mut own = None;
+    if size_of(nodes, states) <= room.bytes {
+        let mut tables = Tables::with_room(alloc, states, nodes)?;
+        tables.fit(&prepared);
+        own = Some(tables);
+    }
     Ok(Passes { prepared, own })
-}
-
-impl Passes {
-    /// How many bytes its own tables take at most.
-    pub fn size_of_tables(&self) -> usize {
-        match &self.own {
-            Some(own) => size_of(self.prepared.nodes(), own.forward_any.room),
-            None => 0,
-        }
-    }
-}
-
-/// A place of the text before which no line has a match, or None where no line has one, as these show.
-#[tactic(auto, unfolding(sedre::specs::Steps::TakesAtLeast, sedre::specs::Steps::TakesExactly))]
-pub fn candidate_by(prepared: &Prepared, text: &Text, steps: &mut Steps) -> Option<usize>
-    ensures before { (e : Tree) → IsRequired e prepared.now.required → AllBegin e prepared.now.begins → NoMatchBefore e text.now result }
-    ensures cost { Takes steps.old steps.new (25 * (length text.now + 1)) }
-    ensures counts { IfSome result (λ k. TakesAtLeast steps.old steps.new k) }
-{
-    if let Some(required) = &prepared.required {
-        return find_literal(text, &required.finder, 0, steps);
-    }
-    match &prepared.begins {
-        Begins::Before(sieve) => sift(text, sieve, 0, steps),
-        _ => Some(0),
-    }
 }
 
 /// Whether any match begins at a place or later, by these tables.
 fn matches_with(
     prepared: &Prepared,
     text: &Text,
-    tables: &mut PassTables,
+    tables: &mut Tables,
     from: usize,
     steps: &mut Steps,
 ) -> bool
     requires begins { AllBegin (expression_tree prepared.now.arena.expr) prepared.now.begins }
-    requires tables { ArePassTables prepared.now tables.old }
+    requires tables { AreTables prepared.now tables.old }
     requires from { from ≤ length text.now }
-    ensures tables { ArePassTables prepared.now tables.new }
-    ensures room { SamePassRoom tables.old tables.new }
+    ensures tables { AreTables prepared.now tables.new }
+    ensures room { SameRooms tables.old tables.new }
     ensures matches { IsTrue result ↔ SomeFound (expression_tree prepared.now.arena.expr) text.now from }
     ensures passes { IsTrue result → LooksPast (expression_tree prepared.now.arena.expr) text.now from steps.old steps.new }
     ensures cost { Takes steps.old steps.new (43 * length prepared.now.arena.expr.nodes * (length text.now + 1)) }
@@ -178,7 +94,7 @@ fn matches_with(
     let Some(start) = next_start(&prepared.begins, text, from, steps) else {
         return false;
     };
-    let (any, one) = (&mut tables.forward_any, &mut tables.groups.forward_one);
+    let (any, one) = (&mut tables.forward_any, &mut tables.forward_one);
     match &prepared.begins {
         // The first place alone is a start, and a pass from it can end early.
         Begins::AtStart => one.run(prepared, text, start, steps).end.is_some(),
@@ -235,7 +151,7 @@ pub fn has_blocks(kept: &Kept, states: usize, bytes: usize) -> bool
 /// The groups of a match that begins and ends at these places, by tables for which there is room.
 fn groups_with(
     subject: Subject,
-    tables: &mut GroupTables,
+    tables: &mut Tables,
     span: Span,
     room: &mut GroupRoom,
     steps: &mut Steps,
@@ -264,9 +180,8 @@ pub fn shared_groups(subject: Subject, span: Span, desk: &mut Desk, steps: &mut 
     ensures desk { KeepsDesk desk.old desk.new }
     ensures answered { AnswersGroups subject.entry.prepared.now.arena.expr subject.entry.text.now span steps.old steps.new result }
 {
-    let tables = &mut desk.shared.groups;
-    tables.fit(subject.prepared);
-    groups_with(subject, tables, span, &mut desk.room, steps)
+    desk.shared.fit(subject.prepared);
+    groups_with(subject, &mut desk.shared, span, &mut desk.room, steps)
 }
 
 /// The groups of a match that begins and ends at these places.
@@ -288,8 +203,8 @@ pub fn groups_by(
     let prepared = &passes.prepared;
     let subject = Subject { prepared, text };
     if let Some(own) = &mut passes.own {
-        if has_blocks(&desk.room.kept, own.groups.reverse_one.room, text.len()) {
-            return groups_with(subject, &mut own.groups, span, &mut desk.room, steps);
+        if has_blocks(&desk.room.kept, own.reverse_one.room, text.len()) {
+            return groups_with(subject, own, span, &mut desk.room, steps);
         }
     }
     shared_groups(subject, span, desk, steps)

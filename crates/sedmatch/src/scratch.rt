@@ -1,8 +1,8 @@
 //! The room that searches work in, made once.
 ghost use Rattle.std.specs.Prelude.{◌≡◌, ◌^◌, ◌≤◌, IfOk};
 
-use crate::passes::{PassTables, REVERSE_ANY};
-use sedpass::groups::GroupRoom;
+use crate::passes::REVERSE_ANY;
+use sedpass::groups::{GroupRoom, Tables};
 use sedpass::nodes::Prepared;
 use sedpass::table::Table;
 use sedpass::width::width_for;
@@ -17,7 +17,7 @@ pub struct Desk {
     /// The table of passes from the text's end.
     pub reverse_any: Table,
     /// All other tables.
-    pub shared: PassTables,
+    pub shared: Tables,
     /// How many bytes a text has at most,
     pub max_text: usize,
     /// and how many nodes an expression.
@@ -59,7 +59,7 @@ impl Scratch {
         let desk = Desk {
             room: GroupRoom::new(alloc, max_text, max_text / block + 1, max_nodes)?,
             reverse_any: Table::with_room(alloc, REVERSE_ANY, block + 1, max_nodes)?,
-            shared: PassTables::with_room(alloc, block + 1, max_nodes)?,
+            shared: Tables::with_room(alloc, block + 1, max_nodes)?,
             max_text,
             max_nodes,
         };

@@ -2,9 +2,8 @@
 ghost use Rattle.std.specs.Prelude.{◌≡◌, ℕ, List, ◌↔◌, ◌⊎◌, IfSome, IsTrue};
 ghost use Rattle.sedre.specs.declared.types.Node.{Node};
 ghost use Rattle.sedtext.specs.Links.{ChainLeads, LinkLeads};
-ghost use Rattle.sedmatch.specs.Direct.{FormSpans, LeadsAs};
-ghost use Rattle.sedmatch.specs.Shapes.{AreEither, IsPlaced, StemLeads};
-ghost use Rattle.sedmatch.specs.Stretches.{IsAnchored, StretchBytes};
+ghost use Rattle.sedmatch.specs.Direct.{FormSpans};
+ghost use Rattle.sedmatch.specs.Stretches.{StemLeads};
 
 use crate::direct::DirectForm;
 use crate::stretches::{Anchoring, Stretch};
@@ -15,44 +14,38 @@ use sedtext::links::Link;
 /// A byte of the one set, if there is one, and bytes of the other, any number of them, if there is one.
 #[derive(Clone, Copy)]
 pub struct Stem {
-    /// Whether it is at the beginning of the text.
-    pub at_start: bool,
     /// The set of the byte.
     pub first: Option<ByteSet>,
     /// The set of those that follow.
     pub rest: Option<ByteSet>,
-    /// Whether it is at the end of the text.
-    pub at_end: bool,
+    /// At which ends of the text it is, if at some.
+    pub ends: Option<Anchoring>,
 }
-
-/// No byte at all, anywhere.
-const NO_BYTE: Stem = Stem {
-    at_start: false,
-    first: None,
-    rest: None,
-    at_end: false,
-};
 
 /// The stem that the link and the stem behind it are together, if they are one.
 fn stem_with(link: &Link, stem: Stem) -> Option<Stem>
     ensures { IfSome result (λ s. (nodes : List Node) (w : List ℕ) (i j : ℕ) →
         StemLeads s w i j ↔ ((k : ℕ) × LinkLeads nodes w link.now i k × StemLeads stem w k j)) }
 {
-    match (link, stem.at_start, stem.first, stem.rest, stem.at_end) {
-        (Link::Start, _, _, _, _) => Some(Stem {
-            at_start: true,
+    match (link, stem.ends, stem.first, stem.rest) {
+        (Link::Start, None | Some(Anchoring::AtStart), _, _) => Some(Stem {
+            ends: Some(Anchoring::AtStart),
             ..stem
         }),
-        (Link::Byte(set), false, None, _, _) => Some(Stem {
+        (Link::Start, Some(Anchoring::AtEnd | Anchoring::Whole), _, _) => Some(Stem {
+            ends: Some(Anchoring::Whole),
+            ..stem
+        }),
+        (Link::Byte(set), None | Some(Anchoring::AtEnd), None, _) => Some(Stem {
             first: Some(*set),
             ..stem
         }),
-        (Link::Run(set), false, None, None, _) => Some(Stem {
+        (Link::Run(set), None | Some(Anchoring::AtEnd), None, None) => Some(Stem {
             rest: Some(*set),
             ..stem
         }),
-        (Link::End, false, None, None, false) => Some(Stem {
-            at_end: true,
+        (Link::End, None, None, None) => Some(Stem {
+            ends: Some(Anchoring::AtEnd),
             ..stem
         }),
         _ => None,
@@ -60,10 +53,14 @@ fn stem_with(link: &Link, stem: Stem) -> Option<Stem>
 }
 
 /// The stem that the chain is, if it is one.
-fn stem_of(chain: &[Link]) -> Option<Stem>
+pub fn stem_of(chain: &[Link]) -> Option<Stem>
     ensures { IfSome result (λ s. (nodes : List Node) (w : List ℕ) (i j : ℕ) → ChainLeads nodes w chain.now i j ↔ StemLeads s w i j) }
 {
-    let mut stem = NO_BYTE;
+    let mut stem = Stem {
+        first: None,
+        rest: None,
+        ends: None,
+    };
     for x in (0..chain.len()).rev() {
         stem = stem_with(&chain[x], stem)?;
     }
@@ -81,42 +78,15 @@ fn same_set(set: &Option<ByteSet>, other: &Option<ByteSet>) -> bool
     }
 }
 
-/// The stem of two that are the same one, at the beginning of the text and at its end.
-fn either_stem(left: Stem, right: Stem) -> Option<Stem>
-    ensures { IfSome result (AreEither left right) }
+/// The form of what the stem leads over.
+pub fn form_of(stem: Stem) -> DirectForm
+    ensures { (w : List ℕ) (i j : ℕ) → FormSpans result w i j ↔ StemLeads stem w i j }
 {
-    let placed = left.at_start && !left.at_end && !right.at_start && right.at_end;
-    if placed && same_set(&left.first, &right.first) && same_set(&left.rest, &right.rest) {
-        Some(left)
-    } else {
-        None
-    }
-}
-
-/// The form of the stem's matches, where they are anchored so.
-fn form_of(stem: &Stem, anchoring: Option<Anchoring>) -> DirectForm
-    ensures { (w : List ℕ) (i j : ℕ) → FormSpans result w i j ↔ (StretchBytes stem.now.first stem.now.rest w i j × IsAnchored anchoring w i j) }
-{
-    let stretch = Stretch {
+    DirectForm::Stretch(Stretch {
         first: stem.first.as_ref().map(SetFinder::of),
         rest: stem.rest,
-    };
-    match anchoring {
-        None => DirectForm::Stretch(stretch),
-        Some(ends) => DirectForm::Anchored(stretch, ends),
-    }
-}
-
-/// Where the stem is.
-fn anchoring_of(stem: &Stem) -> Option<Anchoring>
-    ensures { (w : List ℕ) (i j : ℕ) → IsAnchored result w i j ↔ IsPlaced stem.now w i j }
-{
-    match (stem.at_start, stem.at_end) {
-        (false, false) => None,
-        (true, false) => Some(Anchoring::AtStart),
-        (false, true) => Some(Anchoring::AtEnd),
-        (true, true) => Some(Anchoring::Whole),
-    }
+        ends: stem.ends,
+    })
 }
 
 /// The form of two alternatives that are the same stem, at the beginning of the text and at its end.
@@ -124,14 +94,13 @@ pub fn form_at_ends(left: &[Link], right: &[Link]) -> Option<DirectForm>
     ensures { IfSome result (λ f. (nodes : List Node) (w : List ℕ) (i j : ℕ) →
         (ChainLeads nodes w left.now i j ⊎ ChainLeads nodes w right.now i j) ↔ FormSpans f w i j) }
 {
-    let stem = either_stem(stem_of(left)?, stem_of(right)?)?;
-    Some(form_of(&stem, Some(Anchoring::AtEitherEnd)))
-}
-
-/// The form of the chain, if what it leads over is a stretch.
-pub fn stretch_of(chain: &[Link]) -> Option<DirectForm>
-    ensures { IfSome result (LeadsAs chain.now) }
-{
-    let stem = stem_of(chain)?;
-    Some(form_of(&stem, anchoring_of(&stem)))
+    let (left, right) = (stem_of(left)?, stem_of(right)?);
+    let same = same_set(&left.first, &right.first) && same_set(&left.rest, &right.rest);
+    match (left.ends, right.ends) {
+        (Some(Anchoring::AtStart), Some(Anchoring::AtEnd)) if same => Some(form_of(Stem {
+            ends: Some(Anchoring::AtEitherEnd),
+            ..left
+        })),
+        _ => None,
+    }
 }

@@ -1,5 +1,5 @@
 //! An expression that is sought many times.
-ghost use Rattle.std.specs.Prelude.{◌≡◌, ℕ, ◌+◌, ◌-◌, ◌*◌, ◌<◌, ◌≤◌, ◌↔◌, length, IfOk, IfSome, IsTrue, is_some, nat_lt, if◌then◌else◌, None};
+ghost use Rattle.std.specs.Prelude.{◌≡◌, ℕ, ◌+◌, ◌-◌, ◌*◌, ◌≤◌, ◌↔◌, length, IfOk, IfSome, IsTrue, is_some};
 ghost use Rattle.sedre.specs.Tree.{WrittenExpression, expression_tree};
 ghost use Rattle.sedre.specs.Steps.{Takes, TakesAtLeast};
 ghost use Rattle.sedtext.specs.Costs.{CostsWithin};
@@ -15,19 +15,19 @@ ghost use Rattle.sedpass.specs.Walks.{EntersGroups};
 ghost use Rattle.sedmatch.specs.Direct.{IsDirect};
 ghost use Rattle.sedmatch.specs.Occurrences.{ServesFrom, ServesOn, AnswersNext, owed, owed_after, owed_direct, owed_direct_after};
 ghost use Rattle.sedmatch.specs.Passes.{ArePasses, IsDeskFor, KeepsDesk, KeepsPasses};
-ghost use Rattle.sedmatch.specs.Stretches.{end_or};
 
 use crate::Span;
-use crate::direct::{
-    DirectForm, direct_candidate, direct_form_of, direct_matches, direct_span, is_expression,
-};
+use crate::direct::{DirectForm, direct_form_of, direct_matches, direct_span, is_expression};
 use crate::occurrences::{Occurrences, is_null_at, next_by};
-use crate::passes::{Passes, candidate_by, groups_by, matches_by, new_passes, whole_alone};
+use crate::passes::{Passes, groups_by, matches_by, new_passes, size_of, whole_alone};
 use crate::scratch::{Desk, Scratch};
+use crate::stretches::find_first;
 use crate::table_room::TableRoom;
 use sedpass::nodes::Prepared;
 use sedre::{Expr, Steps};
+use sedtext::beginnings::Begins;
 use sedtext::counted::Text;
+use sedtext::counted::lookups::{find_literal, sift};
 use sedtext::links::chain_of;
 use std::alloc::{AllocError, Global};
 use std::marker::Model;
@@ -63,24 +63,6 @@ impl Model for TableMatcher {
     ghost invariant = { λ m. IsEngine m.engine };
 }
 
-/// The match sought one byte further on by a look at the text, if it goes on.
-// It is seldom called, and so kept out of its caller.
-#[inline(never)]
-fn past_null(form: &DirectForm, text: &Text, at: usize, steps: &mut Steps) -> Option<Span>
-    requires at { at ≤ length text.now }
-    ensures next { (e : WrittenExpression) → IsDirect e form.now →
-        result ≡ if nat_lt at (length text.now) then leftmost_longest (expression_tree e) text.now (at + 1) else None }
-    ensures lies { IfSome result (λ f. (at + 1 ≤ f.0) × (f.0 ≤ f.1) × (f.1 ≤ length text.now)) }
-    ensures cost { CostsWithin steps.old steps.new (4 * (end_or (length text.now) result + 1)) (4 * (at + 1)) }
-    ensures counts { IfSome result (λ f. TakesAtLeast steps.old steps.new (f.1 - f.0)) }
-    ensures passes { (e : WrittenExpression) → IsDirect e form.now → CanEndEarly (expression_tree e) → IfSome result (λ f. TakesAtLeast steps.old steps.new (f.1 - (at + 1))) }
-{
-    if at >= text.len() {
-        return None;
-    }
-    direct_span(form, text, at + 1, steps)
-}
-
 /// The next occurrence by a look at the text.
 #[inline(always)]
 fn next_direct(
@@ -96,12 +78,13 @@ fn next_direct(
     ensures counts { IfSome result (λ f. TakesAtLeast steps.old steps.new (f.1 - f.0)) }
     ensures passes { (e : WrittenExpression) → IsDirect e form.now → CanEndEarly (expression_tree e) → IfSome result (λ f. TakesAtLeast steps.old steps.new (bytes_passed last f)) }
 {
-    let at = last.unwrap_or(0);
-    let first = direct_span(form, text, at, steps);
-    if last.is_none() || !is_null_at(first, at) {
-        return first;
+    let first = direct_span(form, text, last.unwrap_or(0), steps);
+    match last {
+        None => first,
+        Some(at) if !is_null_at(first, at) => first,
+        Some(at) if at < text.len() => direct_span(form, text, at + 1, steps),
+        Some(_) => None,
     }
-    past_null(form, text, at, steps)
 }
 
 /// The next occurrence by passes.
@@ -123,10 +106,10 @@ fn next_by_passes(
 {
     let prepared = &passes.prepared;
     if let Some(own) = &mut passes.own {
-        let forward_one = &mut own.groups.forward_one;
+        let forward_one = &mut own.forward_one;
         return next_by(prepared, text, forward_one, occurrences, last, steps);
     }
-    let forward_one = &mut desk.shared.groups.forward_one;
+    let forward_one = &mut desk.shared.forward_one;
     forward_one.fit(prepared);
     next_by(prepared, text, forward_one, occurrences, last, steps)
 }
@@ -168,7 +151,10 @@ impl TableMatcher {
     pub fn size_of_tables(&self) -> usize {
         match &self.engine {
             SearchMethod::Direct(_, _) => 0,
-            SearchMethod::Passes(passes) => passes.size_of_tables(),
+            SearchMethod::Passes(passes) => match &passes.own {
+                Some(own) => size_of(passes.prepared.nodes(), own.forward_any.room),
+                None => 0,
+            },
         }
     }
 
@@ -205,8 +191,19 @@ impl TableMatcher {
         ensures counts { IfSome result (λ k. TakesAtLeast steps.old steps.new k) }
     {
         match &self.engine {
-            SearchMethod::Direct(_, form) => direct_candidate(form, text, steps),
-            SearchMethod::Passes(passes) => candidate_by(&passes.prepared, text, steps),
+            SearchMethod::Direct(_, form) => match form {
+                DirectForm::Stretch(stretch) => find_first(stretch, text, 0, steps),
+                DirectForm::Literal(finder) => find_literal(text, finder, 0, steps),
+                DirectForm::FixedRun(_, _) => Some(0),
+            },
+            SearchMethod::Passes(passes) => {
+                let prepared = &passes.prepared;
+                match (&prepared.required, &prepared.begins) {
+                    (Some(required), _) => find_literal(text, &required.finder, 0, steps),
+                    (None, Begins::Before(sieve)) => sift(text, sieve, 0, steps),
+                    _ => Some(0),
+                }
+            },
         }
     }
 

@@ -1,38 +1,17 @@
 //! The search for an expression that is used once (XBD 9.1). It makes it ready for passes in the room of the scratch.
 ghost use Rattle.std.specs.Prelude.{◌≡◌, ◌+◌, ◌-◌, ◌*◌, ◌≤◌, length, IfNone, IfSome};
 ghost use Rattle.sedre.specs.Tree.{expression_tree};
-ghost use Rattle.sedtext.specs.Answer.{IsComputed, MatchAnswer, SpanAnswer};
+ghost use Rattle.sedtext.specs.Answer.{IsComputed, MatchAnswer};
 ghost use Rattle.sedtext.specs.SearchRoom.{FitInto};
 ghost use Rattle.sedre.specs.Steps.{StepsWithin, Takes, TakesAtLeast};
 ghost use Rattle.sedpass.specs.Walks.{EntersGroups};
-ghost use Rattle.sedmatch.specs.Passes.{IsDeskFor, KeepsDesk};
 
-use crate::Span;
 use crate::passes::shared_groups;
-use crate::scratch::{Desk, Scratch};
+use crate::scratch::Scratch;
 use sedpass::kept::Subject;
 use sedpass::search::next_kept;
 use sedre::{Expr, Steps};
 use sedtext::{Found, Text};
-
-/// Where the match begins and ends that [`find`] finds, of an expression that was made ready.
-fn first_span(subject: Subject, from: usize, desk: &mut Desk, steps: &mut Steps) -> Option<Span>
-    requires from { from ≤ length subject.text.now }
-    requires desk { IsDeskFor subject.prepared.now.arena.expr subject.text.now desk.old }
-    ensures desk { KeepsDesk desk.old desk.new }
-    ensures answer { SpanAnswer (expression_tree subject.entry.prepared.now.arena.expr) subject.entry.text.now from result }
-    ensures cost { let m = length subject.entry.prepared.now.arena.expr.nodes in
-        Takes steps.old steps.new (142 * m * length subject.entry.text.now + 42 * m) }
-    ensures counts { IfSome result (λ f. TakesAtLeast steps.old steps.new (f.1 - f.0)) }
-{
-    let forward_one = &mut desk.shared.groups.forward_one;
-    let reverse_any = &mut desk.reverse_any;
-    forward_one.fit(subject.prepared);
-    reverse_any.fit(subject.prepared);
-    let (kept, end) = (&mut desk.room.kept, subject.text.len());
-    kept.begin(subject, reverse_any, subject.prepared.root, end);
-    next_kept(subject, forward_one, reverse_any, kept, from, steps)
-}
 
 /// The leftmost-longest match that begins at `from` or later, with its groups. `None` exactly where there is no match.
 ///
@@ -65,11 +44,15 @@ pub fn find(
     scratch.prepared.fit(expr, steps);
     let prepared = &scratch.prepared;
     let subject = Subject { prepared, text };
-    let span = first_span(subject, from, &mut scratch.desk, steps)?;
-    let groups = shared_groups(subject, span, &mut scratch.desk, steps);
-    Some(Found {
-        start: span.0,
-        end: span.1,
-        groups,
-    })
+    let desk = &mut scratch.desk;
+    let forward_one = &mut desk.shared.forward_one;
+    let reverse_any = &mut desk.reverse_any;
+    forward_one.fit(subject.prepared);
+    reverse_any.fit(subject.prepared);
+    let kept = &mut desk.room.kept;
+    kept.begin(subject, reverse_any, prepared.root, text.len());
+    let span = next_kept(subject, forward_one, reverse_any, kept, from, steps)?;
+    let groups = shared_groups(subject, span, desk, steps);
+    let (start, end) = span;
+    Some(Found { start, end, groups })
 }

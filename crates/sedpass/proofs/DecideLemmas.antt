@@ -1,15 +1,15 @@
 -- The groups that are given as due, as the state of a decision; what nodes and regions cost.
-use Rattle.std.proofs.Common.{◌≡◌, ℕ, zero, suc, ◌+◌, ◌-◌, ◌*◌, ◌<◌, ◌≤◌, ◌↔◌, ◌&&◌, not, Bool, true, false, List, [], ◌∷◌, length, Option, None, Some, IsTrue, refl, sym, ap, ◌∙◌, subst, inl, inr, ⊎_elim, true≢false, arith, mul-le-mul_left, IfSome, eqb, nat_lt, slice_get, slice_set, slice_index_or, vec_capacity}
+use Rattle.std.proofs.Common.{rules, ◌≡◌, ℕ, zero, suc, ◌+◌, ◌-◌, ◌*◌, ◌<◌, ◌≤◌, ◌↔◌, ◌&&◌, not, Bool, true, false, List, [], ◌∷◌, length, Option, None, Some, IsTrue, refl, sym, ap, ◌∙◌, subst, inl, inr, ⊎_elim, true≢false, arith, mul-le-mul_left, IfSome, eqb, nat_lt, slice_get, slice_set, slice_index_or, vec_capacity}
 use Rattle.sedpass.proofs.Words.{bit_at, and_parts, and_from, cases_Bool, cases_lt, lt-ltb, le-ltb, cond_some, ext_get_or, length-set, mul-le-mul_right, Tree, tree_at, IsArena, IsExpr, IsPart, AreRanges, Takes, Node, NodeId, Set, Seq, Group, Star, tree_at-node, LastCut, LastCopy, CostsWithin, SpansOfGroups, HasSpan, one_start, CopiesLead, node_at, close_at, Matches-forward, GroupSet, Matched, Kept, Region, Subject, Facts, Table}
-use Rattle.sedpass.specs.Decide.{spans_in, undecided, HasAll, flags_of, known_groups, EndsRegion, IsAtEnd, IsGroupDesk, HasDesk, IsSetAt, AreGroupTables, HasSpace, SameTables, KeepsGroupDesk, part_cost, nodes_in, subject_text, NoneSettled, NodeMatches}
+use Rattle.sedpass.specs.Decide.{spans_in, undecided, HasAll, flags_of, known_groups, EndsRegion, IsAtEnd, IsGroupDesk, HasDesk, IsSetAt, AreTables, HasSpace, KeepsGroupDesk, part_cost, nodes_in, subject_text, NoneSettled, NodeMatches}
 use Rattle.sedpass.specs.Kept.{AllMarked, SameKept, SameSpace, ends_shown, owed_region, KeepsRegion}
 use Rattle.sedpass.specs.Prepared.{IsFacts, is_one_set, repeated_set, reported, holds, AllLong}
 use Rattle.sedpass.specs.Regions.{CeasesAt, IsLastIn, NextCopy, ReachesEnd, IsRunOf, repeated, in_group}
 use Rattle.sedpass.specs.Table.{IsTable, SameShape, MayBegin}
 use Rattle.sedpass.specs.Walks.{settle, drop_groups, NoneDue, IsFirstState, has_group}
 use Rattle.sedpass.specs.declared.groups.GroupRoom.{GroupRoom}
-use Rattle.sedpass.specs.declared.groups.GroupTables.{GroupTables}
-use Rattle.sedpass.proofs.KeptLemmas.{same_shape, space_same, space_then}
+use Rattle.sedpass.specs.declared.groups.Tables.{Tables}
+use Rattle.sedpass.proofs.KeptLemmas.{space_then}
 use Rattle.sedpass.proofs.LeaveLemmas.{last_inside}
 use Rattle.sedpass.proofs.LengthLemmas.{all_long, copies_long, left_long, right_long}
 use Rattle.sedpass.proofs.MeetingLemmas.{run_stops, set_early, stops_at_copy, stops_at_cut}
@@ -192,12 +192,12 @@ run_shown nodes groups x facts (Some c) expr inside is decided = run_within (x +
 -- Regions.
 
 -- the match ends at the one end that a kept pass answers for
-pub ends_there : (s : Subject) (tables : GroupTables) (kept : Kept) (here : Matched) (node : Node) → IsAtEnd s tables kept here node →
+pub ends_there : (s : Subject) (tables : Tables) (kept : Kept) (here : Matched) (node : Node) → IsAtEnd s tables kept here node →
     ends_shown tables.reverse_one.way.all_starts (length (subject_text s)) kept.region.end ≡ one_start here.stop
 ends_there s tables kept here node at = rw at.desk.one_end (ap one_start (sym at.ends.1))
 
 -- where a pass over the left part ceases to meet the kept one is the cut
-pub cut_ceases : (s : Subject) (tables : GroupTables) (kept : Kept) (here : Matched) (a b : NodeId) (p : ℕ) → IsAtEnd s tables kept here (Seq a b) →
+pub cut_ceases : (s : Subject) (tables : Tables) (kept : Kept) (here : Matched) (a b : NodeId) (p : ℕ) → IsAtEnd s tables kept here (Seq a b) →
     CeasesAt (nodes_in s) (subject_text s) kept.region.root (ends_shown tables.reverse_one.way.all_starts (length (subject_text s)) kept.region.end) a.index here.start p →
     LastCut (HasSpan (nodes_in s) (subject_text s) a.index) (HasSpan (nodes_in s) (subject_text s) b.index) here.start here.stop p
 cut_ceases s tables kept here a b p at ceases =
@@ -206,7 +206,7 @@ cut_ceases s tables kept here a b p at ceases =
     (subst (λ t. CeasesAt (nodes_in s) (subject_text s) kept.region.root t a.index here.start p) (ends_there s tables kept here (Seq a b) at) ceases)
 
 -- so is the end of a run, where the left part is one
-pub cut_runs : (s : Subject) (tables : GroupTables) (kept : Kept) (here : Matched) (a b : NodeId) (leaf p : ℕ) → IsAtEnd s tables kept here (Seq a b) → IsRunOf (nodes_in s) leaf a.index → IsSetAt (nodes_in s) leaf →
+pub cut_runs : (s : Subject) (tables : Tables) (kept : Kept) (here : Matched) (a b : NodeId) (leaf p : ℕ) → IsAtEnd s tables kept here (Seq a b) → IsRunOf (nodes_in s) leaf a.index → IsSetAt (nodes_in s) leaf →
     here.start ≤ p → AllMarked (nodes_in s) (subject_text s) kept.region.root (ends_shown tables.reverse_one.way.all_starts (length (subject_text s)) kept.region.end) leaf true here.start p →
     (p < kept.region.end → IsTrue false ↔ ReachesEnd (nodes_in s) (subject_text s) kept.region.root (ends_shown tables.reverse_one.way.all_starts (length (subject_text s)) kept.region.end) leaf p) →
     LastCut (HasSpan (nodes_in s) (subject_text s) a.index) (HasSpan (nodes_in s) (subject_text s) b.index) here.start here.stop p
@@ -224,7 +224,7 @@ cut_runs s tables kept here a b leaf p at run a_set up passed found =
     true≢false (sym ((last (omega arith)).1 reaches)))
 
 -- where a pass over the part of a repetition ceases to meet the kept one is the end of the next copy
-pub copy_ceases : (s : Subject) (tables : GroupTables) (kept : Kept) (here : Matched) (a : NodeId) (first : Bool) (i p : ℕ) → IsAtEnd s tables kept here (Star a first) →
+pub copy_ceases : (s : Subject) (tables : Tables) (kept : Kept) (here : Matched) (a : NodeId) (first : Bool) (i p : ℕ) → IsAtEnd s tables kept here (Star a first) →
     CopiesLead (HasSpan (nodes_in s) (subject_text s) a.index) here.stop i → i < here.stop →
     CeasesAt (nodes_in s) (subject_text s) kept.region.root (ends_shown tables.reverse_one.way.all_starts (length (subject_text s)) kept.region.end) a.index i p →
     NextCopy (HasSpan (nodes_in s) (subject_text s) a.index) i here.stop p
@@ -240,29 +240,20 @@ ends_still s old new here same ends = (subst (λ r. IsLastIn (nodes_in s) r here
 
 -- The desk.
 
-pub tables_same : (t : GroupTables) → SameTables t t
-tables_same t = record { reverse_one = (refl, refl, refl, refl, refl); forward_one = (refl, refl, refl, refl, refl) }
-
-pub tables_then : (a b c : GroupTables) → SameTables a b → SameTables b c → SameTables a c
-tables_then a b c one two = record { reverse_one = same_shape a.reverse_one b.reverse_one c.reverse_one one.reverse_one two.reverse_one; forward_one = same_shape a.forward_one b.forward_one c.forward_one one.forward_one two.forward_one }
-
-pub desk_same : (s : Subject) (t : GroupTables) (k : Kept) → IsGroupDesk s t k → KeepsGroupDesk s t t k k
-desk_same s t k desk = record { desk = desk; shape = tables_same t; space = space_same k }
-
-pub desk_then : (s : Subject) (a b c : GroupTables) (k l m : Kept) → KeepsGroupDesk s a b k l → KeepsGroupDesk s b c l m → KeepsGroupDesk s a c k m
-desk_then s a b c k l m one two = record { desk = two.desk; shape = tables_then a b c one.shape two.shape; space = space_then k l m one.space two.space }
+pub desk_then : (s : Subject) (a b c : Tables) (k l m : Kept) → KeepsGroupDesk s a b k l → KeepsGroupDesk s b c l m → KeepsGroupDesk s a c k m
+desk_then s a b c k l m one two = record { desk = two.desk; shape = search rules; space = space_then k l m one.space two.space }
 
 -- after passes of both tables
-pub desk_forward_one : (s : Subject) (t : GroupTables) (reverse_one forward_one : Table) (old new : Kept) → IsGroupDesk s t old → KeepsRegion s.prepared.now s.text.now t.reverse_one reverse_one old new → IsTable s.prepared.now forward_one → SameShape t.forward_one forward_one →
-    KeepsGroupDesk s t (record { forward_one = forward_one; reverse_one = reverse_one }) old new
+pub desk_forward_one : (s : Subject) (t : Tables) (reverse_one forward_one : Table) (old new : Kept) → IsGroupDesk s t old → KeepsRegion s.prepared.now s.text.now t.reverse_one reverse_one old new → IsTable s.prepared.now forward_one → SameShape t.forward_one forward_one →
+    KeepsGroupDesk s t (record t { forward_one = forward_one; reverse_one = reverse_one }) old new
 desk_forward_one s t reverse_one forward_one old new desk keeps table same = record {
   desk = record { region = keeps.kept; one_end = ap (λ v. v.all_starts) keeps.shape.0 ∙ desk.one_end; forward_one = forward_one_still s.prepared.now t.forward_one forward_one desk.forward_one table same };
-  shape = record { reverse_one = keeps.shape; forward_one = same };
+  shape = record { forward_any = refl; reverse_one = keeps.shape; forward_one = same };
   space = keeps.same.space;
 }
 
 -- passes for any node may begin
-pub may_begin : (s : Subject) (tables : GroupTables) (x : ℕ) → tables.reverse_one.way.all_starts ≡ false → x < length (nodes_in s) → MayBegin s.prepared.now tables.reverse_one.way x
+pub may_begin : (s : Subject) (tables : Tables) (x : ℕ) → tables.reverse_one.way.all_starts ≡ false → x < length (nodes_in s) → MayBegin s.prepared.now tables.reverse_one.way x
 may_begin s tables x one_end inside = (inside, λ all_starts. absurd (true≢false (sym all_starts ∙ one_end)))
 
 -- Costs.
@@ -306,7 +297,7 @@ look_paid s r here before after left ends paid = (paid.0, look_long (length (nod
 -- Tables and room that were made.
 
 -- where there is room, groups can be decided
-pub has_desk : (s : Subject) (t : GroupTables) (r : GroupRoom) (text blocks nodes : ℕ) → AreGroupTables s.prepared.now t → HasSpace text blocks nodes r →
+pub has_desk : (s : Subject) (t : Tables) (r : GroupRoom) (text blocks nodes : ℕ) → AreTables s.prepared.now t → HasSpace text blocks nodes r →
     length (subject_text s) ≤ text → length (subject_text s) < blocks * (t.reverse_one.room - 1) → length (nodes_in s) ≤ nodes → HasDesk s t r.kept
 has_desk s t r text blocks nodes tables space short cut few = record {
   reverse_one = tables.reverse_one;

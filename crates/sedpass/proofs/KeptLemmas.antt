@@ -303,21 +303,6 @@ block_cost m low high s a t less edge pass =
 
 -- The whole region, and a block of it.
 
--- a pass begins at the place
-pub passes_first : (p : Prepared) (w : List ℕ) (t after : Table) (k other : Kept) (place offset : ℕ) → IsRegion p w t k → SameShape t after → IsTable p after → other.states ≡ k.states → other.edges ≡ k.edges →
-    other.region.root ≡ k.region.root → other.region.end ≡ k.region.end → other.region.to ≡ place → place ≤ k.region.end → IsOffset after offset →
-    KeptAt p w after.way k.region.root k.region.end place (state_of (length p.arena.expr.nodes) after (offset / 2 ^ after.layout.shift)) → PassesDownTo p w after other place offset
-passes_first p w t after k other place offset region shape table states edges root end to within there at =
-    let m = length p.arena.expr.nodes in
-    record {
-      region = region_kept p w t after k other shape table (ap (λ v. vec_capacity v) states) (ap (λ v. length v.items) states) edges root end (rw to within) region;
-      within = rw end within;
-      above = omega (arith, to);
-      there = there;
-      at = rw (root, end) at;
-      live = λ q from before. absurd (omega (arith, to, from, before));
-    }
-
 -- what a pass came down to is kept
 pub kept_passed : (p : Prepared) (w : List ℕ) (t : Table) (k other : Kept) (place offset : ℕ) → PassesDownTo p w t k place offset → EdgesFrom p w t k other.region.low → other.region.low ≤ place → other.region.from ≡ place →
     other.states ≡ k.states → other.edges ≡ k.edges → other.region.root ≡ k.region.root → other.region.end ≡ k.region.end → other.region.to ≡ k.region.to → IsKept p w t other

@@ -136,9 +136,6 @@ owed_left m old place s t u k other same count paid =
 pub seek_on : (o a b e s s0 s1 s2 from place found : ℕ) → s + (a + 2 * from) ≤ s0 + (o + 2 * place) → s1 + b ≤ s + a → s2 + place ≤ s1 + (found + 1) → e ≤ b → place < found → s2 + (e + 2 * from) ≤ s0 + (o + 2 * found)
 seek_on o a b e s s0 s1 s2 from place found before ready seek falls up = omega arith
 
-pub seek_at : (o a b e s s0 s1 s2 from place found : ℕ) → s + (a + 2 * from) ≤ s0 + (o + 2 * place) → s1 + b ≤ s + a → s2 + place ≤ s1 + (found + 1) → e ≤ b → place ≤ found → s2 + (e + 2 * from) ≤ s0 + (o + 2 * found + 2)
-seek_at o a b e s s0 s1 s2 from place found before ready seek falls up = omega arith
-
 -- the same of a pass forwards
 pub cut_on : (m o a b e s s0 s1 s2 from place found : ℕ) → s + (a + 36 * m * from) ≤ s0 + (o + 36 * m * place) → s1 + b ≤ s + a → s2 + 36 * m * place ≤ s1 + 36 * m * found → e ≤ b → s2 + (e + 36 * m * from) ≤ s0 + (o + 36 * m * found)
 cut_on m o a b e s s0 s1 s2 from place found before ready meet falls = omega (arith, before, ready, meet, falls)

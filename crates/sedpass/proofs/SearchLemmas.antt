@@ -2,10 +2,10 @@
 use Rattle.std.proofs.Common.{inl, inr, ◌≡◌, ℕ, zero, suc, ◌+◌, ◌-◌, ◌*◌, ◌/◌, ◌<◌, ◌≤◌, ◌↔◌, Bool, true, false, max, List, length, Option, Some, None, IsTrue, refl, sym, ap, ◌∙◌, subst, ⊎_elim, true≢false, arith, mul-le-mul_left, IfSome, if◌then◌else◌}
 use Rattle.sedpass.proofs.Words.{cases_lt, IsArena, WrittenExpression, expression_tree, Tree, TakesAtLeast, SpanAnswer, Starts, HasSpan, one_start, IsLongestFrom, starts_to, AllBegin, NextStart, NoneIn, Table, Matches, IsLeftmostLongest, NotFound, SomeFound, Matches-forward, Matches-within, Region, Seeking, Prepared, least_less, least_none, least_both, least_since, Kept, Way}
 use Rattle.sedtext.specs.declared.beginnings.Begins.{Begins}
-use Rattle.sedpass.specs.Table.{IsTable, SameShape, PassState, state_of, LeadsOn, NamesState, cell_of, MayBegin, IsColumn, IsForwardOne}
+use Rattle.sedpass.specs.Table.{IsTable, SameShape, PassState, state_of, LeadsOn, NamesState, cell_of, MayBegin, IsColumn}
 use Rattle.sedpass.specs.Kept.{AllMarked, SameSpace, ends_shown, IsKept, IsRegion}
 use Rattle.sedpass.specs.Regions.{CeasesAt, all_of, ReachesEnd}
-use Rattle.sedpass.specs.Search.{LooksFrom, TrialsMade, owed_after_search, owed_kept, owed_seeking, search_cost, SearchServes, MaySearch, Searched}
+use Rattle.sedpass.specs.Search.{LooksFrom, TrialsMade, owed_after_search, owed_kept, owed_seeking, search_cost, SearchServes, Searched}
 use Rattle.sedpass.proofs.KeptLemmas.{space_same, same_shape, space_then}
 use Rattle.sedpass.proofs.OwedLemmas.{owed_small}
 use Rattle.sedpass.specs.declared.search.Trials.TheVariants.{Tired}
@@ -90,14 +90,13 @@ shown_whole : (P : ℕ → Starts → Type 0) (p : Prepared) (n : ℕ) (b : Bool
 shown_whole P p n b r end all_starts root shown = subst (λ v. P p.root (ends_shown v n end)) all_starts (subst (λ v. P v (ends_shown b n end)) root shown)
 
 -- no match is found where the root is marked nowhere, nor null at the end
-pub kept_none : (p : Prepared) (w : List ℕ) (b : Bool) (r end from start : ℕ) (begins : Bool) → IsArena p.arena.expr.nodes → IsTrue b → r ≡ p.root → start ≤ length w →
-    AllMarked p.arena.expr.nodes w r (ends_shown b (length w) end) p.root false from start → (start < length w → IsTrue begins) → (start ≡ length w → IsTrue begins ↔ HasSpan p.arena.expr.nodes w p.root start start) → begins ≡ false →
+pub kept_none : (p : Prepared) (w : List ℕ) (b : Bool) (r end from start : ℕ) (null : Bool) → IsArena p.arena.expr.nodes → IsTrue b → r ≡ p.root → start ≡ length w →
+    AllMarked p.arena.expr.nodes w r (ends_shown b (length w) end) p.root false from start → (IsTrue null ↔ HasSpan p.arena.expr.nodes w p.root start start) → null ≡ false →
     NotFound (expression_tree p.arena.expr) w from
-kept_none p w b r end from start begins arena all_starts root low none inside null is =
-    let at : start ≡ length w = ⊎_elim (λ (lt : start < length w). absurd (true≢false (sym (inside lt) ∙ is))) (λ (ge : length w ≤ start). omega arith) (cases_lt start (length w)) in
-    let before = none_marked p w arena from start low (shown_whole (λ v t. AllMarked p.arena.expr.nodes w v t p.root false from start) p (length w) b r end all_starts root none) in
+kept_none p w b r end from start null arena all_starts root at none shows is =
+    let before = none_marked p w arena from start (omega arith) (shown_whole (λ v t. AllMarked p.arena.expr.nodes w v t p.root false from start) p (length w) b r end all_starts root none) in
     none_kept p w arena from (subst (NoneIn (expression_tree p.arena.expr) w from) at before)
-    (λ span. absurd (true≢false (sym ((null at).1 (subst (λ v. HasSpan p.arena.expr.nodes w p.root v v) (sym at) span)) ∙ is)))
+    (λ span. absurd (true≢false (sym (shows.1 (subst (λ v. HasSpan p.arena.expr.nodes w p.root v v) (sym at) span)) ∙ is)))
 
 -- where one begins, and a pass from there ceases to meet the kept one, is the one sought
 pub kept_found : (p : Prepared) (w : List ℕ) (b : Bool) (r end : ℕ) (b' : Bool) (r' end' from start stop : ℕ) → IsArena p.arena.expr.nodes → IsTrue b → r ≡ p.root → IsTrue b' → r' ≡ p.root → from ≤ start → start ≤ length w →
@@ -109,13 +108,13 @@ kept_found p w b r end b' r' end' from start stop arena all_starts root all_star
     found_at p.arena.expr w from start stop after (none_marked p w arena from start low marked) (longest_kept p w arena start stop begins.0 low begins.1 met)
 
 -- one begins where the root is marked before the end, or, at the end, where it is null
-pub begins_some : (p : Prepared) (w : List ℕ) (b : Bool) (r end start : ℕ) (begins : Bool) → IsArena p.arena.expr.nodes → IsTrue b → r ≡ p.root → end ≡ length w → start ≤ length w →
-    (start < end → IsTrue true ↔ ReachesEnd p.arena.expr.nodes w r (ends_shown b (length w) end) p.root start) → (start ≡ length w → IsTrue begins ↔ HasSpan p.arena.expr.nodes w p.root start start) → IsTrue begins →
+pub begins_some : (p : Prepared) (w : List ℕ) (b : Bool) (r end start : ℕ) → IsArena p.arena.expr.nodes → IsTrue b → r ≡ p.root → end ≡ length w → start ≤ length w →
+    (start < end → IsTrue true ↔ ReachesEnd p.arena.expr.nodes w r (ends_shown b (length w) end) p.root start) → (start ≡ length w → HasSpan p.arena.expr.nodes w p.root start start) →
     (k : ℕ) × Matches (expression_tree p.arena.expr) w start k
-begins_some p w b r end start begins arena all_starts root whole low found null is =
+begins_some p w b r end start arena all_starts root whole low found null =
     ⊎_elim
     (λ (lt : start < end). (begins_at p w arena start low).0 (shown_whole (λ v t. ReachesEnd p.arena.expr.nodes w v t p.root start) p (length w) b r end all_starts root ((found lt).0 refl)))
-    (λ (ge : end ≤ start). let at : start ≡ length w = omega arith in (start, (root_spans p w start start).0 ((null at).0 is)))
+    (λ (ge : end ≤ start). let at : start ≡ length w = omega arith in (start, (root_spans p w start start).0 (null at)))
     (cases_lt start end)
 
 -- Costs.
@@ -348,21 +347,7 @@ comes_tired p w a a' old mid from place before after shape space is is' few made
       counts = made.counts;
     }
 
--- a search by trials leaves all as it was but for the table of passes forwards
-pub searched_by : (p : Prepared) (w : List ℕ) (a a' b : Table) (s : Seeking) (tried : ℕ) → MaySearch p w a b s → IsForwardOne p a' → SameShape a a' →
-    Searched p w a a' b b s (record s { tried = tried })
-searched_by p w a a' b s tried ready forward_one shape =
-    record {
-      tables = record { forward_one = forward_one; forward_one_shape = shape; reverse_any_shape = (refl, refl, refl, refl, refl); space = record { places = refl; edges = refl; marks = λ q. refl } };
-      serves = record {
-        table = ready.serves.table;
-        room = (let room = ready.serves.room in record { mirrored = room.mirrored; places = room.places; blocks = room.blocks; marks = room.marks });
-        all_starts = ready.serves.all_starts;
-        kept = ready.serves.kept;
-      };
-    }
-
--- and another one after it
+-- one search after another
 pub searched_then : (p : Prepared) (w : List ℕ) (a1 a2 a3 b1 b2 b3 : Table) (s1 s2 s3 : Seeking) → Searched p w a1 a2 b1 b2 s1 s2 → Searched p w a2 a3 b2 b3 s2 s3 → Searched p w a1 a3 b1 b3 s1 s3
 searched_then p w a1 a2 a3 b1 b2 b3 s1 s2 s3 one two = record {
   tables = record {

@@ -1,14 +1,14 @@
 -- What holds while a spine is followed from node to node, and while tasks wait.
-use Rattle.std.proofs.Common.{◌≡◌, ℕ, zero, suc, true, false, true≢false, ◌+◌, ◌-◌, ◌*◌, ◌≤◌, List, [], ◌∷◌, ◌++◌, length, reverse, Option, None, Some, refl, sym, ap, ◌∙◌, subst, inl, inr, arith, mul-le-mul_left, slice_index_or}
-use Rattle.sedpass.proofs.Words.{reverse-append, size, Tree, tree_at, expression_tree, Node, IsReport, SpansOfGroups, Matches, size-pos, GroupSet, Matched, GroupTask, Apart, Forget, Done, One, Two, Decided, Region, Subject, least_less, least_none, least_both}
+use Rattle.std.proofs.Common.{◌≡◌, ℕ, zero, suc, true, false, true≢false, ◌+◌, ◌-◌, ◌*◌, ◌≤◌, List, [], ◌∷◌, ◌++◌, ◌&&◌, not, length, reverse, Option, None, Some, refl, sym, ap, ◌∙◌, subst, arith, mul-le-mul_left, slice_index_or}
+use Rattle.sedpass.proofs.Words.{reverse-append, size, Tree, tree_at, expression_tree, Node, IsReport, SpansOfGroups, Matches, size-pos, GroupSet, Matched, GroupTask, Apart, Forget, Done, One, Two, Decided, Facts, Region, Subject, least_less, least_none, least_both}
 use Rattle.sedre.specs.Steps.{Takes, TakesExactly, TakesAtLeast}
-use Rattle.sedpass.specs.Decide.{known_groups, known_groups_in, spans_in, GoesOn, HasBlank, IsTurn, Turned, Works, undecided, next_of, part_cost, kind_cost, nodes_in, subject_text, AreReady, AreShort, AreWithin, RunsTasks, weights, looks, descents, tasks_after, entered_at}
-use Rattle.sedpass.specs.Prepared.{holds}
-use Rattle.sedpass.specs.Walks.{GroupState, drop_groups, WalkEnters}
+use Rattle.sedpass.specs.Decide.{known_groups, known_groups_in, spans_in, HasBlank, NoneSettled, IsTurn, NodeTurned, Works, undecided, next_of, part_cost, kind_cost, nodes_in, subject_text, AreReady, AreShort, AreWithin, RunsTasks, weights, looks, descents, tasks_after, entered_at}
+use Rattle.sedpass.specs.Prepared.{IsFacts, holds}
+use Rattle.sedpass.specs.Walks.{GroupState, NoneDue, drop_groups, WalkEnters}
 use Rattle.sedpass.specs.declared.groups.Then.{Then}
-use Rattle.sedpass.proofs.DecideLemmas.{flags_at}
+use Rattle.sedpass.proofs.DecideLemmas.{dropped, flags_at, still_whole}
 use Rattle.sedpass.proofs.OneGroupLemmas.{wanted}
-use Rattle.sedpass.proofs.TurnLemmas.{left_turn}
+use Rattle.sedpass.proofs.TurnLemmas.{drop_blank, left_turn}
 
 -- Tasks that are done.
 
@@ -43,18 +43,21 @@ works_then s t0 t1 t2 a b c d e n x y z few one two = record {
 }
 
 -- groups are forgotten
-pub works_forget : (s : Subject) (x : ℕ) (rest : List GroupTask) (old new : Decided) (steps : ℕ) → AreReady (nodes_in s) (subject_text s) (Forget x ∷ rest) → HasBlank new →
-    known_groups_in new ≡ drop_groups (tree_at (nodes_in s) x) (known_groups_in old) → new.spans ≡ old.spans → Works s (Forget x ∷ rest) old rest new 1 steps steps
-works_forget s x rest old new steps ready decided state spans = record {
-  decided = decided;
-  ready = ready.1;
-  less = omega arith;
-  spent = λ long short. (short, (omega arith, omega arith));
-  n = 0;
-  run = λ f m run. runs_as s rest (drop_groups (tree_at (nodes_in s) x) (known_groups_in old)) f m (0 + m) (omega arith) (subst (λ v. RunsTasks (nodes_in s) (subject_text s) rest v f m) state run);
-  entered = least_none steps 0 refl;
-  counts = least_none steps _ (rw spans (omega arith));
-}
+pub works_forget : (s : Subject) (x : ℕ) (rest : List GroupTask) (facts : Facts) (due : GroupSet) (old : Decided) (steps : ℕ) → AreReady (nodes_in s) (subject_text s) (Forget x ∷ rest) → HasBlank old →
+    IsFacts (tree_at (nodes_in s) x) x facts → ((n : ℕ) → holds due n ≡ (holds old.due n && not (holds facts.groups n))) → Works s (Forget x ∷ rest) old rest (record old { due = due }) 1 steps steps
+works_forget s x rest facts due old steps ready decided is without =
+    let part = tree_at (nodes_in s) x in
+    let state = dropped (nodes_in s) x facts old.due due old.spans is decided.whole decided.blank without in
+    record {
+      decided = record { blank = subst NoneSettled (sym state) (drop_blank part (known_groups_in old) decided.blank); whole = still_whole old.due facts.groups due decided.whole without };
+      ready = ready.1;
+      less = omega arith;
+      spent = λ long short. (short, (omega arith, omega arith));
+      n = 0;
+      run = λ f m run. runs_as s rest (drop_groups part (known_groups_in old)) f m (0 + m) (omega arith) (subst (λ v. RunsTasks (nodes_in s) (subject_text s) rest v f m) state run);
+      entered = least_none steps 0 refl;
+      counts = least_none steps _ (omega arith);
+    }
 
 -- the last task of a stack comes first
 pub popped : (stack rest : List GroupTask) (task : GroupTask) → stack ≡ rest ++ (task ∷ []) → reverse stack ≡ task ∷ reverse rest
@@ -62,13 +65,9 @@ popped stack rest task is = ap reverse is ∙ reverse-append rest (task ∷ [])
 
 -- A turn, as it is paid.
 
-abbrev pub done : Option Matched → ℕ
+abbrev done : Option Matched → ℕ
 done None = 1
 done (Some p) = 0
-
-pub done_once : (next : Option Matched) → done next ≤ 1
-done_once None = omega arith
-done_once (Some p) = omega arith
 
 -- fewer nodes can be looked at then, and fewer gone on to if one comes next
 turn_fewer : (nodes : List Node) (n : ℕ) (then : Then) (rest : List GroupTask) → looks nodes (tasks_after then) + 1 ≤ n →
@@ -135,20 +134,20 @@ pub least_look : (s t u a b : ℕ) → TakesExactly s t 1 → t ≤ u → b ≤ 
 unfolding TakesExactly TakesAtLeast
 least_look s t u a b look up few = omega (arith, look, up, few)
 
--- whether the node was looked at or not
-pub works_turn : (s : Subject) (here : Matched) (then : Then) (rest : List GroupTask) (old new : Decided) (r : Region) (before after : ℕ) → AreReady (nodes_in s) (subject_text s) (Apart here ∷ rest) →
-    Turned s here (known_groups_in old) (known_groups_in new) r then before after → HasBlank new → TakesAtLeast before after (spans_in new.spans - spans_in old.spans) →
+-- a node of which no group is due
+pub works_left : (s : Subject) (here : Matched) (rest : List GroupTask) (old : Decided) (steps : ℕ) → AreReady (nodes_in s) (subject_text s) (Apart here ∷ rest) →
+    NoneDue (tree_at (nodes_in s) here.node) (known_groups_in old) → HasBlank old → Works s (Apart here ∷ rest) old rest old 1 steps steps
+works_left s here rest old steps ready none decided =
+    turn_works s here Done rest old old 0 steps steps ready (left_turn s here (known_groups_in old) none) (omega arith, omega arith) (least_none steps 0 refl) decided (least_none steps _ (omega arith))
+
+-- a node that was looked at
+pub works_turn : (s : Subject) (here : Matched) (node : Node) (then : Then) (rest : List GroupTask) (old new : Decided) (r : Region) (before begun after : ℕ) → AreReady (nodes_in s) (subject_text s) (Apart here ∷ rest) →
+    TakesExactly before begun 1 → Takes before begun 1 → NodeTurned s here node (known_groups_in old) (known_groups_in new) r then begun after → HasBlank new → spans_in new.spans ≤ spans_in old.spans + 1 →
     Works s (Apart here ∷ rest) old (tasks_after then ++ rest) new 1 before after
-works_turn s here then rest old new r before after ready (inl (none, same, nothing, still)) decided counts =
-    turn_works s here then rest old new 0 before after ready (rw (same, nothing) (left_turn s here (known_groups_in old) none)) (rw (nothing, still) (omega arith, omega arith)) (rw still (least_none before 0 refl)) decided counts
-works_turn s here then rest old new r before after ready (inr (node, begun, is, look, once, turned)) decided counts =
+works_turn s here node then rest old new r before begun after ready look once turned decided few =
     let cost = turned.cost in
     turn_works s here then rest old new (entered_at node) before after ready turned.turn (omega (arith, once.0, cost.0), omega (arith, once.1, cost.1))
-    (least_less before after 1 (entered_at node) (least_look before begun after 0 1 look cost.0 (omega arith)) (omega arith)) decided counts
-
-pub turned_goes : (s : Subject) (here : Matched) (then : Then) (old new : GroupState) (r : Region) (before after : ℕ) → Turned s here old new r then before after → GoesOn s r (next_of then)
-turned_goes s here then old new r before after (inl (none, same, nothing, still)) = rw nothing tt
-turned_goes s here then old new r before after (inr (node, begun, is, look, once, turned)) = turned.goes
+    (least_less before after 1 (entered_at node) (least_look before begun after 0 1 look cost.0 (omega arith)) (omega arith)) decided (least_look before begun after _ _ look cost.0 few)
 
 -- All tasks are done.
 

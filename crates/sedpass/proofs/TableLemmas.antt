@@ -2,7 +2,7 @@
 use Rattle.std.proofs.Common.{◌≡◌, ◌≢◌, ℕ, zero, suc, ◌+◌, ◌*◌, ◌/◌, ◌%◌, ◌^◌, ◌<◌, ◌≤◌, ◌↔◌, Bool, true, false, List, length, length-set, Option, Some, IsTrue, refl, sym, ap, ◌∙◌, subst, ⊎_elim, arith, min, mul-le-mul_left, slice_index_or, slice_set, replicate, vec_capacity}
 use Rattle.sedpass.proofs.Words.{same_from_place, shl-shr, shl_whole, shl_below, from_bool, with_item, pow-le-pow_right, cases_eq, get_or-set_same, get_or-set_other, get_or_default, IsExpr, WrittenExpression, mirror_node, seen, old_node, Node, Set, AgreeBelow, KeepsRows, row_of, StateFlags, PlaceKind, Prepared, Way, Beginning, Table}
 use Rattle.sedpass.specs.Rows.{IsApart, nodes_of, at_begin, at_edge, bits, leaves_row, ends_row, SameBytes, RowLeadsTo, IsFirstRow}
-use Rattle.sedpass.specs.Table.{PassState, state_of, FlagsShow, HasRow, HasNewRow, HasPlace, LeadsOn, BeginsIn, NamesState, IsNext, IsOffset, cell_of, LeadsBy, kind_number, beginning_at, beginning_of, MayBegin, HasRoom, HasRows, IsRoomy, IsTable, SameRoom, SameShape, AddsStates, Codes, code_of, column_at, IsLayout, IsColumn}
+use Rattle.sedpass.specs.Table.{PassState, state_of, FlagsShow, HasRow, HasNewRow, HasPlace, LeadsOn, BeginsIn, NamesState, IsNext, IsOffset, cell_of, LeadsBy, kind_number, beginning_at, beginning_of, MayBegin, HasRoom, HasRows, IsRoomy, IsTable, SameRoom, SameShape, AddsStates, code_of, column_at, IsLayout, IsColumn}
 use Rattle.sedpass.specs.declared.cells.Layout.{Layout}
 use Rattle.sedpass.proofs.LeaveLemmas.{twice}
 use Rattle.sedpass.proofs.RowLemmas.{bits_clear, bits_here, class_row, copied_rows, keeps_then}
@@ -100,9 +100,6 @@ begin_apart false root x other kind kind' one two e =
 
 pub names_map : (m : ℕ) (t : Table) (P Q : PassState → Type 0) (v : ℕ) → ((a : PassState) → P a → Q a) → NamesState m t P v → NamesState m t Q v
 names_map m t P Q v up n = record { to = n.to; there = n.there; flags = n.flags; shown = n.shown; code = n.code; is = up (state_of m t n.to) n.is }
-
-pub codes_map : (p : Prepared) (t t' : Table) (P Q : PassState → Type 0) (v : ℕ) → ((a : PassState) → P a → Q a) → Codes p t t' P v → Codes p t t' Q v
-codes_map p t t' P Q v up c = record { table = c.table; adds = c.adds; names = names_map (length p.arena.expr.nodes) t' P Q v up c.names }
 
 module _ (p : Prepared) (t t' : Table) (adds : AddsStates (length p.arena.expr.nodes) t t') (epoch : t'.epoch ≡ t.epoch) where
   abbrev m : ℕ

@@ -1,6 +1,6 @@
 -- What comes in place of a node, by its kind.
 use Rattle.std.proofs.Common.{◌≡◌, ℕ, ◌+◌, ◌-◌, ◌<◌, ◌≤◌, ◌⊎◌, Bool, [], ◌∷◌, length, Option, None, Some, IsTrue, refl, sym, ap, ◌∙◌, subst, inl, inr, ⊎_elim, arith}
-use Rattle.sedpass.proofs.Words.{Tree, tree_of, tree_at, size, IsPart, Takes, TakesAtLeast, Node, NodeId, Empty, Set, Begin, End, Seq, Alt, Group, Star, Opt, tree_at-node, HasSpan, LastCut, parts_of, total_size, Matches, open_at, Matches-forward, size-parts, size-pos, Matched, Apart, Forget, Done, One, Two, Region, Subject}
+use Rattle.sedpass.proofs.Words.{Tree, tree_of, tree_at, size, IsPart, Takes, TakesAtLeast, Node, NodeId, Seq, Alt, Group, Star, Opt, tree_at-node, HasSpan, LastCut, parts_of, total_size, Matches, open_at, Matches-forward, size-parts, size-pos, Matched, Apart, Forget, Done, One, Two, Region, Subject}
 use Rattle.sedpass.specs.Decide.{EndsRegion, HasNoKnownLength, IsCopyFrom, LooksAt, NodeTurned, part_cost, nodes_in, subject_text, NodeMatches, IsTurn, NoneSettled, entered_at}
 use Rattle.sedpass.specs.Regions.{all_of, last_of}
 use Rattle.sedpass.specs.Walks.{GroupState, settle, drop_groups, NoneDue, WalkEnters}
@@ -60,26 +60,19 @@ module _ (s : Subject) (here : Matched) (node : Node) (stands : NodeMatches s he
       }
 
 -- a node of no other kind has no parts: nothing comes in its place
-pub leaf_shown : (node : Node) → ((a b : NodeId) → node ≡ Seq a b → ⊥) → ((a b : NodeId) → node ≡ Alt a b → ⊥) → ((k : ℕ) (a : NodeId) → node ≡ Group k a → ⊥) → ((a : NodeId) (first : Bool) → node ≡ Star a first → ⊥) →
-    ((a : NodeId) (first : Bool) → node ≡ Opt a first → ⊥) → parts_of node ≡ []
-leaf_shown (Seq a b) seq alt group star opt = absurd (seq a b refl)
-leaf_shown (Alt a b) seq alt group star opt = absurd (alt a b refl)
-leaf_shown (Group k a) seq alt group star opt = absurd (group k a refl)
-leaf_shown (Star a first) seq alt group star opt = absurd (star a first refl)
-leaf_shown (Opt a first) seq alt group star opt = absurd (opt a first refl)
-leaf_shown other seq alt group star opt = refl
-
-pub leaf_turned : (s : Subject) (here : Matched) (node : Node) (state : GroupState) (r : Region) (steps : ℕ) → NodeMatches s here node → parts_of node ≡ [] → NodeTurned s here node state state r Done steps steps
-leaf_turned s here node state r steps stands leaf =
-    let both = by node leaf in
+pub leaf_turned : (s : Subject) (here : Matched) (node : Node) (state : GroupState) (r : Region) (steps : ℕ) → NodeMatches s here node → ((a b : NodeId) → node ≡ Seq a b → ⊥) → ((a b : NodeId) → node ≡ Alt a b → ⊥) →
+    ((k : ℕ) (a : NodeId) → node ≡ Group k a → ⊥) → ((a : NodeId) (first : Bool) → node ≡ Star a first → ⊥) → ((a : NodeId) (first : Bool) → node ≡ Opt a first → ⊥) → NodeTurned s here node state state r Done steps steps
+leaf_turned s here node state r steps stands seq alt group star opt =
+    let both = by node refl in
     record { turn = done_turn s here state state (entered_at node) (close_walk s here node stands state state _ both.0); goes = tt; cost = (omega arith, omega arith); looks = both.1 }
   where
-    by : (n : Node) → parts_of n ≡ [] → WalkEnters (tree_of (tree_at (nodes_in s)) n) (subject_text s) here.start here.stop state state (entered_at n) × LooksAt s here n None steps steps
-    by Empty leaf = ((refl, refl), tt)
-    by (Set members) leaf = ((refl, refl), tt)
-    by Begin leaf = ((refl, refl), tt)
-    by End leaf = ((refl, refl), tt)
-    by other leaf = absurd cc
+    by : (n : Node) → node ≡ n → WalkEnters (tree_of (tree_at (nodes_in s)) n) (subject_text s) here.start here.stop state state (entered_at n) × LooksAt s here n None steps steps
+    by (Seq a b) is = absurd (seq a b is)
+    by (Alt a b) is = absurd (alt a b is)
+    by (Group k a) is = absurd (group k a is)
+    by (Star a first) is = absurd (star a first is)
+    by (Opt a first) is = absurd (opt a first is)
+    by other is = ((refl, refl), tt)
 
 -- a concatenation goes on with its right part; the left one is a task
 pub seq_turned : (s : Subject) (here : Matched) (a b : NodeId) (k : ℕ) (state : GroupState) (r : Region) (before after : ℕ) → NodeMatches s here (Seq a b) → EndsRegion s r here →

@@ -1,9 +1,9 @@
 -- Private to the proofs: no contract that the engine sees cites what is here.
 -- What is known of a match's groups while they are decided from its end, what is left to do, and what that costs.
-use Rattle.std.specs.Prelude.{◌≡◌, ℕ, ◌+◌, ◌-◌, ◌*◌, ◌<◌, ◌≤◌, ◌⊎◌, Bool, true, false, replicate, IsTrue, List, [], ◌∷◌, ◌++◌, reverse, length, min, slice_get, slice_index_or, vec_capacity, IfSome, Option, None, Some}
+use Rattle.std.specs.Prelude.{◌≡◌, ℕ, ◌+◌, ◌-◌, ◌*◌, ◌<◌, ◌≤◌, ◌⊎◌, Bool, true, false, replicate, IsTrue, List, [], ◌∷◌, ◌++◌, length, min, slice_get, slice_index_or, vec_capacity, IfSome, Option, None, Some}
 use Rattle.sedre.specs.Arena.{IsArena}
 use Rattle.sedre.specs.Tree.{size, tree_at, Tree}
-use Rattle.sedre.specs.Steps.{Takes, TakesExactly, TakesAtLeast}
+use Rattle.sedre.specs.Steps.{Takes, TakesAtLeast}
 use Rattle.sedre.specs.declared.types.Node.{Node}
 use Rattle.sedre.specs.declared.types.Node.TheVariants.{Set, Seq, Alt, Star}
 use Rattle.sedre.specs.declared.types.NodeId.{NodeId}
@@ -17,10 +17,10 @@ use Rattle.sedpass.specs.Prepared.{holds, length_of}
 use Rattle.sedpass.specs.Kept.{IsKept, KeptRoom, SameSpace}
 use Rattle.sedpass.specs.Regions.{IsLastIn}
 use Rattle.sedpass.specs.Table.{IsForwardOne, IsRoomy, IsTable, SameRoom, SameShape}
-use Rattle.sedpass.specs.Walks.{GroupState, is_due, drop_groups, GroupIsIn, NoneDue, WalkEnters}
+use Rattle.sedpass.specs.Walks.{GroupState, is_due, drop_groups, GroupIsIn, WalkEnters}
 use Rattle.sedpass.specs.declared.group_set.GroupSet.{GroupSet}
 use Rattle.sedpass.specs.declared.groups.GroupRoom.{GroupRoom}
-use Rattle.sedpass.specs.declared.groups.GroupTables.{GroupTables}
+use Rattle.sedpass.specs.declared.groups.Tables.{Tables}
 use Rattle.sedpass.specs.declared.groups.Matched.{Matched}
 use Rattle.sedpass.specs.declared.groups.GroupTask.{GroupTask}
 use Rattle.sedpass.specs.declared.groups.GroupTask.TheVariants.{Apart, Forget}
@@ -155,39 +155,42 @@ entered_at node = min 1 (length (parts_of node))
 abbrev pub EndsRegion : Subject → Region → Matched → Type 0
 EndsRegion s r here = IsLastIn (nodes_in s) r.root here.node × (here.stop ≡ r.end)
 
--- both tables serve the expression: the kept one for passes backwards from one end, the other for passes forwards from one start
-pub record HasDesk (s : Subject) (tables : GroupTables) (kept : Kept) : Type 0 where
+-- two of the tables serve the expression: the kept one for passes backwards from one end, the other for passes forwards from one start
+pub record HasDesk (s : Subject) (tables : Tables) (kept : Kept) : Type 0 where
   pub reverse_one : IsTable s.prepared.now tables.reverse_one
   pub places : KeptRoom (length s.prepared.now.arena.expr.nodes) (length s.text.now) tables.reverse_one kept
   pub one_end : tables.reverse_one.way.all_starts ≡ false
   pub forward_one : IsForwardOne s.prepared.now tables.forward_one
 
 -- and the region is kept
-pub record IsGroupDesk (s : Subject) (tables : GroupTables) (kept : Kept) : Type 0 where
+pub record IsGroupDesk (s : Subject) (tables : Tables) (kept : Kept) : Type 0 where
   pub region : IsKept s.prepared.now s.text.now tables.reverse_one kept
   pub one_end : tables.reverse_one.way.all_starts ≡ false
   pub forward_one : IsForwardOne s.prepared.now tables.forward_one
 
 -- the match of the node is there, and ends where the region does that is kept
-pub record IsAtEnd (s : Subject) (tables : GroupTables) (kept : Kept) (here : Matched) (node : Node) : Type 0 where
+pub record IsAtEnd (s : Subject) (tables : Tables) (kept : Kept) (here : Matched) (node : Node) : Type 0 where
   pub stands : NodeMatches s here node
   pub ends : EndsRegion s kept.region here
   pub desk : IsGroupDesk s tables kept
 
 -- the way of each of the tables
-pub record HaveWays (t : GroupTables) : Type 0 where
+pub record HaveWays (t : Tables) : Type 0 where
+  pub forward_any : t.forward_any.way ≡ record { mirrored = false; all_starts = true }
   pub reverse_one : t.reverse_one.way ≡ record { mirrored = true; all_starts = false }
   pub forward_one : t.forward_one.way ≡ record { mirrored = false; all_starts = false }
 
 -- the tables serve the expression
-pub record AreGroupTables (p : Prepared) (t : GroupTables) : Type 0 where
+pub record AreTables (p : Prepared) (t : Tables) : Type 0 where
   pub ways : HaveWays t
+  pub forward_any : IsTable p t.forward_any
   pub reverse_one : IsTable p t.reverse_one
   pub forward_one : IsTable p t.forward_one
 
 -- they have all their room for expressions of at most m nodes
-pub record AreRoomy (m : ℕ) (t : GroupTables) : Type 0 where
+pub record AreRoomy (m : ℕ) (t : Tables) : Type 0 where
   pub ways : HaveWays t
+  pub forward_any : IsRoomy m t.forward_any
   pub reverse_one : IsRoomy m t.reverse_one
   pub forward_one : IsRoomy m t.forward_one
 
@@ -200,23 +203,25 @@ pub record HasSpace (text blocks nodes : ℕ) (r : GroupRoom) : Type 0 where
   pub tasks : 2 * nodes ≤ vec_capacity r.tasks
 
 -- each of the tables has the room that it had, whatever it serves
-pub record SameRooms (old new : GroupTables) : Type 0 where
+pub record SameRooms (old new : Tables) : Type 0 where
+  pub forward_any : SameRoom old.forward_any new.forward_any
   pub reverse_one : SameRoom old.reverse_one new.reverse_one
   pub forward_one : SameRoom old.forward_one new.forward_one
 
--- each of the tables has the room that it had
-pub record SameTables (old new : GroupTables) : Type 0 where
+-- each of those that decide groups has the room that it had, and the other one is as it was
+pub record SameTables (old new : Tables) : Type 0 where
+  pub forward_any : new.forward_any ≡ old.forward_any
   pub reverse_one : SameShape old.reverse_one new.reverse_one
   pub forward_one : SameShape old.forward_one new.forward_one
 
 -- a region is kept again, in the same room
-pub record KeepsGroupDesk (s : Subject) (old new : GroupTables) (before after : Kept) : Type 0 where
+pub record KeepsGroupDesk (s : Subject) (old new : Tables) (before after : Kept) : Type 0 where
   pub desk : IsGroupDesk s new after
   pub shape : SameTables old new
   pub space : SameSpace before after
 
 -- groups can be decided again, in the same room
-pub record KeepsGroupRoom (s : Subject) (old new : GroupTables) (before after : GroupRoom) : Type 0 where
+pub record KeepsGroupRoom (s : Subject) (old new : Tables) (before after : GroupRoom) : Type 0 where
   pub desk : HasDesk s new after.kept
   pub shape : SameTables old new
   pub space : SameSpace before.kept after.kept
@@ -251,11 +256,6 @@ IsCopyFrom s here a first (Some c) =
     ⊎ ((here.start ≡ here.stop) × (IsTrue first × HasSpan (nodes_in s) (subject_text s) a.index c c) × (c ≡ here.start))
 IsCopyFrom s here a first None = (here.start ≡ here.stop) × ((IsTrue first × HasSpan (nodes_in s) (subject_text s) a.index here.start here.start) → ⊥)
 
--- the tasks that wait, and before them one match
-abbrev pub waiting : Option Matched → List GroupTask → List GroupTask
-waiting None stack = reverse stack
-waiting (Some here) stack = Apart here ∷ reverse stack
-
 -- the node is a set
 abbrev pub IsSetAt : List Node → ℕ → Type 0
 IsSetAt nodes x = (members : List Bool) × (slice_get nodes x ≡ Some (Set members))
@@ -281,14 +281,8 @@ pub record NodeTurned (s : Subject) (here : Matched) (node : Node) (old new : Gr
   pub cost : Takes before after (kind_cost s here (next_of then))
   pub looks : LooksAt s here node (next_of then) before after
 
--- of a match nothing comes where no group of it is due; else its node is looked at
-abbrev pub Turned : Subject → Matched → GroupState → GroupState → Region → Then → ℕ → ℕ → Type 0
-Turned s here old new r then before after =
-    (NoneDue (tree_at (nodes_in s) here.node) old × (new ≡ old) × (then ≡ Done) × (after ≡ before))
-    ⊎ ((node : Node) × (begun : ℕ) × (slice_get (nodes_in s) here.node ≡ Some node) × TakesExactly before begun 1 × Takes before begun 1 × NodeTurned s here node old new r then begun after)
-
 -- the tasks can be done there
-pub record MayWork (s : Subject) (tables : GroupTables) (room : GroupRoom) (decided : Decided) (tasks : List GroupTask) : Type 0 where
+pub record MayWork (s : Subject) (tables : Tables) (room : GroupRoom) (decided : Decided) (tasks : List GroupTask) : Type 0 where
   pub arena : IsArena (nodes_in s)
   pub ready : AreReady (nodes_in s) (subject_text s) tasks
   pub enough : weights (nodes_in s) tasks ≤ vec_capacity room.tasks

@@ -1,5 +1,5 @@
 //! How a table names its states by codes, and lays out their cells.
-ghost use Rattle.std.specs.Prelude.{◌≡◌, ℕ, false, ◌+◌, ◌*◌, ◌^◌, ◌<◌, ◌≤◌, min, max, length, slice_index_or, IfSome, IsTrue, vec_capacity};
+ghost use Rattle.std.specs.Prelude.{◌≡◌, ℕ, false, ◌+◌, ◌<◌, ◌≤◌, length, slice_index_or, IfSome, IsTrue, vec_capacity};
 ghost use Rattle.sedre.specs.Steps.{TakesExactly, Takes};
 ghost use Rattle.sedpass.specs.Table.{code_of, IsLayout, IsColumn};
 ghost use Rattle.sedpass.specs.declared.cells.StateFlags.{StateFlags};
@@ -10,8 +10,8 @@ use sedre::Steps;
 /// The cells of all states begin below this place.
 const PLACES: u32 = 1 << 29;
 
-/// How many cells a state has at most.
-const MOST_CELLS: usize = 256;
+/// How many cells a state has at most; it has no more than `4 * (nodes + 1)` either.
+pub const MOST_CELLS: usize = 256;
 
 /// What is known of a state.
 #[derive(Clone, Copy)]
@@ -66,43 +66,18 @@ pub fn is_plain(code: u32) -> bool
     code < 2 * PLACES
 }
 
-/// How many cells there is room for in each state of an expression of at most so many nodes.
-pub fn most_cells(nodes: usize) -> usize
-    requires { nodes ≤ 65536 }
-    ensures { result ≡ min 256 (4 * (nodes + 1)) }
-{
-    MOST_CELLS.min(4 * (nodes + 1))
-}
-
-/// The least power of two that is no smaller.
-fn shift_for(width: usize) -> u32
-    requires { width ≤ 256 }
-    ensures small { result ≤ 8 }
-    ensures fits { width ≤ 2 ^ result }
-    ensures tight { 2 ^ result ≤ max 1 (2 * width) }
-{
-    for shift in 0..8u32 {
-        if width <= (1usize << shift) {
-            return shift;
-        }
-    }
-    8
-}
-
 impl Layout {
     /// The cells of a state for an expression: few for each node, so that a new state costs little.
     pub fn new(prepared: &Prepared) -> Layout
         ensures { IsLayout prepared.now.arena.expr.nodes result }
     {
-        let columns = prepared
-            .classes
-            .count
-            .min(prepared.nodes() + 1)
-            .min(MOST_CELLS / 2);
+        let classes = prepared.classes.count.min(prepared.nodes() + 1);
+        let columns = classes.min(MOST_CELLS / 2);
         Layout {
             classes: prepared.classes.of,
             columns: columns as u16,
-            shift: shift_for(2 * columns),
+            // the least such power that is no smaller than the cells
+            shift: (2 * columns - 1).ilog2() + 1,
         }
     }
 

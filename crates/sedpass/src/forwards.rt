@@ -1,5 +1,5 @@
 //! Passes for the whole expression, which stop as soon as no later place matters.
-ghost use Rattle.std.specs.Prelude.{◌≡◌, ℕ, false, ◌+◌, ◌-◌, ◌*◌, ◌/◌, ◌<◌, ◌≤◌, ◌↔◌, length, min, IfSome, IsTrue, is_some};
+ghost use Rattle.std.specs.Prelude.{◌≡◌, ℕ, false, ◌+◌, ◌-◌, ◌*◌, ◌<◌, ◌≤◌, ◌↔◌, length, min, IfSome, IsTrue, is_some};
 ghost use Rattle.sedtext.specs.Costs.{CostsWithin};
 ghost use Rattle.sedtext.specs.Following.{LooksPast};
 ghost use Rattle.sedtext.specs.Reach.{IsLongestFrom};
@@ -109,60 +109,35 @@ impl Table {
         at
     }
 
-    /// Goes on to the next place whose state the cells don't have, or to where the pass needn't go on.
-    fn go_on(&mut self, prepared: &Prepared, text: &Text, from: Passed, steps: &mut Steps) -> Passed
-        requires table { IsTable prepared.now self.old }
-        requires offset { IsOffset self.old from.offset }
-        requires over { from.over ≡ false }
-        requires inside { from.place < length text.now }
-        ensures table { IsTable prepared.now self.new }
-        ensures shape { SameShape self.old self.new }
-        ensures offset { IsOffset self.new result.offset }
-        ensures after { from.place < result.place }
-        ensures within { result.place ≤ length text.now }
-        ensures passes { (start : ℕ) → PassIs prepared.now self.old text.now start from → PassIs prepared.now self.new text.now start result }
-        ensures cost { CostsWithin steps.old steps.new (40 * length prepared.now.arena.expr.nodes * result.place) (40 * length prepared.now.arena.expr.nodes * from.place) }
-        ensures counts { TakesAtLeast steps.old steps.new (2 * (result.place - from.place)) }
-    {
-        let last = text.len() - 1;
-        let at = self.follow(prepared, text, from, last, steps);
-        if at.over {
-            return at;
-        }
-        let byte = text.byte(at.place, steps);
-        let code = self.next(prepared, at.offset, byte, at.place == last, steps);
-        self.arrive(prepared, text, code, at.place + 1, at.end)
-    }
-
     /// Passes from a place until no match that began there can end later; with all starts, over all places from there on, until
     /// some match ends. `end` of the result is the longest match, or says whether there is one, wherever the pass stopped.
-    pub fn run(
-        &mut self,
-        prepared: &Prepared,
-        text: &Text,
-        from: usize,
-        steps: &mut Steps,
-    ) -> Passed
+    pub fn run(&mut self, prepared: &Prepared, text: &Text, at: usize, steps: &mut Steps) -> Passed
         requires table { IsTable prepared.now self.old }
         requires forwards { self.old.way.mirrored ≡ false }
-        requires from { from ≤ length text.now }
+        requires from { at ≤ length text.now }
         ensures table { IsTable prepared.now self.new }
         ensures shape { SameShape self.old self.new }
-        ensures after { from ≤ result.place }
+        ensures after { at ≤ result.place }
         ensures within { result.place ≤ length text.now }
         ensures reached { IfSome result.end (λ j. j ≤ result.place) }
-        ensures longest { self.old.way.all_starts ≡ false → IsLongestFrom (expression_tree prepared.now.arena.expr) text.now from result.end }
-        ensures found { IsTrue self.old.way.all_starts → IsTrue (is_some result.end) ↔ SomeFound (expression_tree prepared.now.arena.expr) text.now from }
-        ensures passes { IfSome result.end (λ j. LooksPast (expression_tree prepared.now.arena.expr) text.now from steps.old steps.new) }
-        ensures cost { CostsWithin steps.old steps.new (40 * length prepared.now.arena.expr.nodes * (result.place + 1)) (40 * length prepared.now.arena.expr.nodes * from) }
-        ensures counts { TakesAtLeast steps.old steps.new (2 * (result.place - from) + 1) }
+        ensures longest { self.old.way.all_starts ≡ false → IsLongestFrom (expression_tree prepared.now.arena.expr) text.now at result.end }
+        ensures found { IsTrue self.old.way.all_starts → IsTrue (is_some result.end) ↔ SomeFound (expression_tree prepared.now.arena.expr) text.now at }
+        ensures passes { IfSome result.end (λ j. LooksPast (expression_tree prepared.now.arena.expr) text.now at steps.old steps.new) }
+        ensures cost { CostsWithin steps.old steps.new (40 * length prepared.now.arena.expr.nodes * (result.place + 1)) (40 * length prepared.now.arena.expr.nodes * at) }
+        ensures counts { TakesAtLeast steps.old steps.new (2 * (result.place - at) + 1) }
     {
-        let kind = kind_of(from, text.len());
+        let kind = kind_of(at, text.len());
         let code = self.first(prepared, prepared.root, kind, steps);
-        let mut at = self.arrive(prepared, text, code, from, None);
-        while !at.over && at.place < text.len() {
-            at = self.go_on(prepared, text, at, steps);
+        let mut here = self.arrive(prepared, text, code, at, None);
+        while !here.over && here.place < text.len() {
+            let last = text.len() - 1;
+            here = self.follow(prepared, text, here, last, steps);
+            if !here.over {
+                let byte = text.byte(here.place, steps);
+                let code = self.next(prepared, here.offset, byte, here.place == last, steps);
+                here = self.arrive(prepared, text, code, here.place + 1, here.end);
+            }
         }
-        at
+        here
     }
 }

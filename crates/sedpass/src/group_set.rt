@@ -1,5 +1,5 @@
 //! Some of the groups 1 to 9.
-ghost use Rattle.std.specs.Prelude.{◌≡◌, ℕ, ◌<◌, ◌&&◌, ◌||◌, ◌↔◌, not, eqb, false, IsTrue};
+ghost use Rattle.std.specs.Prelude.{◌≡◌, ℕ, ◌&&◌, ◌||◌, ◌↔◌, not, eqb, false, IsTrue};
 ghost use Rattle.sedpass.specs.Prepared.{holds, reported};
 
 /// Some of the groups 1 to 9: those that an expression reports. A group with a greater number is in no set.
@@ -31,18 +31,16 @@ impl GroupSet {
     pub fn union(self, other: GroupSet) -> GroupSet
         ensures { (k : ℕ) → holds result k ≡ (holds self k || holds other k) }
     {
-        GroupSet {
-            bits: self.bits | other.bits,
-        }
+        let bits = self.bits | other.bits;
+        GroupSet { bits }
     }
 
     /// The groups of this one that aren't in the other.
     pub fn without(self, other: GroupSet) -> GroupSet
         ensures { (k : ℕ) → holds result k ≡ (holds self k && not (holds other k)) }
     {
-        GroupSet {
-            bits: self.bits & !other.bits,
-        }
+        let bits = self.bits & !other.bits;
+        GroupSet { bits }
     }
 
     /// Whether a group is in both.

@@ -2,22 +2,20 @@
 //!
 //! A spine goes from a node to what ends where the node does, in one region of the kept pass, and writes the groups that
 //! are due. What lies left of it waits as a task.
-ghost use Rattle.std.specs.Prelude.{◌≡◌, ℕ, false, [], ◌∷◌, ◌++◌, reverse, ◌+◌, ◌-◌, ◌*◌, ◌^◌, ◌≤◌, ◌<◌, ◌↔◌, length, IsTrue, None, Some, IfOk, IfSome, slice_index_or, vec_len, vec_capacity};
-ghost use Rattle.sedre.specs.Arena.{IsArena};
+ghost use Rattle.std.specs.Prelude.{◌≡◌, ℕ, false, [], ◌∷◌, reverse, ◌+◌, ◌-◌, ◌*◌, ◌^◌, ◌≤◌, ◌<◌, length, IsTrue, None, Some, IfOk, IfSome, slice_index_or, vec_capacity};
 ghost use Rattle.sedre.specs.Tree.{tree_at, expression_tree};
 ghost use Rattle.sedre.specs.Steps.{Takes, TakesAtLeast};
-ghost use Rattle.sedre.specs.declared.types.Node.TheVariants.{Seq, Alt, Star, Opt};
+ghost use Rattle.sedre.specs.declared.types.Node.TheVariants.{Seq, Star};
 ghost use Rattle.sedtext.specs.Caps.{LastCut, IsReport};
 ghost use Rattle.sedtext.specs.Groups.{SpansOfGroups};
 ghost use Rattle.sedtext.specs.Places.{Ascending};
 ghost use Rattle.sedtext.specs.Reach.{HasSpan};
-ghost use Rattle.sedpass.specs.Decide.{spans_in, undecided, HasAll, known_groups, known_groups_in, HasBlank, EndsRegion, IsGroupDesk, IsAtEnd, IsCopyFrom, NodeTurned, Turned, MayWork, Works, waiting, part_cost, HasNoKnownLength, next_of, IsSetAt, HasDesk, AreGroupTables, AreRoomy, HasSpace, SameRooms, SameTables, KeepsGroupDesk, KeepsGroupRoom, nodes_in, subject_text, IsMatch, NodeMatches, tasks_after};
+ghost use Rattle.sedpass.specs.Decide.{spans_in, undecided, HasAll, known_groups, known_groups_in, HasBlank, IsAtEnd, IsCopyFrom, NodeTurned, MayWork, Works, part_cost, HasNoKnownLength, IsSetAt, HasDesk, AreTables, AreRoomy, HasSpace, SameRooms, SameTables, KeepsGroupDesk, KeepsGroupRoom, nodes_in, subject_text, NodeMatches};
 ghost use Rattle.sedpass.specs.Kept.{SameKept, SameSpace};
 ghost use Rattle.sedpass.specs.Prepared.{IsFacts, holds};
 ghost use Rattle.sedpass.specs.Regions.{IsRunOf};
-ghost use Rattle.sedpass.specs.Walks.{GroupState, settle, drop_groups, LooksAtEntered};
+ghost use Rattle.sedpass.specs.Walks.{LooksAtEntered};
 ghost use Rattle.sedpass.specs.declared.groups.GroupTask.TheVariants.{Apart};
-ghost use Rattle.sedpass.specs.declared.kept.Region.{Region};
 
 use crate::group_set::GroupSet;
 use crate::kept::{Kept, Subject};
@@ -61,9 +59,11 @@ pub enum Then {
     Two(Matched, GroupTask),
 }
 
-/// The tables by which groups are decided.
+/// The tables by which an expression is searched.
 #[derive(Drop)]
-pub struct GroupTables {
+pub struct Tables {
+    /// Forwards, every place a start.
+    pub forward_any: Table,
     /// Forwards from one start.
     pub forward_one: Table,
     /// Backwards from a region's end, the states of its places kept.
@@ -88,6 +88,12 @@ pub struct GroupRoom {
     pub tasks: Vec<GroupTask>,
 }
 
+/// The way of passes forwards in which every place is a start.
+const FORWARD_ANY: Way = Way {
+    mirrored: false,
+    all_starts: true,
+};
+
 /// The way of passes forwards, each from one start.
 const FORWARD_ONE: Way = Way {
     mirrored: false,
@@ -100,10 +106,10 @@ const REVERSE_ONE: Way = Way {
     all_starts: false,
 };
 
-impl GroupTables {
+impl Tables {
     /// Empty tables with room for so many states each of any expression of at most so many nodes, which serve none yet. Fails
     /// only where a request for memory was refused.
-    pub fn with_room(alloc: Global, room: usize, nodes: usize) -> Result<GroupTables, AllocError>
+    pub fn with_room(alloc: Global, room: usize, nodes: usize) -> Result<Tables, AllocError>
         requires some { 2 ≤ room }
         requires few { room ≤ 65535 }
         requires nodes { 1 ≤ nodes }
@@ -111,7 +117,8 @@ impl GroupTables {
         ensures tables { IfOk result (λ t. AreRoomy nodes t) }
         ensures room { IfOk result (λ t. (t.reverse_one.room ≡ room) × (t.forward_one.room ≡ room)) }
     {
-        Ok(GroupTables {
+        Ok(Tables {
+            forward_any: Table::with_room(alloc, FORWARD_ANY, room, nodes)?,
             forward_one: Table::with_room(alloc, FORWARD_ONE, room, nodes)?,
             reverse_one: Table::with_room(alloc, REVERSE_ONE, room, nodes)?,
         })
@@ -120,9 +127,10 @@ impl GroupTables {
     /// Begins to serve an expression, and forgets what was of another one.
     pub fn fit(&mut self, prepared: &Prepared)
         requires roomy { AreRoomy (length prepared.now.arena.expr.nodes) self.old }
-        ensures tables { AreGroupTables prepared.now self.new }
+        ensures tables { AreTables prepared.now self.new }
         ensures room { SameRooms self.old self.new }
     {
+        self.forward_any.fit(prepared);
         self.forward_one.fit(prepared);
         self.reverse_one.fit(prepared);
     }
@@ -158,49 +166,10 @@ fn facts_at(prepared: &Prepared, x: usize) -> Facts
     prepared.facts[x]
 }
 
-/// Gives a group its span, if it is due.
-fn settle_group(decided: &mut Decided, k: usize, span: (usize, usize))
-    requires { HasBlank decided.old }
-    ensures decided { HasBlank decided.new }
-    ensures state { known_groups_in decided.new ≡ settle k (Some span) (known_groups_in decided.old) }
-    ensures few { spans_in decided.new.spans ≤ spans_in decided.old.spans + 1 }
-{
-    if decided.due.has(k) {
-        decided.due = decided.due.without(GroupSet::one(k));
-        decided.spans[k] = Some(span);
-    }
-}
-
-/// What is still due of a node's groups has no span.
-fn forget(prepared: &Prepared, decided: &mut Decided, x: usize)
-    requires inside { x < length prepared.now.arena.expr.nodes }
-    requires decided { HasBlank decided.old }
-    ensures decided { HasBlank decided.new }
-    ensures state { known_groups_in decided.new ≡ drop_groups (tree_at prepared.now.arena.expr.nodes x) (known_groups_in decided.old) }
-    ensures spans { decided.new.spans ≡ decided.old.spans }
-{
-    decided.due = decided.due.without(facts_at(prepared, x).groups);
-}
-
-/// Whether a repetition that matches the null string at a place takes one empty copy of its part.
-fn has_empty_copy(
-    subject: Subject,
-    part: usize,
-    first: bool,
-    place: usize,
-    steps: &mut Steps,
-) -> bool
-    requires { part < length (nodes_in subject) }
-    ensures copy { IsTrue result ↔ (IsTrue first × HasSpan (nodes_in subject.entry) (subject_text subject.entry) part place place) }
-    ensures cost { Takes steps.old steps.new 1 }
-{
-    first && subject.is_null(part, place, steps)
-}
-
 /// Where the last copy of a repetition begins, if it takes one.
 fn last_copy(
     subject: Subject,
-    tables: &mut GroupTables,
+    tables: &mut Tables,
     kept: &mut Kept,
     here: Matched,
     a: NodeId,
@@ -215,8 +184,9 @@ fn last_copy(
 {
     let part = a.index();
     if here.start == here.stop {
-        let taken = has_empty_copy(subject, part, first, here.start, steps);
-        return if taken { Some(here.start) } else { None };
+        // A repetition that matches the null string takes one empty copy of its part, if it can.
+        let copy = first && subject.is_null(part, here.start, steps);
+        return copy.then_some(here.start);
     }
     if let Some(length) = facts_at(subject.prepared, part).length {
         return Some(here.stop - length);
@@ -253,7 +223,7 @@ fn fixed_cut(subject: Subject, here: Matched, a: NodeId, b: NodeId) -> Option<us
 /// Where a concatenation is cut: the greatest place at which its left part ends and from which its right part matches.
 fn last_cut(
     subject: Subject,
-    tables: &mut GroupTables,
+    tables: &mut Tables,
     kept: &mut Kept,
     here: Matched,
     a: NodeId,
@@ -278,170 +248,72 @@ fn last_cut(
     kept.cut(subject, reverse_one, forward_one, left, here.start, steps)
 }
 
-/// What comes in place of a concatenation: its right part, and then the left one.
-fn turn_seq(
-    subject: Subject,
-    tables: &mut GroupTables,
-    kept: &mut Kept,
-    here: Matched,
-    a: NodeId,
-    b: NodeId,
-    steps: &mut Steps,
-) -> Then
-    requires { IsAtEnd subject tables.old kept.old here (Seq a b) }
-    ensures turned { (s : GroupState) → NodeTurned subject.entry here (Seq a b) s s kept.new.region result steps.old steps.new }
-    ensures desk { KeepsGroupDesk subject.entry tables.old tables.new kept.old kept.new }
-{
-    let cut = last_cut(subject, tables, kept, here, a, b, steps);
-    let left = Matched {
-        node: a.index(),
-        start: here.start,
-        stop: cut,
-    };
-    let right = Matched {
-        node: b.index(),
-        start: cut,
-        stop: here.stop,
-    };
-    Then::Two(right, GroupTask::Apart(left))
-}
-
-/// What comes in place of an alternation: the left alternative, if it matches, and else the right one.
-fn turn_alt(
-    subject: Subject,
-    tables: &mut GroupTables,
-    kept: &mut Kept,
-    here: Matched,
-    a: NodeId,
-    b: NodeId,
-    steps: &mut Steps,
-) -> Then
-    requires { IsAtEnd subject tables.old kept.old here (Alt a b) }
-    ensures turned { (s : GroupState) → NodeTurned subject.entry here (Alt a b) s s kept.new.region result steps.old steps.new }
-    ensures desk { KeepsGroupDesk subject.entry tables.old tables.new kept.old kept.new }
-{
-    let left = a.index();
-    let spans = kept.spans(subject, &mut tables.reverse_one, left, here.start, steps);
-    let node = if spans { left } else { b.index() };
-    Then::One(Matched { node, ..here })
-}
-
-/// What comes in place of any number of copies: the last one, in a region of its own.
-fn turn_star(
-    subject: Subject,
-    tables: &mut GroupTables,
-    kept: &mut Kept,
-    here: Matched,
-    a: NodeId,
-    first: bool,
-    steps: &mut Steps,
-) -> Then
-    requires { IsAtEnd subject tables.old kept.old here (Star a first) }
-    ensures turned { (s : GroupState) → NodeTurned subject.entry here (Star a first) s s kept.new.region result steps.old steps.new }
-    ensures desk { KeepsGroupDesk subject.entry tables.old tables.new kept.old kept.new }
-{
-    match last_copy(subject, tables, kept, here, a, first, steps) {
-        None => Then::Done,
-        Some(start) => {
-            let (node, stop) = (a.index(), here.stop);
-            kept.begin(subject, &tables.reverse_one, node, stop);
-            Then::Two(Matched { node, start, stop }, GroupTask::Forget(node))
-        }
-    }
-}
-
-/// What comes in place of one copy or none.
-fn turn_opt(subject: Subject, here: Matched, a: NodeId, first: bool, steps: &mut Steps) -> Then
-    requires { NodeMatches subject here (Opt a first) }
-    ensures { (s : GroupState) (r : Region) → EndsRegion subject.entry r here → NodeTurned subject.entry here (Opt a first) s s r result steps.old steps.new }
-{
-    let part = a.index();
-    if here.start < here.stop || has_empty_copy(subject, part, first, here.start, steps) {
-        Then::Two(Matched { node: part, ..here }, GroupTask::Forget(part))
-    } else {
-        Then::Done
-    }
-}
-
 /// What comes in place of a node of this kind.
 fn turn_node(
     subject: Subject,
-    tables: &mut GroupTables,
+    tables: &mut Tables,
     kept: &mut Kept,
     decided: &mut Decided,
     here: Matched,
-    node: &Node,
+    kind: &Node,
     steps: &mut Steps,
 ) -> Then
-    requires at { IsAtEnd subject tables.old kept.old here node.now }
+    requires at { IsAtEnd subject tables.old kept.old here kind.now }
     requires decided { HasBlank decided.old }
-    ensures turned { NodeTurned subject.entry here node.now (known_groups_in decided.old) (known_groups_in decided.new) kept.new.region result steps.old steps.new }
+    ensures turned { NodeTurned subject.entry here kind.now (known_groups_in decided.old) (known_groups_in decided.new) kept.new.region result steps.old steps.new }
     ensures desk { KeepsGroupDesk subject.entry tables.old tables.new kept.old kept.new }
     ensures decided { HasBlank decided.new }
     ensures few { spans_in decided.new.spans ≤ spans_in decided.old.spans + 1 }
 {
-    match node {
-        Node::Seq(a, b) => turn_seq(subject, tables, kept, here, *a, *b, steps),
-        Node::Alt(a, b) => turn_alt(subject, tables, kept, here, *a, *b, steps),
+    match kind {
+        // The right part, and then the left one.
+        Node::Seq(a, b) => {
+            let stop = last_cut(subject, tables, kept, here, *a, *b, steps);
+            let node = a.index();
+            let left = Matched { node, stop, ..here };
+            let (node, start, stop) = (b.index(), stop, here.stop);
+            Then::Two(Matched { node, start, stop }, GroupTask::Apart(left))
+        }
+        // The left alternative, if it matches, and else the right one.
+        Node::Alt(a, b) => {
+            let left = a.index();
+            let spans = kept.spans(subject, &mut tables.reverse_one, left, here.start, steps);
+            let node = if spans { *a } else { *b }.index();
+            Then::One(Matched { node, ..here })
+        }
         Node::Group(k, a) => {
-            settle_group(decided, *k, (here.start, here.stop));
-            let part = a.index();
-            Then::Two(Matched { node: part, ..here }, GroupTask::Forget(part))
+            if decided.due.has(*k) {
+                decided.due = decided.due.without(GroupSet::one(*k));
+                decided.spans[*k] = Some((here.start, here.stop));
+            }
+            let node = a.index();
+            Then::Two(Matched { node, ..here }, GroupTask::Forget(node))
         }
-        Node::Star(a, first) => turn_star(subject, tables, kept, here, *a, *first, steps),
-        Node::Opt(a, first) => turn_opt(subject, here, *a, *first, steps),
+        // The last copy, in a region of its own.
+        Node::Star(a, first) => match last_copy(subject, tables, kept, here, *a, *first, steps) {
+            None => Then::Done,
+            Some(start) => {
+                let (node, stop) = (a.index(), here.stop);
+                kept.begin(subject, &tables.reverse_one, node, stop);
+                Then::Two(Matched { node, start, stop }, GroupTask::Forget(node))
+            }
+        },
+        Node::Opt(a, first) => {
+            let node = a.index();
+            if here.start < here.stop || *first && subject.is_null(node, here.start, steps) {
+                Then::Two(Matched { node, ..here }, GroupTask::Forget(node))
+            } else {
+                Then::Done
+            }
+        }
         _ => Then::Done,
-    }
-}
-
-/// What comes in place of a match: nothing, unless a group in it is due.
-fn turn(
-    subject: Subject,
-    tables: &mut GroupTables,
-    kept: &mut Kept,
-    decided: &mut Decided,
-    here: Matched,
-    steps: &mut Steps,
-) -> Then
-    requires arena { IsArena (nodes_in subject) }
-    requires there { IsMatch (nodes_in subject) (subject_text subject) here }
-    requires ends { EndsRegion subject kept.old.region here }
-    requires desk { IsGroupDesk subject tables.old kept.old }
-    requires decided { HasBlank decided.old }
-    ensures turned { Turned subject.entry here (known_groups_in decided.old) (known_groups_in decided.new) kept.new.region result steps.old steps.new }
-    ensures desk { KeepsGroupDesk subject.entry tables.old tables.new kept.old kept.new }
-    ensures decided { HasBlank decided.new }
-    ensures counts { TakesAtLeast steps.old steps.new (spans_in decided.new.spans - spans_in decided.old.spans) }
-{
-    let groups = facts_at(subject.prepared, here.node).groups;
-    if !groups.meets(decided.due) {
-        return Then::Done;
-    }
-    let node = subject.prepared.arena.look(here.node, false, steps);
-    turn_node(subject, tables, kept, decided, here, &node, steps)
-}
-
-/// Lets the task wait that comes after the match, and gives the match.
-fn put(then: Then, tasks: &mut Vec<GroupTask>) -> Option<Matched>
-    requires { vec_len tasks.old + 1 ≤ vec_capacity tasks.old }
-    ensures first { result ≡ next_of then }
-    ensures items { waiting result tasks.new.items ≡ tasks_after then ++ reverse tasks.old.items }
-    ensures room { vec_capacity tasks.old ≤ vec_capacity tasks.new }
-{
-    match then {
-        Then::Done => None,
-        Then::One(next) => Some(next),
-        Then::Two(next, later) => {
-            tasks.push_reserved(later);
-            Some(next)
-        }
     }
 }
 
 /// Goes from a match to what ends where it does, and writes the groups that are due there.
 fn spine(
     subject: Subject,
-    tables: &mut GroupTables,
+    tables: &mut Tables,
     room: &mut GroupRoom,
     decided: &mut Decided,
     here: Matched,
@@ -453,10 +325,22 @@ fn spine(
 {
     room.kept
         .begin(subject, &tables.reverse_one, here.node, here.stop);
-    let mut at = Some(here);
-    'nodes: while let Some(next) = at {
-        let then = turn(subject, tables, &mut room.kept, decided, next, steps);
-        at = put(then, &mut room.tasks);
+    let mut at = here;
+    'nodes: loop {
+        let groups = facts_at(subject.prepared, at.node).groups;
+        if !groups.meets(decided.due) {
+            return;
+        }
+        let node = subject.prepared.arena.look(at.node, false, steps);
+        let kept = &mut room.kept;
+        match turn_node(subject, tables, kept, decided, at, &node, steps) {
+            Then::Done => return,
+            Then::One(next) => at = next,
+            Then::Two(next, later) => {
+                room.tasks.push_reserved(later);
+                at = next;
+            }
+        }
     }
 }
 
@@ -472,7 +356,7 @@ pub fn all_groups(prepared: &Prepared) -> GroupSet
 /// [`all_groups`].
 pub fn decide(
     subject: Subject,
-    tables: &mut GroupTables,
+    tables: &mut Tables,
     room: &mut GroupRoom,
     due: GroupSet,
     start: usize,
@@ -506,7 +390,9 @@ pub fn decide(
     room.tasks.push_reserved(GroupTask::Apart(whole));
     'all: while let Some(task) = room.tasks.pop() {
         match task {
-            GroupTask::Forget(x) => forget(subject.prepared, &mut decided, x),
+            GroupTask::Forget(x) => {
+                decided.due = decided.due.without(facts_at(subject.prepared, x).groups);
+            }
             GroupTask::Apart(here) => spine(subject, tables, room, &mut decided, here, steps),
         }
     }

@@ -10,7 +10,7 @@ ghost use Rattle.sedtext.specs.Words.{row_of};
 ghost use Rattle.sedre.specs.Steps.{Takes, TakesAtLeast, TakesExactly};
 ghost use Rattle.sedpass.specs.Regions.{CeasesAt, IsLastIn, MeetsAt, ReachesEnd};
 ghost use Rattle.sedpass.specs.Table.{AddsStates, IsOffset, IsTable, MayBegin, SameShape, state_of};
-ghost use Rattle.sedpass.specs.Kept.{AllMarked, ComesDown, EdgesFrom, Follows, IsEdge, IsKept, IsRegion, KeepsRegion, KeptAt, KeptRoom, Meet, PassesDownTo, SameKept, SameSpace, again, ends_shown, owed_region};
+ghost use Rattle.sedpass.specs.Kept.{AllMarked, ComesDown, Follows, IsEdge, IsKept, IsRegion, KeepsRegion, KeptAt, KeptRoom, Meet, PassesDownTo, SameSpace, again, ends_shown, owed_region};
 
 use crate::cells::offset_of;
 use crate::nodes::{Prepared, kind_of};
@@ -69,30 +69,14 @@ pub struct Kept {
     pub edges: Rows,
 }
 
-/// Appends zeros until there is a state's number for each place of a text of so many bytes.
-fn extend_states(states: &mut Vec<u16>, text: usize)
-    requires room { text < vec_capacity states.old }
-    ensures long { text < length states.new.items }
-    ensures capacity { vec_capacity states.new ≡ vec_capacity states.old }
-{
-    while states.len() <= text {
-        states.push_reserved(0);
-    }
-}
-
 impl Kept {
-    /// Room for texts of at most `max_text` bytes, which are cut into at most `blocks` blocks, and expressions of `nodes` nodes.
+    /// Room for texts of at most `bytes` bytes, which are cut into at most `blocks` blocks, and expressions of `nodes` nodes.
     /// Fails only where a request for memory was refused.
-    pub fn new(
-        alloc: Global,
-        max_text: usize,
-        blocks: usize,
-        nodes: usize,
-    ) -> Result<Kept, AllocError>
-        requires text { max_text ≤ 2 ^ 30 }
+    pub fn new(alloc: Global, bytes: usize, blocks: usize, nodes: usize) -> Result<Kept, AllocError>
+        requires text { bytes ≤ 2 ^ 30 }
         requires blocks { blocks ≤ 32768 }
         requires nodes { nodes ≤ 65536 }
-        ensures places { IfOk result (λ k. max_text < vec_capacity k.states) }
+        ensures places { IfOk result (λ k. bytes < vec_capacity k.states) }
         ensures edges { IfOk result (λ k. length k.edges ≡ 2 * blocks) }
         ensures marks { IfOk result (λ k. (q : ℕ) → q < length k.edges → length (row_of k.edges q) ≡ nodes) }
     {
@@ -104,7 +88,7 @@ impl Kept {
                 from: 0,
                 to: 0,
             },
-            states: Vec::with_capacity(alloc, max_text + 1)?,
+            states: Vec::with_capacity(alloc, bytes + 1)?,
             edges: Rows::new(alloc, 2 * blocks, nodes)?,
         })
     }
@@ -123,7 +107,11 @@ impl Kept {
         ensures owed { (i : ℕ) → i ≤ end → owed_region (length subject.entry.prepared.now.arena.expr.nodes) self.new.region i
             ≤ 100 * length subject.entry.prepared.now.arena.expr.nodes * (end - i) }
     {
-        extend_states(&mut self.states, subject.text.len());
+        let length = subject.text.len();
+        let states = &mut self.states;
+        while states.len() <= length {
+            states.push_reserved(0);
+        }
         self.region = Region {
             root,
             end,
@@ -166,37 +154,6 @@ impl Kept {
         offset
     }
 
-    /// Keeps the row of a state as that of the right end of a block, unless the region ends there.
-    fn keep_edge(
-        &mut self,
-        subject: Subject,
-        table: &Table,
-        block: usize,
-        place: usize,
-        offset: usize,
-        steps: &mut Steps,
-    )
-        requires passes { PassesDownTo subject.prepared.now subject.text.now table.now self.old place offset }
-        requires edges { EdgesFrom subject.prepared.now subject.text.now table.now self.old place }
-        requires right { place < self.old.region.end → place ≡ block * (table.now.room - 1) + (table.now.room - 1) }
-        requires within { place ≤ block * (table.now.room - 1) + (table.now.room - 1) }
-        ensures passes { PassesDownTo subject.entry.prepared.now subject.entry.text.now table.now self.new place offset }
-        ensures edges { EdgesFrom subject.entry.prepared.now subject.entry.text.now table.now self.new (block * (table.now.room - 1)) }
-        ensures same { SameKept self.old self.new }
-        ensures region { self.new.region ≡ self.old.region }
-        ensures cost { Takes steps.old steps.new (4 * length subject.entry.prepared.now.arena.expr.nodes) }
-    {
-        if place >= self.region.end {
-            return;
-        }
-        let nodes = subject.prepared.nodes();
-        let state = table.state_at(offset);
-        self.edges
-            .copy(2 * block, &table.rows, leaves_row(state), nodes, steps);
-        self.edges
-            .copy(2 * block + 1, &table.rows, ends_row(state), nodes, steps);
-    }
-
     /// The state of a place that is the region's end, or the right end of a block of which the row is kept; gives where its cells
     /// begin. At the region's end the block counts for nothing.
     fn edge_state(
@@ -229,7 +186,14 @@ impl Kept {
             let code = table.first(prepared, root, kind, steps);
             return offset_of(code);
         }
-        let code = table.load(prepared, root, block, &self.edges, steps);
+        let nodes = prepared.nodes();
+        // For proofs: so many fit their type.
+        let _rows = self.edges.len();
+        let (leaves, ends) = (leaves_row(table.count), ends_row(table.count));
+        let rows = &mut table.rows;
+        rows.copy(leaves, &self.edges, 2 * block, nodes, steps);
+        rows.copy(ends, &self.edges, 2 * block + 1, nodes, steps);
+        let code = table.intern(prepared, root, steps);
         offset_of(code)
     }
 
@@ -246,6 +210,7 @@ impl Kept {
             Takes steps.old steps.new (33 * m + 39 * m * (self.old.region.end - low)) }
         ensures counts { TakesAtLeast steps.old steps.new (2 * (self.old.region.end - low)) }
     {
+        let nodes = subject.prepared.nodes();
         let end = self.region.end;
         let mut offset = self.edge_state(subject, table, 0, end, steps);
         self.region.to = end;
@@ -253,8 +218,13 @@ impl Kept {
         while place > low {
             let width = table.room - 1;
             let block = (place - 1) / width;
+            // the row of a block's right end is kept, unless the region ends there
+            if place < end {
+                let (state, rows) = (table.state_at(offset), &mut self.edges);
+                rows.copy(2 * block, &table.rows, leaves_row(state), nodes, steps);
+                rows.copy(2 * block + 1, &table.rows, ends_row(state), nodes, steps);
+            }
             let least = low.max(block * width);
-            self.keep_edge(subject, table, block, place, offset, steps);
             offset = self.pass(subject, table, least, place, offset, steps);
             place = least;
         }
@@ -288,25 +258,19 @@ impl Kept {
 
     /// Sees to it that the states of a place below the region's end, and of those up to the end of its block, are in the table;
     /// gives the place before which they are.
-    fn ready(
-        &mut self,
-        subject: Subject,
-        table: &mut Table,
-        place: usize,
-        steps: &mut Steps,
-    ) -> usize
+    fn ready(&mut self, subject: Subject, table: &mut Table, at: usize, steps: &mut Steps) -> usize
         requires kept { IsKept subject.prepared.now subject.text.now table.old self.old }
-        requires place { place < self.old.region.end }
+        requires place { at < self.old.region.end }
         ensures keeps { KeepsRegion subject.entry.prepared.now subject.entry.text.now table.old table.new self.old self.new }
-        ensures from { self.new.region.from ≤ place }
-        ensures to { (result ≡ self.new.region.to) × (place < result) }
+        ensures from { self.new.region.from ≤ at }
+        ensures to { (result ≡ self.new.region.to) × (at < result) }
         ensures cost { let m = length subject.entry.prepared.now.arena.expr.nodes in
-            CostsWithin steps.old steps.new (owed_region m self.old.region place) (owed_region m self.new.region place) }
+            CostsWithin steps.old steps.new (owed_region m self.old.region at) (owed_region m self.new.region at) }
     {
-        if place < self.region.low {
-            self.make(subject, table, place, steps);
-        } else if place < self.region.from || self.region.to <= place {
-            self.remake(subject, table, place, steps);
+        if at < self.region.low {
+            self.make(subject, table, at, steps);
+        } else if at < self.region.from || self.region.to <= at {
+            self.remake(subject, table, at, steps);
         }
         self.region.to
     }
@@ -334,9 +298,8 @@ impl Kept {
             return subject.is_null(x, place, steps);
         }
         self.ready(subject, table, place, steps);
-        table
-            .rows
-            .get(ends_row(self.states[place] as usize), x, steps)
+        let ends = ends_row(self.states[place] as usize);
+        table.rows.get(ends, x, steps)
     }
 
     /// The first place from one on at which the node x is marked, or isn't, as asked; the region's end where there is none
@@ -487,10 +450,8 @@ impl Kept {
         for place in from..self.region.to {
             let ahead = leaves_row(forward_one.state_at(offset));
             let behind = ends_row(self.states[place] as usize);
-            if !forward_one
-                .rows
-                .meets(ahead, &table.rows, behind, nodes, steps)
-            {
+            let rows = &forward_one.rows;
+            if !rows.meets(ahead, &table.rows, behind, nodes, steps) {
                 return (place, offset);
             }
             let byte = subject.text.byte(place, steps);

@@ -1,24 +1,23 @@
 //! An expression made ready for passes: what is found out of each node once, and the classes of bytes.
-ghost use Rattle.std.specs.Prelude.{◌≡◌, ℕ, List, Bool, true, false, cond, ◌+◌, ◌<◌, ◌≤◌, ◌&&◌, ◌↔◌, length, vec_capacity, Some, None, slice_get, IfOk, IsTrue};
+ghost use Rattle.std.specs.Prelude.{◌≡◌, ℕ, List, Bool, false, cond, ◌+◌, ◌<◌, ◌≤◌, ◌↔◌, length, vec_capacity, Some, None, slice_get, IfOk, IsTrue};
 ghost use Rattle.std.proofs.Props.{props};
-ghost use Rattle.sedre.specs.Arena.{IsExpr};
+ghost use Rattle.sedre.specs.Arena.{IsArena, IsExpr};
 ghost use Rattle.sedre.specs.declared.types.Node.{Node};
-ghost use Rattle.sedre.specs.Tree.{tree_at, tree_of, Tree, sequence, either_of, grouped, any_copies, one_or_none, size};
-ghost use Rattle.sedre.specs.Mirror.{seen};
+ghost use Rattle.sedre.specs.Tree.{tree_at, tree_of, Tree, any_copies, one_or_none, size};
+ghost use Rattle.sedre.specs.Mirror.{node_seen, seen};
 ghost use Rattle.sedre.specs.Packed.{PartsBelow};
 ghost use Rattle.sedre.specs.Steps.{Takes, TakesExactly, TakesAtLeast};
 ghost use Rattle.sedpass.specs.Walks.{has_group};
 ghost use Rattle.sedpass.specs.Prepared.{IsPrepared, IsFacts, AreFacts, IsShort, is_one_set, repeated_set, null_at, null_in, nullable, sum_of, same_of, length_of};
 ghost use Rattle.sedpass.specs.Rows.{IsNodeRange};
-ghost use Rattle.sedpass.specs.declared.nodes.Facts.{Facts};
 
-use crate::arena::Arena;
 use crate::classes::{Classes, classes_of};
 use crate::group_set::GroupSet;
 use sedre::{Expr, Node, NodeId, Steps};
 use sedtext::beginnings::Begins;
 use sedtext::required::RequiredLiteral;
 use std::alloc::{AllocError, Global};
+use std::marker::Model;
 
 /// A kind of place: whether it is the text's beginning, and whether it is its end. An expression matches the null string
 /// at one place of a kind if it does at all of them.
@@ -96,42 +95,6 @@ fn same_of(left: Option<usize>, right: Option<usize>) -> Option<usize>
     if left == right { left } else { None }
 }
 
-/// What is known of a concatenation, from what is known of its parts.
-fn of_seq(left: Facts, right: Facts) -> Facts
-    ensures { (a b : Tree) (x y z : ℕ) → IsFacts a x left → IsFacts b y right → x + size b + 1 ≡ z → y + 1 ≡ z → size a + size b ≤ 65536 → IsFacts (sequence a b) z result }
-{
-    Facts {
-        null: left.null & right.null,
-        groups: left.groups.union(right.groups),
-        length: sum_of(left.length, right.length),
-        run: None,
-        ..left
-    }
-}
-
-/// What is known of an alternation, from what is known of its parts.
-fn of_alt(left: Facts, right: Facts) -> Facts
-    ensures { (a b : Tree) (x y z : ℕ) → IsFacts a x left → IsFacts b y right → x + size b + 1 ≡ z → y + 1 ≡ z → IsFacts (either_of a b) z result }
-{
-    Facts {
-        null: left.null | right.null,
-        groups: left.groups.union(right.groups),
-        length: same_of(left.length, right.length),
-        run: None,
-        ..left
-    }
-}
-
-/// What is known of a group, from what is known of its part.
-fn of_group(k: usize, part: Facts) -> Facts
-    ensures { (a : Tree) (x z : ℕ) → IsFacts a x part → x + 1 ≡ z → IsFacts (grouped k a) z result }
-{
-    Facts {
-        groups: part.groups.union(GroupSet::one(k)),
-        ..part
-    }
-}
-
 /// The index of a part, if that is a set: it has no parts, and its matches have one byte.
 fn set_at(part: NodeId, shown: Facts) -> Option<usize>
     ensures { (a : Tree) → IsFacts a part.index shown → result ≡ cond (is_one_set a) (Some part.index) None }
@@ -177,11 +140,120 @@ pub fn facts_of(node: &Node, facts: &Vec<Facts>) -> Facts
         Node::Set(_) => of_leaf(x, 0, 1),
         Node::Begin => of_leaf(x, AT_BEGIN, 0),
         Node::End => of_leaf(x, AT_END, 0),
-        Node::Seq(a, b) => of_seq(of_part(facts, a), of_part(facts, b)),
-        Node::Alt(a, b) => of_alt(of_part(facts, a), of_part(facts, b)),
-        Node::Group(k, a) => of_group(k, of_part(facts, a)),
+        Node::Seq(a, b) => {
+            let (left, right) = (of_part(facts, a), of_part(facts, b));
+            Facts {
+                null: left.null & right.null,
+                groups: left.groups.union(right.groups),
+                length: sum_of(left.length, right.length),
+                run: None,
+                ..left
+            }
+        }
+        Node::Alt(a, b) => {
+            let (left, right) = (of_part(facts, a), of_part(facts, b));
+            Facts {
+                null: left.null | right.null,
+                groups: left.groups.union(right.groups),
+                length: same_of(left.length, right.length),
+                run: None,
+                ..left
+            }
+        }
+        Node::Group(k, a) => {
+            let part = of_part(facts, a);
+            let groups = part.groups.union(GroupSet::one(k));
+            Facts { groups, ..part }
+        }
         Node::Star(a, _) => of_many(of_part(facts, a), set_at(a, of_part(facts, a))),
         Node::Opt(a, _) => of_many(of_part(facts, a), None),
+    }
+}
+
+/// The nodes of an expression.
+#[derive(Drop)]
+pub struct Arena {
+    nodes: Vec<Node>,
+    groups: usize,
+}
+
+impl Model for Arena {
+    ghost use Rattle.std.specs.Prelude.{vec_capacity};
+    ghost use Rattle.sedre.specs.Arena.{IsArena, IsExpr};
+    ghost use Rattle.sedpass.specs.Prepared.{HeldExpression};
+
+    ghost Value = { HeldExpression };
+
+    ghost view = { λ a. record { expr = record { nodes = a.nodes.items; groups = a.groups }; room = vec_capacity a.nodes } };
+
+    ghost invariant = { λ a. IsExpr a.nodes.items a.groups };
+}
+
+/// A node, mirrored or as it is.
+fn node_seen(node: Node, mirrored: bool) -> Node
+    ensures { result ≡ node_seen mirrored node }
+{
+    if !mirrored {
+        return node;
+    }
+    match node {
+        Node::Begin => Node::End,
+        Node::End => Node::Begin,
+        Node::Seq(a, b) => Node::Seq(b, a),
+        other => other,
+    }
+}
+
+/// Copies the nodes of an expression, and finds out the facts of each. Counts a look for each.
+fn copy_nodes(expr: &Expr, nodes: &mut Vec<Node>, facts: &mut Vec<Facts>, steps: &mut Steps)
+    requires expr { IsExpr expr.now.nodes expr.now.groups }
+    requires nodes { length expr.now.nodes ≤ vec_capacity nodes.old }
+    requires facts { length expr.now.nodes ≤ vec_capacity facts.old }
+    ensures copied { nodes.new.items ≡ expr.now.nodes }
+    ensures all { length facts.new.items ≡ length expr.now.nodes }
+    ensures facts { AreFacts expr.now.nodes facts.new.items }
+    ensures nodes_room { vec_capacity nodes.new ≡ vec_capacity nodes.old }
+    ensures facts_room { vec_capacity facts.new ≡ vec_capacity facts.old }
+    ensures cost { Takes steps.old steps.new (length expr.now.nodes) }
+    ensures counts { TakesAtLeast steps.old steps.new (length expr.now.nodes) }
+{
+    nodes.clear();
+    facts.clear();
+    for x in 0..expr.nodes() {
+        let node = expr.look(expr.id(x), steps);
+        let next = facts_of(&node, facts);
+        nodes.push_reserved(node);
+        facts.push_reserved(next);
+    }
+}
+
+impl Arena {
+    /// The node of an index, as it is or mirrored. Counts one look.
+    pub fn look(&self, x: usize, mirrored: bool, steps: &mut Steps) -> Node
+        requires inside { x < length self.now.expr.nodes }
+        ensures node { slice_get (seen mirrored self.now.expr).nodes x ≡ Some result }
+        ensures cost { Takes steps.old steps.new 1 }
+        ensures counts { TakesExactly steps.old steps.new 1 }
+        ensures parts { PartsBelow x result }
+        ensures arena { IsArena (seen mirrored self.now.expr).nodes }
+        ensures few { length self.now.expr.nodes ≤ 65536 }
+    {
+        steps.add(1);
+        node_seen(self.nodes[x], mirrored)
+    }
+
+    /// For proofs: the nodes are those of an expression.
+    pub fn is_expression(&self)
+        ensures { IsExpr self.now.expr.nodes self.now.expr.groups }
+    {
+        let _groups = self.groups;
+    }
+
+    /// How many groups there are.
+    pub fn groups(&self) -> usize
+        ensures { result ≡ self.now.expr.groups }
+    {
+        self.groups
     }
 }
 
@@ -212,10 +284,11 @@ impl Prepared {
         ensures facts { IfOk result (λ p. nodes ≤ vec_capacity p.facts) }
     {
         let mut facts = Vec::with_capacity(alloc, nodes)?;
-        let arena = Arena::with_room(alloc, nodes)?;
+        let mut nodes = Vec::with_capacity(alloc, nodes)?;
         facts.push_reserved(of_leaf(0, EVERYWHERE, 0));
+        nodes.push_reserved(Node::Empty);
         Ok(Prepared {
-            arena,
+            arena: Arena { nodes, groups: 0 },
             root: 0,
             facts,
             classes: classes_of(&[]),
@@ -234,7 +307,8 @@ impl Prepared {
         ensures cost { Takes steps.old steps.new (length expr.now.nodes) }
         ensures counts { TakesAtLeast steps.old steps.new (length expr.now.nodes) }
     {
-        self.arena.fill(expr, &mut self.facts, steps);
+        self.arena.groups = expr.groups();
+        copy_nodes(expr, &mut self.arena.nodes, &mut self.facts, steps);
         self.root = expr.root().index();
         self.classes = classes_of(expr.sets());
         self.begins = Begins::Anyhow;
@@ -279,7 +353,6 @@ impl Prepared {
         ensures few { length self.now.arena.expr.nodes ≤ 65536 }
         ensures expr { IsExpr self.now.arena.expr.nodes self.now.arena.expr.groups }
     {
-        self.arena.is_expression();
-        self.root + 1
+        self.arena.nodes.len()
     }
 }

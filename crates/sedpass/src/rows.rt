@@ -3,7 +3,7 @@
 //! The row of a place shows which leaves are entered there, in a match from one of the pass's starts, and which nodes
 //! ended there. The leaves entered decide, with the byte, the next row. Rows of marks contain what acts work on: the first two what
 //! is found out of a place, and then two for each state, so that a row is made where it is kept.
-ghost use Rattle.std.specs.Prelude.{◌≡◌, ◌≢◌, ℕ, List, Bool, false, ◌+◌, ◌-◌, ◌*◌, ◌<◌, ◌≤◌, ◌↔◌, ◌&&◌, ◌||◌, length, Some, slice_index_or, IsTrue};
+ghost use Rattle.std.specs.Prelude.{◌≡◌, ◌≢◌, ℕ, List, Bool, false, ◌+◌, ◌-◌, ◌*◌, ◌<◌, ◌≤◌, ◌↔◌, ◌&&◌, length, None, slice_index_or, IsTrue};
 ghost use Rattle.sedre.specs.Tree.{tree_at, size};
 ghost use Rattle.sedre.specs.Packed.{PartsBelow};
 ghost use Rattle.sedre.specs.Steps.{Takes, TakesAtLeast};
@@ -135,13 +135,6 @@ fn leaf_bit(node: &Node, here: bool) -> bool
     }
 }
 
-/// Whether a row keeps that the node x has ended, after at least one byte or as the null string where it is entered.
-fn end_bit(way: Way, is_root: bool, end: bool, here: bool, null: bool) -> bool
-    ensures { result ≡ ((way.mirrored || is_root) && (end || (here && null))) }
-{
-    (way.mirrored || is_root) && (end || (here && null))
-}
-
 /// From the lowest node up: which nodes end here after at least one byte. `byte` is the one that came, if one did; the state
 /// is that of the place before it.
 fn ascend(act: Act, byte: Option<u8>, state: usize, rows: &mut Rows, steps: &mut Steps)
@@ -191,7 +184,8 @@ fn descend(act: Act, first: bool, state: usize, rows: &mut Rows, steps: &mut Ste
         enter(act, &node, here, rows, steps);
         let leaf = leaf_bit(&node, here);
         rows.set(leaves, x, leaf, steps);
-        let kept = end_bit(act.way, x == act.root, end, here, null);
+        // after at least one byte, or as the null string where it is entered
+        let kept = (act.way.mirrored | (x == act.root)) & (end | (here & null));
         rows.set(ends, x, kept, steps);
     }
 }
@@ -207,38 +201,33 @@ pub fn edge_kind(mirrored: bool, edge: bool) -> PlaceKind
     }
 }
 
-/// Makes the row after a state and a byte, as that of another. `act.kind` is of a place after a byte.
-pub fn step(act: Act, byte: u8, from: usize, to: usize, rows: &mut Rows, steps: &mut Steps)
-    requires kind { at_begin act.way.mirrored act.kind ≡ false }
+/// Makes a row as that of the state `to`: the one after the state `from` and a byte, or, without a byte, that in which a pass begins.
+/// `first` says whether a match may start there.
+pub fn step(
+    act: Act,
+    byte: Option<u8>,
+    first: bool,
+    from: usize,
+    to: usize,
+    rows: &mut Rows,
+    steps: &mut Steps,
+)
     requires root { act.root < length act.prepared.now.arena.expr.nodes }
-    requires order { from < to }
+    requires order { from ≤ to }
     requires wide { AreWide (length act.prepared.now.arena.expr.nodes) to rows.old }
     ensures keeps { KeepsRows (IsApart 2 to) rows.old rows.new }
     ensures leads { let m = length act.entry.prepared.now.arena.expr.nodes in
-        (before : ℕ → Bool) → RowLeadsTo (nodes_of act.entry.way act.entry.prepared.now.arena.expr) act.entry.root act.entry.way.mirrored
-        (bits m (row_of rows.old (leaves_row from))) before (Some byte) (at_edge act.entry.way.mirrored act.entry.kind) act.entry.way.all_starts
+        at_begin act.entry.way.mirrored act.entry.kind ≡ false → (before : ℕ → Bool) → RowLeadsTo (nodes_of act.entry.way act.entry.prepared.now.arena.expr) act.entry.root act.entry.way.mirrored
+        (bits m (row_of rows.old (leaves_row from))) before byte (at_edge act.entry.way.mirrored act.entry.kind) first
         (bits m (row_of rows.new (leaves_row to))) (bits m (row_of rows.new (ends_row to))) }
-    ensures cost { Takes steps.old steps.new (17 * length act.entry.prepared.now.arena.expr.nodes - 3) }
-    ensures counts { let m = length act.entry.prepared.now.arena.expr.nodes in
-        TakesAtLeast steps.old steps.new (8 * size (tree_at act.entry.prepared.now.arena.expr.nodes act.entry.root) + 2 * m) }
-{
-    ascend(act, Some(byte), from, rows, steps);
-    descend(act, act.way.all_starts, to, rows, steps);
-}
-
-/// Makes the row in which a pass begins, as that of a state.
-pub fn first(act: Act, to: usize, rows: &mut Rows, steps: &mut Steps)
-    requires root { act.root < length act.prepared.now.arena.expr.nodes }
-    requires wide { AreWide (length act.prepared.now.arena.expr.nodes) to rows.old }
-    ensures keeps { KeepsRows (IsApart 2 to) rows.old rows.new }
-    ensures first { let m = length act.entry.prepared.now.arena.expr.nodes in
-        IsFirstRow (nodes_of act.entry.way act.entry.prepared.now.arena.expr) act.entry.root act.entry.way.mirrored
+    ensures begins { let m = length act.entry.prepared.now.arena.expr.nodes in
+        byte ≡ None → IsTrue first → IsFirstRow (nodes_of act.entry.way act.entry.prepared.now.arena.expr) act.entry.root act.entry.way.mirrored
         (at_begin act.entry.way.mirrored act.entry.kind) (at_edge act.entry.way.mirrored act.entry.kind)
         (bits m (row_of rows.new (leaves_row to))) (bits m (row_of rows.new (ends_row to))) }
     ensures cost { Takes steps.old steps.new (17 * length act.entry.prepared.now.arena.expr.nodes - 3) }
     ensures counts { let m = length act.entry.prepared.now.arena.expr.nodes in
         TakesAtLeast steps.old steps.new (8 * size (tree_at act.entry.prepared.now.arena.expr.nodes act.entry.root) + 2 * m) }
 {
-    ascend(act, None, to, rows, steps);
-    descend(act, true, to, rows, steps);
+    ascend(act, byte, from, rows, steps);
+    descend(act, first, to, rows, steps);
 }

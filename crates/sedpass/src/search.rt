@@ -2,11 +2,10 @@
 //!
 //! A trial is a pass from one place at which a match can begin. Where trials went over many places that are in no match, a pass
 //! from the text's end is kept for the rest of the text: it shows where matches begin, and how far one leads.
-ghost use Rattle.std.specs.Prelude.{◌≡◌, ℕ, false, ◌+◌, ◌-◌, ◌*◌, ◌/◌, ◌<◌, ◌≤◌, ◌↔◌, length, if◌then◌else◌, IsTrue};
+ghost use Rattle.std.specs.Prelude.{◌≡◌, ℕ, false, ◌+◌, ◌-◌, ◌*◌, ◌≤◌, length, if◌then◌else◌, IsTrue};
 ghost use Rattle.sedtext.specs.Answer.{SpanAnswer};
 ghost use Rattle.sedtext.specs.Beginnings.{AllBegin};
 ghost use Rattle.sedtext.specs.Costs.{CostsWithin};
-ghost use Rattle.sedtext.specs.Reach.{HasSpan};
 ghost use Rattle.sedre.specs.Tree.{expression_tree};
 ghost use Rattle.sedre.specs.Steps.{Takes};
 ghost use Rattle.sedpass.specs.Table.{IsForwardOne, IsTable, SameShape};
@@ -93,17 +92,6 @@ fn try_all(
     Trials::Nothing
 }
 
-/// Whether a match begins at a place that the pass from the text's end found; of the end itself it says nothing.
-fn begins_there(subject: Subject, start: usize, steps: &mut Steps) -> bool
-    requires start { start ≤ length subject.text.now }
-    ensures inside { start < length subject.entry.text.now → IsTrue result }
-    ensures null { start ≡ length subject.entry.text.now → IsTrue result ↔
-        HasSpan subject.entry.prepared.now.arena.expr.nodes subject.entry.text.now subject.entry.prepared.now.root start start }
-    ensures cost { Takes steps.old steps.new 1 }
-{
-    start < subject.text.len() || subject.is_null(subject.prepared.root, start, steps)
-}
-
 /// The match from a place on, by the pass from the text's end, which was begun.
 pub fn next_kept(
     subject: Subject,
@@ -126,7 +114,8 @@ pub fn next_kept(
 {
     let root = subject.prepared.root;
     let start = kept.seek(subject, reverse_any, root, from, true, steps);
-    if !begins_there(subject, start, steps) {
+    // of the text's end itself the pass says nothing
+    if start == subject.text.len() && !subject.is_null(root, start, steps) {
         return None;
     }
     let end = kept.cut(subject, reverse_any, forward_one, root, start, steps);

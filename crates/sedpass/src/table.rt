@@ -3,17 +3,14 @@
 //! A state is the row of a place and the root of its pass, so one table serves all regions of an expression. A cell is
 //! filled when it is first asked for, by one act. A full table is emptied, and the pass goes on: so an unlucky text costs
 //! an act and a state for each byte, never more.
-ghost use Rattle.std.specs.Prelude.{◌≡◌, ℕ, false, ◌+◌, ◌*◌, ◌/◌, ◌^◌, ◌<◌, ◌≤◌, ◌↔◌, IsTrue, slice_index_or, length, replicate, IfOk, IfSome, vec_len, vec_capacity};
-ghost use Rattle.sedtext.specs.Words.{row_of};
+ghost use Rattle.std.specs.Prelude.{◌≡◌, ℕ, ◌+◌, ◌*◌, ◌/◌, ◌^◌, ◌<◌, ◌≤◌, length, IfOk, IfSome, vec_len};
 ghost use Rattle.sedre.specs.Steps.{Takes, TakesAtLeast};
-ghost use Rattle.sedpass.specs.Rows.{AreWide, nodes_of, bits, leaves_row, ends_row};
-ghost use Rattle.sedpass.specs.declared.nodes.PlaceKind.{PlaceKind};
-ghost use Rattle.sedpass.specs.declared.nodes.Prepared.{Prepared};
-ghost use Rattle.sedpass.specs.Table.{state_of, HasRow, HasNewRow, HasPlace, BeginsIn, NamesState, IsNext, IsOffset, beginning_at, MayBegin, IsRoomy, IsTable, SameRoom, SameShape, AddsStates, Codes, code_of};
+ghost use Rattle.sedpass.specs.Rows.{nodes_of, bits};
+ghost use Rattle.sedpass.specs.Table.{state_of, HasNewRow, HasPlace, BeginsIn, NamesState, IsNext, IsOffset, beginning_at, MayBegin, IsRoomy, IsTable, SameRoom, SameShape, AddsStates, Codes};
 
-use crate::cells::{Layout, StateFlags, code_of, empty_cells, most_cells};
+use crate::cells::{Layout, MOST_CELLS, StateFlags, code_of, empty_cells};
 use crate::nodes::{PlaceKind, Prepared};
-use crate::rows::{Act, Way, edge_kind, ends_row, first, leaves_row, step};
+use crate::rows::{Act, Way, edge_kind, ends_row, leaves_row, step};
 use sedre::Steps;
 use sedtext::counted::Rows;
 use std::alloc::{AllocError, Global};
@@ -27,13 +24,6 @@ const LAST_EPOCHS: u32 = u32::MAX - 1;
 pub struct Beginning {
     pub epoch: u32,
     pub code: u32,
-}
-
-/// For proofs: the number of some rows fits its type.
-fn count_fits(rows: &Rows)
-    ensures { length rows.now < 2 ^ 64 }
-{
-    let _count = rows.len();
 }
 
 /// A slot of the index: a state, and the low half of the epoch in which it was noted. A wrong slot costs a state, never an
@@ -84,80 +74,22 @@ fn next_epoch(epoch: u32) -> u32
     }
 }
 
-/// How many beginnings are noted: for each node those at each kind of place, with all starts for the whole expression alone.
-fn count_beginnings(all_starts: bool, nodes: usize) -> usize
-    requires some { 0 < nodes }
-    requires few { nodes ≤ 65536 }
-    ensures begins { (root : ℕ) (kind : PlaceKind) → root < nodes → beginning_at all_starts root kind < result }
-{
-    if all_starts { 4 } else { 4 * nodes }
-}
-
-/// Requests memory, and keeps in mind whether a request was refused: what it gives then is empty. So a table is made of what it
-/// gives, and let go of once.
-#[derive(Drop)]
-struct Requests {
-    alloc: Global,
-    refused: bool,
-}
-
-impl Requests {
-    /// So many copies of an item.
-    fn copies<T: Copy>(&mut self, item: T, count: usize) -> Vec<T>
-        ensures refused { self.new.refused ≡ false → self.old.refused ≡ false }
-        ensures long { self.new.refused ≡ false → vec_len result ≡ count }
-        ensures items { self.new.refused ≡ false → ((y : T) → T.is_clone item y → y ≡ item) → result.items ≡ replicate count item }
-    {
-        match vec![in self.alloc; item; count] {
-            Ok(items) => items,
-            Err(AllocError) => {
-                self.refused = true;
-                Vec::new(self.alloc)
-            }
-        }
-    }
-
-    /// Room for so many items.
-    fn room<T>(&mut self, count: usize) -> Vec<T>
-        ensures refused { self.new.refused ≡ false → self.old.refused ≡ false }
-        ensures room { self.new.refused ≡ false → count ≤ vec_capacity result }
-        ensures none { self.new.refused ≡ false → vec_len result ≡ 0 }
-    {
-        match Vec::with_capacity(self.alloc, count) {
-            Ok(items) => items,
-            Err(AllocError) => {
-                self.refused = true;
-                Vec::new(self.alloc)
-            }
-        }
-    }
-}
-
 impl Table {
-    /// An empty table with room for so many states of any expression of at most so many nodes, which serves none yet. Fails only
+    /// An empty table with room for so many states of any expression of so many nodes at most, which serves none yet. Fails only
     /// where a request for memory was refused.
-    pub fn with_room(
-        alloc: Global,
-        way: Way,
-        room: usize,
-        nodes: usize,
-    ) -> Result<Table, AllocError>
+    pub fn with_room(alloc: Global, way: Way, room: usize, most: usize) -> Result<Table, AllocError>
         requires some { 2 ≤ room }
         requires few { room ≤ 65535 }
-        requires nodes { 1 ≤ nodes }
-        requires short { nodes ≤ 65536 }
-        ensures table { IfOk result (λ t. IsRoomy nodes t × (t.way ≡ way) × (t.room ≡ room)) }
+        requires nodes { 1 ≤ most }
+        requires short { most ≤ 65536 }
+        ensures table { IfOk result (λ t. IsRoomy most t × (t.way ≡ way) × (t.room ≡ room)) }
     {
-        let rows = Rows::new(alloc, 2 * room + 4, nodes)?;
-        let kinds = count_beginnings(way.all_starts, nodes);
-        let mut requests = Requests {
-            alloc,
-            refused: false,
-        };
-        let table = Table {
+        // A beginning for each kind of place: of each node, with all starts of the whole expression alone.
+        let kinds = if way.all_starts { 4 } else { 4 * most };
+        Ok(Table {
             way,
             room,
-            marks: nodes,
+            marks: most,
             layout: Layout {
                 classes: [0; 256],
                 columns: 0,
@@ -165,18 +97,13 @@ impl Table {
             },
             count: 0,
             epoch: 1,
-            rows,
-            roots: requests.copies(0, room),
-            cells: requests.room(room * most_cells(nodes)),
+            rows: Rows::new(alloc, 2 * room + 4, most)?,
+            roots: vec![in alloc; 0; room]?,
+            cells: Vec::with_capacity(alloc, room * MOST_CELLS.min(4 * (most + 1)))?,
             // An odd number and one: by a power of two only a digest's last bits would count.
-            index: requests.copies(Slot { epoch: 0, state: 0 }, 2 * room + 2),
-            beginnings: requests.copies(Beginning { epoch: 0, code: 0 }, kinds),
-        };
-        if requests.refused {
-            drop(table);
-            return Err(AllocError);
-        }
-        Ok(table)
+            index: vec![in alloc; Slot { epoch: 0, state: 0 }; 2 * room + 2]?,
+            beginnings: vec![in alloc; Beginning { epoch: 0, code: 0 }; kinds]?,
+        })
     }
 
     /// Begins to serve an expression: lays the cells out anew, and forgets all states.
@@ -213,35 +140,6 @@ impl Table {
         offset >> self.layout.shift
     }
 
-    /// What the row that is being made shows of its state: whether the root ends there, and whether no leaf is entered.
-    fn flags(&self, root: usize, nodes: usize, steps: &mut Steps) -> StateFlags
-        requires root { root < nodes }
-        requires wide { AreWide nodes self.now.count self.now.rows }
-        ensures ends { result.ends ≡ slice_index_or (row_of self.now.rows (ends_row self.now.count)) root false }
-        ensures dead { IsTrue result.dead ↔ ((c : ℕ) → c < nodes → slice_index_or (row_of self.now.rows (leaves_row self.now.count)) c false ≡ false) }
-        ensures cost { Takes steps.old steps.new (nodes + 1) }
-    {
-        StateFlags {
-            ends: self.rows.get(ends_row(self.count), root, steps),
-            dead: self.rows.is_clear(leaves_row(self.count), nodes, steps),
-        }
-    }
-
-    /// The slot of the index, or the one before it, where a state with this root and the row that is being made is noted, if
-    /// there is one.
-    fn slot_of(&self, nodes: usize, root: usize, steps: &mut Steps) -> usize
-        requires wide { AreWide nodes self.now.count self.now.rows }
-        requires slots { 2 ≤ vec_len self.now.index }
-        ensures slot { result + 1 < vec_len self.now.index }
-        ensures cost { Takes steps.old steps.new (2 * nodes) }
-        ensures counts { TakesAtLeast steps.old steps.new (2 * nodes) }
-    {
-        let leaves = self.rows.digest(leaves_row(self.count), nodes, steps);
-        let ends = self.rows.digest(ends_row(self.count), nodes, steps);
-        let digest = leaves ^ ends.rotate_left(32) ^ root as u64;
-        (digest % (self.index.len() - 1) as u64) as usize
-    }
-
     /// The state that a slot of the index notes, if it notes one.
     fn noted(&self, slot: usize) -> Option<usize>
         requires { slot < vec_len self.now.index }
@@ -251,38 +149,6 @@ impl Table {
         let state = noted.state as usize;
         let known = noted.epoch == (self.epoch % 65536) as u16 && state < self.count;
         known.then_some(state)
-    }
-
-    /// The state with this root and the row that is being made, if the slot or the one after it notes it.
-    fn find(
-        &self,
-        prepared: &Prepared,
-        root: usize,
-        slot: usize,
-        steps: &mut Steps,
-    ) -> Option<usize>
-        requires table { IsTable prepared.now self.now }
-        requires slot { slot + 1 < vec_len self.now.index }
-        ensures there { IfSome result (λ q. q < self.now.count) }
-        ensures has { IfSome result (λ q. HasNewRow (length prepared.now.arena.expr.nodes) self.now root (state_of (length prepared.now.arena.expr.nodes) self.now q)) }
-        ensures cost { Takes steps.old steps.new (4 * length prepared.now.arena.expr.nodes + 2) }
-    {
-        let nodes = prepared.nodes();
-        for at in slot..slot + 2 {
-            steps.add(1);
-            if let Some(state) = self.noted(at)
-                && self.roots[state] == root
-                && self
-                    .rows
-                    .same(leaves_row(state), leaves_row(self.count), nodes, steps)
-                && self
-                    .rows
-                    .same(ends_row(state), ends_row(self.count), nodes, steps)
-            {
-                return Some(state);
-            }
-        }
-        None
     }
 
     /// Empties the table if it is full, and makes the row that is being made that of its first state.
@@ -317,13 +183,8 @@ impl Table {
         let state = self.count;
         self.roots[state] = root;
         let (offset, size) = (state << self.layout.shift, 1usize << self.layout.shift);
-        empty_cells(
-            &mut self.cells,
-            offset,
-            2 * self.layout.columns as usize,
-            size,
-            steps,
-        );
+        let columns = self.layout.columns as usize;
+        empty_cells(&mut self.cells, offset, 2 * columns, size, steps);
         self.index[slot] = Slot {
             epoch: (self.epoch % 65536) as u16,
             state: state as u16,
@@ -332,19 +193,9 @@ impl Table {
         state
     }
 
-    /// The code of a state with these flags.
-    fn code(&self, flags: StateFlags, state: usize) -> u32
-        requires few { self.now.room ≤ 65535 }
-        requires small { self.now.layout.shift ≤ 8 }
-        requires there { state < self.now.room }
-        ensures { result ≡ code_of flags (state * 2 ^ self.now.layout.shift) }
-    {
-        code_of(flags, state << self.layout.shift)
-    }
-
     /// The code of the state with this root and the row that is being made, which is added unless it is found; a full table is
     /// emptied before.
-    fn intern(&mut self, prepared: &Prepared, root: usize, steps: &mut Steps) -> u32
+    pub fn intern(&mut self, prepared: &Prepared, root: usize, steps: &mut Steps) -> u32
         requires table { IsTable prepared.now self.old }
         requires root { root < length prepared.now.arena.expr.nodes }
         ensures codes { Codes prepared.now self.old self.new (HasNewRow (length prepared.now.arena.expr.nodes) self.old root) result }
@@ -352,15 +203,30 @@ impl Table {
         ensures counts { TakesAtLeast steps.old steps.new (2 * length prepared.now.arena.expr.nodes) }
     {
         let nodes = prepared.nodes();
-        let slot = self.slot_of(nodes, root, steps);
-        let flags = self.flags(root, nodes, steps);
-        if let Some(state) = self.find(prepared, root, slot, steps) {
-            return self.code(flags, state);
+        let (leaves, ends) = (leaves_row(self.count), ends_row(self.count));
+        let flags = StateFlags {
+            ends: self.rows.get(ends, root, steps),
+            dead: self.rows.is_clear(leaves, nodes, steps),
+        };
+        let entered = self.rows.digest(leaves, nodes, steps);
+        let ended = self.rows.digest(ends, nodes, steps);
+        let digest = entered ^ ended.rotate_left(32) ^ root as u64;
+        // Where such a state is noted, if there is one: in this slot of the index or the next.
+        let at = (digest % (self.index.len() - 1) as u64) as usize;
+        for slot in at..at + 2 {
+            steps.add(1);
+            if let Some(state) = self.noted(slot)
+                && self.roots[state] == root
+                && self.rows.same(leaves_row(state), leaves, nodes, steps)
+                && self.rows.same(ends_row(state), ends, nodes, steps)
+            {
+                return code_of(flags, state << self.layout.shift);
+            }
         }
         self.make_room(prepared, steps);
-        let at = slot + usize::from(self.noted(slot).is_some());
-        let state = self.add(prepared, root, at, steps);
-        self.code(flags, state)
+        let slot = at + usize::from(self.noted(at).is_some());
+        let state = self.add(prepared, root, slot, steps);
+        code_of(flags, state << self.layout.shift)
     }
 
     /// Makes the state after a state and a byte, and fills its cell unless the table was emptied for it.
@@ -386,7 +252,8 @@ impl Table {
             root: self.roots[state],
             kind: edge_kind(self.way.mirrored, edge),
         };
-        step(act, byte, state, self.count, &mut self.rows, steps);
+        let (first, to) = (self.way.all_starts, self.count);
+        step(act, Some(byte), first, state, to, &mut self.rows, steps);
         let epoch = self.epoch;
         let next = self.intern(prepared, act.root, steps);
         if self.epoch == epoch
@@ -456,14 +323,13 @@ impl Table {
             root,
             kind,
         };
-        first(act, self.count, &mut self.rows, steps);
+        let to = self.count;
+        step(act, None, true, to, to, &mut self.rows, steps);
         let code = self.intern(prepared, root, steps);
-        if self.epoch < LAST_EPOCHS {
+        let epoch = self.epoch;
+        if epoch < LAST_EPOCHS {
             let at = self.beginning_at(root, kind);
-            self.beginnings[at] = Beginning {
-                epoch: self.epoch,
-                code,
-            };
+            self.beginnings[at] = Beginning { epoch, code };
         }
         code
     }
@@ -489,33 +355,5 @@ impl Table {
             return known.code;
         }
         self.begin(prepared, root, kind, steps)
-    }
-
-    /// The code of the state with this root and a row that was kept: the leaves entered are in the row `2 * row` of the
-    /// edges, and the nodes that end in the one after it.
-    pub fn load(
-        &mut self,
-        prepared: &Prepared,
-        root: usize,
-        row: usize,
-        edges: &Rows,
-        steps: &mut Steps,
-    ) -> u32
-        requires table { IsTable prepared.now self.old }
-        requires root { root < length prepared.now.arena.expr.nodes }
-        requires row { 2 * row + 1 < length edges.now }
-        requires leaf_marks { length prepared.now.arena.expr.nodes ≤ length (row_of edges.now (2 * row)) }
-        requires end_marks { length prepared.now.arena.expr.nodes ≤ length (row_of edges.now (2 * row + 1)) }
-        ensures codes { Codes prepared.now self.old self.new (HasRow root (bits (length prepared.now.arena.expr.nodes) (row_of edges.now (2 * row)))
-            (bits (length prepared.now.arena.expr.nodes) (row_of edges.now (2 * row + 1)))) result }
-        ensures cost { Takes steps.old steps.new (20 * length prepared.now.arena.expr.nodes) }
-        ensures counts { TakesAtLeast steps.old steps.new (2 * length prepared.now.arena.expr.nodes) }
-    {
-        let nodes = prepared.nodes();
-        count_fits(edges);
-        let (leaves, ends) = (leaves_row(self.count), ends_row(self.count));
-        self.rows.copy(leaves, edges, 2 * row, nodes, steps);
-        self.rows.copy(ends, edges, 2 * row + 1, nodes, steps);
-        self.intern(prepared, root, steps)
     }
 }

@@ -3,7 +3,7 @@ use Rattle.std.proofs.Common.{◌≡◌, ◌≢◌, ℕ, ◌+◌, ◌-◌, ◌*�
 use Rattle.std.specs.Prelude.{eqb, slice_index_or, slice_set}
 use Rattle.std.specs.Int.{bit_at, trailing_zeros}
 use Rattle.std.proofs.lemmas.Bool.{cases_eq, cases_lt, eqb-true, false_from_ne_true, not-true, not_from_false}
-use Rattle.std.proofs.lemmas.List.{get_or-set_other, get_or-set_same}
+use Rattle.std.proofs.lemmas.List.{get_or_default, get_or-set_other, get_or-set_same}
 use Rattle.std.proofs.lemmas.Nat.{one_shl}
 use Rattle.std.proofs.lemmas.Nat.Bits.{bit_at-zero, bit_at_and, bit_at_ones, bit_at_ones_above, bit_at-lt, bit_at-trailing_zeros}
 use Rattle.sedre.specs.Words.{is_set}
@@ -47,43 +47,46 @@ word_bit words at x k lt =
     let e = set_at words (64 * at + (64 * x + k)) (at + x) k (omega arith) lt in
     (λ h. eqb-true (bit_at (slice_index_or words (at + x) 0) k) 1 (sym e ∙ h), λ h. e ∙ ap (λ v. eqb v 1) h)
 
--- rows that have a bit in common
-module _ (words other : List ℕ) (at from count : ℕ) where
-  abbrev pub Meet : ℕ → Type 0
-  Meet c = (c < count) × IsTrue (is_set words (64 * at + c)) × IsTrue (is_set other (64 * from + c))
+-- the mark is set in both
+abbrev pub Meet : List Bool → List Bool → ℕ → ℕ → Type 0
+Meet marks others count c = (c < count) × IsTrue (slice_index_or marks c false) × IsTrue (slice_index_or others c false)
 
-  pub meet_here : (x word two low : ℕ) → word ≡ slice_index_or words (at + x) 0 → two ≡ slice_index_or other (from + x) 0 → low ≢ 0 → low < 2 ^ 64 →
-      ((i : ℕ) → i < count - 64 * x → bit_at low i ≡ bit_at (bit_and word two) i) → ((i : ℕ) → count - 64 * x ≤ i → bit_at low i ≡ 0) → (c : ℕ) × Meet c
-  meet_here x word two low is is_two some fits inside none =
-      let h = low_some low (bit_and word two) (count - 64 * x) some fits inside none in
+-- marks that are bits of words, and the lowest bits that a word of these and one of those have in common
+module _ (words other : List ℕ) (at from count : ℕ) (marks others : List Bool)
+    (are : (i : ℕ) → i < count → slice_index_or marks i false ≡ is_set words (64 * at + i)) (are_other : (i : ℕ) → i < count → slice_index_or others i false ≡ is_set other (64 * from + i))
+    (x word two low : ℕ) (read : word ≡ slice_index_or words (at + x) word) (read_other : two ≡ slice_index_or other (from + x) two) (inside : at + x < length words) (there : from + x < length other)
+    (lowest : (i : ℕ) → i < count - 64 * x → bit_at low i ≡ bit_at (bit_and word two) i) where
+  mine : (k : ℕ) → k < 64 → 64 * x + k < count → IsTrue (slice_index_or marks (64 * x + k) false) ↔ (bit_at word k ≡ 1)
+  mine k small under =
+      let is = word_bit words at x k small in
+      let same = read ∙ get_or_default words (at + x) word 0 inside in
+      (λ h. ap (λ v. bit_at v k) same ∙ is.0 (sym (are (64 * x + k) under) ∙ h), λ h. are (64 * x + k) under ∙ is.1 (ap (λ v. bit_at v k) (sym same) ∙ h))
+
+  theirs : (k : ℕ) → k < 64 → 64 * x + k < count → IsTrue (slice_index_or others (64 * x + k) false) ↔ (bit_at two k ≡ 1)
+  theirs k small under =
+      let is = word_bit other from x k small in
+      let same = read_other ∙ get_or_default other (from + x) two 0 there in
+      (λ h. ap (λ v. bit_at v k) same ∙ is.0 (sym (are_other (64 * x + k) under) ∙ h), λ h. are_other (64 * x + k) under ∙ is.1 (ap (λ v. bit_at v k) (sym same) ∙ h))
+
+  pub meet_here : low ≢ 0 → low < 2 ^ 64 → ((i : ℕ) → count - 64 * x ≤ i → bit_at low i ≡ 0) → (c : ℕ) × Meet marks others count c
+  meet_here some fits none =
+      let h = low_some low (bit_and word two) (count - 64 * x) some fits lowest none in
       let k = h.0 in
       let lt = h.1 in
       let both = sym (bit_at_and word two k) ∙ h.3 in
-      let one : bit_at word k ≡ 1 = (let a = bit_at-lt word k in omega (arith, both, a)) in
-      let other_one : bit_at two k ≡ 1 = (let a = bit_at-lt two k in omega (arith, both, a)) in (
-        64 * x + k,
-        (
-          omega arith,
-          (word_bit words at x k h.2).1 (ap (λ v. bit_at v k) (sym is) ∙ one),
-          (word_bit other from x k h.2).1 (ap (λ v. bit_at v k) (sym is_two) ∙ other_one),
-        ),
-      )
+      let under : 64 * x + k < count = omega arith in
+      (64 * x + k, (under, (mine k h.2 under).1 (omega (arith, both, bit_at-lt word k)), (theirs k h.2 under).1 (omega (arith, both, bit_at-lt two k))))
 
-  pub meet_later : (x word two low : ℕ) → word ≡ slice_index_or words (at + x) 0 → two ≡ slice_index_or other (from + x) 0 → low ≡ 0 →
-      ((i : ℕ) → i < count - 64 * x → bit_at low i ≡ bit_at (bit_and word two) i) →
-      ((c : ℕ) → c < 64 * x → Meet c → ⊥) → (c : ℕ) → c < 64 * (x + 1) → Meet c → ⊥
-  meet_later x word two low is is_two none inside before c up met =
-      let low_c = met.0 in
+  pub meet_later : low ≡ 0 → ((c : ℕ) → c < 64 * x → Meet marks others count c → ⊥) → (c : ℕ) → c < 64 * (x + 1) → Meet marks others count c → ⊥
+  meet_later none before c up met =
       ⊎_elim
       (λ (less : c < 64 * x). before c less met)
       (λ (ge : 64 * x ≤ c).
       let k = c - 64 * x in
       let e : c ≡ 64 * x + k = omega arith in
-      let small : k < 64 = omega arith in
-      let zero = sym (bit_at_and word two k) ∙ low_none low (bit_and word two) (count - 64 * x) k none inside (omega arith) in
-      let one = ap (λ v. bit_at v k) is ∙ (word_bit words at x k small).0 (subst (λ v. IsTrue (is_set words (64 * at + v))) e met.1) in
-      let other_one = ap (λ v. bit_at v k) is_two ∙ (word_bit other from x k small).0 (subst (λ v. IsTrue (is_set other (64 * from + v))) e met.2) in
-      omega (arith, zero, one, other_one))
+      let here = subst (Meet marks others count) e met in
+      let zero = sym (bit_at_and word two k) ∙ low_none low (bit_and word two) (count - 64 * x) k none lowest (omega (arith, met.0)) in
+      omega (arith, zero, (mine k (omega arith) here.0).0 here.1, (theirs k (omega arith) here.0).0 here.2))
       (cases_lt c (64 * x))
 
 -- marks that have none in common with themselves are none

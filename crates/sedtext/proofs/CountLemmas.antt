@@ -1,7 +1,6 @@
 -- Counts of steps that stay at the largest: how many looks there were at least.
-use Rattle.std.proofs.Common.{◌≡◌, ℕ, ◌+◌, ◌-◌, ◌*◌, ◌≤◌, Option, None, Some, IfSome, arith}
+use Rattle.std.proofs.Common.{◌≡◌, ℕ, ◌+◌, ◌*◌, ◌≤◌, arith}
 use Rattle.sedre.specs.Steps.{TakesExactly, TakesAtLeast}
-use Rattle.sedtext.specs.Bytes.{looked_at}
 
 -- nothing is counted yet
 pub least_none : (s n : ℕ) → n ≡ 0 → TakesAtLeast s s n
@@ -35,11 +34,6 @@ least_counted s t n m is few = omega (arith, is, few)
 pub most_counted : (s t n : ℕ) → TakesExactly s t n → t ≤ s + n
 unfolding TakesExactly
 most_counted s t n is = omega (arith, is)
-
--- a place that is found by looks at each byte from p on
-pub least_looked : (s t n p : ℕ) (r : Option ℕ) → TakesAtLeast s t (looked_at n p r) → IfSome r (λ k. TakesAtLeast s t (k - p))
-least_looked s t n p None are = tt
-least_looked s t n p (Some k) are = least_less s t (k + 1 - p) (k - p) are (omega arith)
 
 -- the same number of looks, twice
 pub counted_twice : (s a t n x y : ℕ) → x ≡ n → y ≡ n → TakesExactly s a x → TakesExactly a t y → TakesExactly s t (2 * n)

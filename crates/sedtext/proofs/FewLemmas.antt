@@ -1,6 +1,6 @@
 -- A few bytes with which matches begin.
-use Rattle.std.proofs.Common.{◌≡◌, ℕ, ◌+◌, ◌-◌, ◌<◌, ◌≤◌, ◌↔◌, ◌⊎◌, ◌||◌, Bool, false, true≢false, IsTrue, List, length, take, drop, Option, Some, None, refl, sym, ap, ◌∙◌, inl, inr, ⊎_elim, arith, length-drop}
-use Rattle.std.specs.Prelude.{slice_get, slice_index, eqb}
+use Rattle.std.proofs.Common.{◌≡◌, ℕ, ◌+◌, ◌-◌, ◌<◌, ◌≤◌, ◌↔◌, ◌⊎◌, ◌||◌, Bool, false, true≢false, IsTrue, List, length, take, drop, Option, Some, None, refl, sym, ap, ◌∙◌, ⊎_elim, arith, length-drop}
+use Rattle.std.specs.Prelude.{IfSome, slice_get, slice_index, eqb}
 use Rattle.std.proofs.lemmas.Bool.{cases_lt}
 use Rattle.std.proofs.lemmas.List.{take_rest, get_or-drop, get_or_past}
 use Rattle.std.proofs.lemmas.Option.{slice_get_within, get_or_from_slice_get, slice_get-get_or}
@@ -31,11 +31,7 @@ two_iff : (a b c : ℕ) → IsTrue (is_byte2 a b c) ↔ HasFew (Two a b) c
 two_iff a b c = either-iff (eqb c a) (eqb c b) (c ≡ a) (c ≡ b) (equal-iff c a) (equal-iff c b)
 
 three_iff : (a b d c : ℕ) → IsTrue (is_byte3 a b d c) ↔ HasFew (Three a b d) c
-three_iff a b d c =
-    let is = either-iff (eqb c a || eqb c b) (eqb c d) ((c ≡ a) ⊎ (c ≡ b)) (c ≡ d) (two_iff a b c) (equal-iff c d) in (
-      λ h. ⊎_elim (λ (l : (c ≡ a) ⊎ (c ≡ b)). ⊎_elim (λ (e : c ≡ a). inl e) (λ (e : c ≡ b). inr (inl e)) l) (λ (e : c ≡ d). inr (inr e)) (is.0 h),
-      λ h. is.1 (⊎_elim (λ (e : c ≡ a). inl (inl e)) (λ (r : (c ≡ b) ⊎ (c ≡ d)). ⊎_elim (λ (e : c ≡ b). inl (inr e)) (λ (e : c ≡ d). inr e) r) h),
-    )
+three_iff a b d c = either-iff (eqb c a || eqb c b) (eqb c d) ((c ≡ a) ⊎ (c ≡ b)) (c ≡ d) (two_iff a b c) (equal-iff c d)
 
 pub one_first : (a : ℕ) (hay : List ℕ) (r : Option ℕ) → IsFirstByte (is_byte a) hay r → FirstFrom (FewAt (One a) hay) 0 r
 one_first a hay r first = few_first (One a) (is_byte a) (λ c. equal-iff c a) hay r first
@@ -90,7 +86,7 @@ module _ (set : List Bool) (few : Few) (are : AreMembers set few) (w : List ℕ)
   few_members (Some k) (low, (c, is, one), none) = (low, (c, is, (are c).0 one), λ h from lt at. none h from lt (at.0, at.1, (are at.0).1 at.2))
 
 -- what is in a set is a byte, as what it is together with itself shows
-pub in_byte : (set both : List Bool) (c : ℕ) → both ≡ union set set → has both c ≡ (has set c || has set c) → IsIn c set → c < 256
+in_byte : (set both : List Bool) (c : ℕ) → both ≡ union set set → has both c ≡ (has set c || has set c) → IsIn c set → c < 256
 in_byte set both c is members there =
     ⊎_elim
     (λ (lt : c < 256). lt)
@@ -102,3 +98,13 @@ in_byte set both c is members there =
 -- the members of a set among the first bytes are those gathered
 abbrev pub AllGathered : List Bool → ℕ → Option Few → Type 0
 AllGathered set n few = (c : ℕ) → IsGathered few c ↔ ((c < n) × IsIn c set)
+
+-- all of them, where the first bytes are all bytes
+pub all_gathered : (set both : List Bool) (n : ℕ) (few : Option Few) → both ≡ union set set → ((c : ℕ) → has both c ≡ (has set c || has set c)) → 256 ≤ n → AllGathered set n few →
+    IfSome few (AreMembers set)
+all_gathered set both n None is members all are = tt
+all_gathered set both n (Some few) is members all are =
+    λ c. (
+      (λ one. ((are c).0 one).1),
+      (λ there. let low = in_byte set both c is (members c) there in (are c).1 (omega arith, there)),
+    )

@@ -1,8 +1,8 @@
 -- What the lanes of a vector hold.
-use Rattle.std.proofs.Common.{◌≡◌, ◌≢◌, ◌+◌, ◌*◌, ◌/◌, ◌%◌, ◌^◌, ◌<◌, ℕ, false, true, not, List, length, map, cond, eqb, ap, sym, subst, ◌∙◌, refl, Bool, get_or, bit_and, replicate, arith, w8, zero, suc, ⊎_elim, true≢false, ◌≤◌}
+use Rattle.std.proofs.Common.{◌≡◌, ◌≢◌, ◌+◌, ◌*◌, ◌/◌, ◌%◌, ◌^◌, ◌<◌, ℕ, false, true, not, List, length, map, cond, eqb, ap, sym, subst, ◌∙◌, refl, Bool, get_or, bit_and, replicate, arith, w8}
 use Rattle.std.specs.Int.{bit_at}
 use Rattle.std.specs.Simd.Lanes.{mask_l, top, zip2}
-use Rattle.std.proofs.lemmas.Bool.{eqb-true, ne_eqb, cases_lt}
+use Rattle.std.proofs.lemmas.Bool.{agree_below_at, eqb-true, ne_eqb}
 use Rattle.std.proofs.lemmas.List.{get_or-map, length-map}
 use Rattle.std.proofs.lemmas.Nat.Bits.{bit_at_and, bit_at-zero}
 use Rattle.std.proofs.lemmas.Simd.{bit_mask_l, bitmask_splat, mask_l-lt, length-zip2, get_or-zip2, length-replicate, get_or-replicate, swz_l, length-swz_l, get_or-swz_l_below}
@@ -51,22 +51,9 @@ module _ (v : List ℕ) (long : length v ≡ 32) where
       ap (λ n. bit_at n k) bits_are ∙ bit_mask_l (map (λ x. differs x 0) v) k
       ∙ ap (λ b. cond b 1 0) (get_or-map (λ x. differs x 0) v k 0 false (omega (arith, long)) ∙ ap not (ne_eqb (get_or v k 0) 0 some))
 
--- what a table says of all numbers below n
-abbrev each_below : (ℕ → Bool) → ℕ → Bool
-each_below f zero = true
-each_below f (suc n) = cond (f n) (each_below f n) false
-
-shown_below : (f : ℕ → Bool) (n : ℕ) → each_below f n ≡ true → (k : ℕ) → k < n → f k ≡ true
-shown_below f zero all k lt = absurd (omega arith)
-shown_below f (suc n) all k lt = at (f n) refl all (shown_below f n)
-  where
-    at : (b : Bool) → f n ≡ b → cond b (each_below f n) false ≡ true → (each_below f n ≡ true → (k : ℕ) → k < n → f k ≡ true) → f k ≡ true
-    at true is rest before = ⊎_elim (λ (less : k < n). before rest k less) (λ (ge : n ≤ k). ap f (let e : k ≡ n = omega arith in e) ∙ is) (cases_lt k n)
-    at false is rest before = absurd (true≢false (sym rest))
-
 -- the bit of an upper nibble
 upper_bit : (u : ℕ) → u < 16 → bit_at (get_or UPPER u 0) (u % 8) ≡ 1
-upper_bit u lt = eqb-true (bit_at (get_or UPPER u 0) (u % 8)) 1 (shown_below (λ u. eqb (bit_at (get_or UPPER u 0) (u % 8)) 1) 16 refl u lt)
+upper_bit u lt = eqb-true (bit_at (get_or UPPER u 0) (u % 8)) 1 (agree_below_at (λ u. eqb (bit_at (get_or UPPER u 0) (u % 8)) 1) (λ u. true) 16 u refl lt)
 
 -- a byte that is marked is so in its row and its bit together
 pub marked_lane : (rows : List ℕ) (byte row bit lane : ℕ) → byte < 256 → IsMarked rows byte → row ≡ get_or rows (byte % 16) 0 → bit ≡ get_or UPPER (byte / 16) 0 → lane ≡ bit_and row bit → lane ≢ 0

@@ -1,8 +1,8 @@
 -- The computed match is the one that the relations describe.
 use Rattle.std.proofs.Common.{◌≡◌, ℕ, zero, suc, ◌+◌, ◌-◌, ◌<◌, ◌≤◌, ◌⊎◌, ◌↔◌, Bool, true, false, ◌&&◌, ◌||◌, List, length, Option, Some, None, IsTrue, refl, sym, ap, ◌∙◌, subst, inl, inr, ⊎_elim, true≢false, arith}
 use Rattle.std.specs.Prelude.{cond, eqb, ltb, slice_get, slice_set, is_some, unwrap_or, option_map}
-use Rattle.std.proofs.lemmas.Bool.{and_parts, and_from, or_cases, or_left, or_right, cases_lt, cases_eq, eqb-true, eq-eqb, ltb-true, lt-ltb, cases_Bool}
-use Rattle.std.proofs.lemmas.Bool.Decides.{same_from_decides}
+use Rattle.std.proofs.lemmas.Bool.{cond_both, and_parts, and_from, or_cases, or_left, or_right, cases_lt, cases_eq, eqb-true, eq-eqb, ltb-true, lt-ltb, cases_Bool}
+use Rattle.std.proofs.lemmas.Bool.Decides.{Decides-and, Decides-or, Decides-below_or, same_from_decides}
 use Rattle.std.proofs.lemmas.Option.{slice_get_within, none-some}
 use Rattle.sedre.specs.Tree.{Tree, null_string, byte_of, text_begin, text_end, sequence, either_of, grouped, any_copies, one_or_none}
 use Rattle.sedtext.specs.Spans.{CopiesLead, no_copy, one_more, Matches, IsLeftmostLongest, NotFound, SomeFound}
@@ -15,23 +15,9 @@ use Rattle.sedtext.proofs.SpanLemmas.{CopiesLead-forward, Matches-forward, Match
 use Rattle.sedtext.proofs.ReachLemmas.{takes_some}
 use Rattle.sedtext.proofs.CapsLemmas.{Captures-unique}
 
-any-some : (test : ℕ → Bool) (n : ℕ) → any test n ≡ true → (k : ℕ) × (k < n) × (test k ≡ true)
+any-is : (test : ℕ → Bool) (n : ℕ) → IsTrue (any test n) ↔ ((k : ℕ) × (k < n) × (test k ≡ true))
 unfolding any
-any-some test zero h = absurd (true≢false (sym h))
-any-some test (suc n) h =
-    ⊎_elim
-    (λ (here : test n ≡ true). (n, omega arith, here))
-    (λ (below : any test n ≡ true). let found = any-some test n below in (found.0, omega (arith, found.1), found.2))
-    (or_cases (test n) (any test n) h)
-
-any-from : (test : ℕ → Bool) (n k : ℕ) → k < n → test k ≡ true → any test n ≡ true
-unfolding any
-any-from test zero k lt h = absurd (omega arith)
-any-from test (suc n) k lt h =
-    ⊎_elim
-    (λ (e : k ≡ n). or_left (test n) (any test n) (subst (λ v. test v ≡ true) e h))
-    (λ (ne : k ≡ n → ⊥). or_right (test n) (any test n) (any-from test n k (omega arith) h))
-    (cases_eq k n)
+any-is test n = Decides-below_or test (λ k. test k ≡ true) (any test) (λ k. ((λ h. h), (λ h. h))) refl (λ _. refl) n
 
 -- the greatest number below n of which P holds, if there is one
 abbrev pub GreatestBelow : (ℕ → Type 0) → ℕ → Option ℕ → Type 0
@@ -63,7 +49,7 @@ module _ (step : ℕ → ℕ → Bool) (R : ℕ → ℕ → Type 0) (each : (i k
       ⊎_elim
       (λ (e : eqb i j ≡ true). subst (λ v. CopiesLead R j v) (sym (eqb-true i j e)) no_copy)
       (λ (some : any (λ k. ltb i k && (step i k && copies n step k j)) (j + 1) ≡ true).
-      let k = any-some (λ k. ltb i k && (step i k && copies n step k j)) (j + 1) some in
+      let k = (any-is (λ k. ltb i k && (step i k && copies n step k j)) (j + 1)).0 some in
       let up = and_parts (ltb i k.0) (step i k.0 && copies n step k.0 j) k.2 in
       let on = and_parts (step i k.0) (copies n step k.0 j) up.1 in
       one_more i k.0 (ltb-true i k.0 up.0) ((each i k.0).0 on.0) (copies-some n k.0 j on.1))
@@ -77,9 +63,12 @@ module _ (step : ℕ → ℕ → Bool) (R : ℕ → ℕ → Type 0) (each : (i k
   copies-from (suc n) i j few (one_more _ k lt r rest) =
       let on = CopiesLead-forward R j k rest in
       or_right (eqb i j) (any (λ k. ltb i k && (step i k && copies n step k j)) (j + 1))
-      (any-from (λ k. ltb i k && (step i k && copies n step k j)) (j + 1) k (omega arith)
-      (and_from (ltb i k) (step i k && copies n step k j) (lt-ltb i k lt)
-      (and_from (step i k) (copies n step k j) ((each i k).1 r) (copies-from n k j (omega arith) rest))))
+      ((any-is (λ k. ltb i k && (step i k && copies n step k j)) (j + 1)).1 (
+        k,
+        omega arith,
+        and_from (ltb i k) (step i k && copies n step k j) (lt-ltb i k lt)
+            (and_from (step i k) (copies n step k j) ((each i k).1 r) (copies-from n k j (omega arith) rest)),
+      ))
 
   copies-all : (j k : ℕ) → IsTrue (copies j step k j) ↔ CopiesLead R j k
   copies-all j k = (copies-some j k j, copies-from j k j (omega arith))
@@ -134,16 +123,10 @@ module _ (step : ℕ → ℕ → Bool) (R : ℕ → ℕ → Type 0) (each : (i k
 
 -- a test of two parts
 pub both-iff : (x y : Bool) (P Q : Type 0) → (IsTrue x ↔ P) → (IsTrue y ↔ Q) → IsTrue (x && y) ↔ (P × Q)
-both-iff x y P Q left right = (
-  λ h. let both = and_parts x y h in (left.0 both.0, right.0 both.1),
-  λ h. and_from x y (left.1 h.0) (right.1 h.1),
-)
+both-iff x y P Q left right = Decides-and x y left right
 
 pub either-iff : (x y : Bool) (P Q : Type 0) → (IsTrue x ↔ P) → (IsTrue y ↔ Q) → IsTrue (x || y) ↔ (P ⊎ Q)
-either-iff x y P Q left right = (
-  λ h. ⊎_elim (λ (l : x ≡ true). inl (left.0 l)) (λ (r : y ≡ true). inr (right.0 r)) (or_cases x y h),
-  λ h. ⊎_elim (λ (l : P). or_left x y (left.1 l)) (λ (r : Q). or_right x y (right.1 r)) h,
-)
+either-iff x y P Q left right = Decides-or x y left right
 
 pub equal-iff : (i j : ℕ) → IsTrue (eqb i j) ↔ (i ≡ j)
 equal-iff i j = (eqb-true i j, eq-eqb i j)
@@ -160,12 +143,11 @@ spans-iff (byte_of has) w i j = (
 spans-iff text_begin w i j = both-iff (eqb i 0) (eqb j 0) (i ≡ 0) (j ≡ 0) (equal-iff i 0) (equal-iff j 0)
 spans-iff text_end w i j = both-iff (eqb i (length w)) (eqb j (length w)) (i ≡ length w) (j ≡ length w) (equal-iff i (length w)) (equal-iff j (length w))
 spans-iff (sequence a b) w i j = (
-  λ h. let k = any-some (λ k. spans a w i k && spans b w k j) (j + 1) h in
+  λ h. let k = (any-is (λ k. spans a w i k && spans b w k j) (j + 1)).0 h in
       let both = and_parts (spans a w i k.0) (spans b w k.0 j) k.2 in
       (k.0, (spans-iff a w i k.0).0 both.0, (spans-iff b w k.0 j).0 both.1),
   λ h. let on = Matches-forward b w h.0 j h.2 in
-      any-from (λ k. spans a w i k && spans b w k j) (j + 1) h.0 (omega arith)
-      (and_from (spans a w i h.0) (spans b w h.0 j) ((spans-iff a w i h.0).1 h.1) ((spans-iff b w h.0 j).1 h.2)),
+      (any-is (λ k. spans a w i k && spans b w k j) (j + 1)).1 (h.0, omega arith, and_from (spans a w i h.0) (spans b w h.0 j) ((spans-iff a w i h.0).1 h.1) ((spans-iff b w h.0 j).1 h.2)),
 )
 spans-iff (either_of a b) w i j = either-iff (spans a w i j) (spans b w i j) (Matches a w i j) (Matches b w i j) (spans-iff a w i j) (spans-iff b w i j)
 spans-iff (grouped k a) w i j = spans-iff a w i j
@@ -324,11 +306,6 @@ cut-is a b w i j m l r =
     cut-of (spans a w) (spans b w) (Matches a w) (Matches b w) (spans-iff a w) (spans-iff b w) i j m (λ k s. Matches-forward b w k j s) l r
     (greatest (λ k. spans a w i k && spans b w k j) (j + 1)) (greatest-is (λ k. spans a w i k && spans b w k j) (j + 1))
 
--- what holds of both ends of a choice holds of it
-choose : (P : SpansOfGroups → Type 0) (b : Bool) (x y : SpansOfGroups) → (b ≡ true → P x) → (b ≡ false → P y) → P (cond b x y)
-choose P true x y holds fails = holds refl
-choose P false x y holds fails = fails refl
-
 pub LastCopy-copy : (R : ℕ → ℕ → Type 0) (j i c : ℕ) → LastCopy R j i c → R c j
 LastCopy-copy R j i c (only _ lt r) = r
 LastCopy-copy R j i c (then_copy _ k _ up low r rest most last) = LastCopy-copy R j k c last
@@ -341,7 +318,7 @@ null_copy : (a : Tree) (first : Bool) (w : List ℕ) (i j : ℕ) (old : SpansOfG
     NullCopy a first w i j old (cond (first && spans a w i i) (groups_after a w i i (forget a old)) old)
 null_copy a first w i j old on fails inner =
     let same : i ≡ j = ⊎_elim (λ (lt : i < j). absurd (true≢false (sym (lt-ltb i j lt) ∙ fails))) (λ (ge : j ≤ i). omega arith) (cases_lt i j) in
-    choose (NullCopy a first w i j old) (first && spans a w i i) (groups_after a w i i (forget a old)) old
+    cond_both (first && spans a w i i) (groups_after a w i i (forget a old)) old (NullCopy a first w i j old)
     (λ both.
     let parts = and_parts first (spans a w i i) both in
     let here = (spans-iff a w i i).0 parts.1 in
@@ -355,7 +332,7 @@ groups_after-is (sequence a b) w i j old s =
     let is = cut-is a b w i j s.0 s.1 s.2 in
     (k, is, (groups_after a w i k old, groups_after-is a w i k old is.left, groups_after-is b w k j (groups_after a w i k old) is.right))
 groups_after-is (either_of a b) w i j old s =
-    choose (λ g. (Matches a w i j × Captures a w i j old g) ⊎ ((Matches a w i j → ⊥) × Captures b w i j old g)) (spans a w i j) (groups_after a w i j old) (groups_after b w i j old)
+    cond_both (spans a w i j) (groups_after a w i j old) (groups_after b w i j old) (λ g. (Matches a w i j × Captures a w i j old g) ⊎ ((Matches a w i j → ⊥) × Captures b w i j old g))
     (λ holds. let l = (spans-iff a w i j).0 holds in inl (l, groups_after-is a w i j old l))
     (λ fails.
     let missing : Matches a w i j → ⊥ = λ l. true≢false (sym ((spans-iff a w i j).1 l) ∙ fails) in
@@ -363,7 +340,7 @@ groups_after-is (either_of a b) w i j old s =
 groups_after-is (grouped k a) w i j old s =
     (groups_after a w i j (forget (grouped k a) old), groups_after-is a w i j (forget (grouped k a) old) s, refl)
 groups_after-is (any_copies a first) w i j old s =
-    choose (Captures (any_copies a first) w i j old) (ltb i j) (groups_after a w (last_start j (spans a w) i j) j (forget a old)) (cond (first && spans a w i i) (groups_after a w i i (forget a old)) old)
+    cond_both (ltb i j) (groups_after a w (last_start j (spans a w) i j) j (forget a old)) (cond (first && spans a w i i) (groups_after a w i i (forget a old)) old) (Captures (any_copies a first) w i j old)
     (λ holds.
     let lt = ltb-true i j holds in
     let last = last_start-is (spans a w) (Matches a w) (spans-iff a w) j i j lt (omega arith) s in
@@ -371,7 +348,7 @@ groups_after-is (any_copies a first) w i j old s =
     inl (lt, (c, last, groups_after-is a w c j (forget a old) (LastCopy-copy (Matches a w) j i c last))))
     (λ fails. inr (null_copy a first w i j old (CopiesLead-forward (Matches a w) j i s) fails (groups_after-is a w i i (forget a old))))
 groups_after-is (one_or_none a first) w i j old s =
-    choose (Captures (one_or_none a first) w i j old) (ltb i j) (groups_after a w i j (forget a old)) (cond (first && spans a w i i) (groups_after a w i i (forget a old)) old)
+    cond_both (ltb i j) (groups_after a w i j (forget a old)) (cond (first && spans a w i i) (groups_after a w i i (forget a old)) old) (Captures (one_or_none a first) w i j old)
     (λ holds.
     let lt = ltb-true i j holds in
     inl (lt, groups_after-is a w i j (forget a old) (⊎_elim (λ (e : i ≡ j). absurd (omega arith)) (λ (r : Matches a w i j). r) s)))

@@ -1,9 +1,10 @@
 -- Members of a set that are marked, one byte after another.
-use Rattle.std.proofs.Common.{◌≡◌, ◌≢◌, ℕ, ◌+◌, ◌/◌, ◌%◌, ◌<◌, ◌≤◌, Bool, false, List, length, ap, subst, sym, ◌∙◌, ⊎_elim, true≢false, arith}
+use Rattle.std.proofs.Common.{◌≡◌, ◌≢◌, ℕ, ◌+◌, ◌*◌, ◌/◌, ◌%◌, ◌^◌, ◌<◌, ◌≤◌, Bool, bit_or, w8, false, List, length, ap, subst, sym, ◌∙◌, ⊎_elim, true≢false, arith}
 use Rattle.std.specs.Prelude.{slice_index, slice_index_or, slice_set}
 use Rattle.std.specs.Int.{bit_at}
 use Rattle.std.proofs.lemmas.Bool.{cases_lt, cases_eq}
 use Rattle.std.proofs.lemmas.List.{get_or-set_same, get_or-set_other}
+use Rattle.std.proofs.lemmas.Nat.Bits.{bit_at_or, bit_at_set_same, bit_at-lt}
 use Rattle.sedtext.specs.Sieve.{IsMarked}
 use Rattle.sedtext.specs.Spans.{IsIn}
 
@@ -21,16 +22,18 @@ module _ (set : List Bool) (rows : List ℕ) (byte : ℕ) where
       (cases_lt c byte)
 
   -- and one which is: its bit is set in its row, and none is taken away
-  pub marked_more : (row : ℕ) → byte % 16 < length rows → ((i : ℕ) → bit_at (slice_index rows (byte % 16)) i ≡ 1 → bit_at row i ≡ 1) → bit_at row (byte / 16 % 8) ≡ 1 →
-      AllMarked set byte rows → AllMarked set (byte + 1) (slice_set rows (byte % 16) row)
-  marked_more row inside stay new before c lt is small =
+  pub marked_more : byte % 16 < length rows → AllMarked set byte rows →
+      AllMarked set (byte + 1) (slice_set rows (byte % 16) (bit_or (slice_index rows (byte % 16)) (1 * 2 ^ (byte / 16 % 8) % 256)))
+  marked_more inside before c lt is small =
+      let row = bit_or (slice_index rows (byte % 16)) (1 * 2 ^ (byte / 16 % 8) % 256) in
+      let new = bit_at_set_same w8 (slice_index rows (byte % 16)) (byte / 16 % 8) (omega arith) in
       ⊎_elim
       (λ (less : c < byte).
       let old = before c less is small in
       ⊎_elim
       (λ (same : c % 16 ≡ byte % 16).
       ap (λ r. bit_at r (c / 16 % 8)) (ap (λ i. slice_index (slice_set rows (byte % 16) row) i) same ∙ get_or-set_same rows (byte % 16) row 0 inside)
-      ∙ stay (c / 16 % 8) (ap (λ i. bit_at (slice_index rows i) (c / 16 % 8)) (sym same) ∙ old))
+      ∙ (let set = ap (λ i. bit_at (slice_index rows i) (c / 16 % 8)) (sym same) ∙ old in omega (arith, set, bit_at_or (slice_index rows (byte % 16)) (1 * 2 ^ (byte / 16 % 8) % 256) (c / 16 % 8), bit_at-lt row (c / 16 % 8))))
       (λ (apart : c % 16 ≢ byte % 16). ap (λ r. bit_at r (c / 16 % 8)) (get_or-set_other rows (byte % 16) (c % 16) row 0 apart) ∙ old)
       (cases_eq (c % 16) (byte % 16)))
       (λ (ge : byte ≤ c).

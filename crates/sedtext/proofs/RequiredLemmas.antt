@@ -1,5 +1,5 @@
 -- Literals that the spans of an expression hold.
-use Rattle.std.proofs.Common.{◌≡◌, ◌<◌, true, false, true≢false, [], ◌∷◌, ◌++◌, refl, length-append, ℕ, suc, ◌+◌, ◌-◌, ◌≤◌, ◌⊎◌, List, length, take, drop, drop-cons, Some, None, IsTrue, sym, ap, ◌∙◌, subst, ⊎_elim, arith}
+use Rattle.std.proofs.Common.{◌≡◌, ◌<◌, Bool, false, true≢false, [], ◌∷◌, ◌++◌, refl, length-append, ℕ, suc, ◌+◌, ◌-◌, ◌≤◌, List, length, take, drop, drop-cons, Some, None, IsTrue, sym, ap, ◌∙◌, subst, ⊎_elim, arith}
 use Rattle.std.specs.Prelude.{◌==◌, slice_index, slice_index_or}
 use Rattle.std.proofs.lemmas.Bool.{cases_lt}
 use Rattle.std.proofs.lemmas.List.{get_or_append_left, get_or_push}
@@ -7,12 +7,12 @@ use Rattle.std.proofs.lemmas.Option.{slice_get_within, get_or_from_slice_get, sl
 use Rattle.memchr.specs.Find.{OccursAt, Nowhere, NoneBefore as FirstOf}
 use Rattle.sedre.specs.Tree.{Tree}
 use Rattle.sedre.specs.declared.types.Node.{Node}
-use Rattle.sedre.specs.Sets.{has}
+use Rattle.sedre.specs.Sets.{has, only}
 use Rattle.sedre.specs.WordLaws.{has-set_of}
 use Rattle.sedtext.proofs.MatchingLemmas.{equal-iff}
 use Rattle.sedtext.specs.Links.{ChainLeads, IsChain}
 use Rattle.sedtext.specs.Spans.{IsIn, NotFound}
-use Rattle.sedtext.specs.Required.{AllHold, FirstLiteral, IsThisByte, IsLiteral, IsRequired, Narrowed, Requires}
+use Rattle.sedtext.specs.Required.{AllHold, FirstLiteral, IsLiteral, IsRequired, Narrowed, Requires}
 use Rattle.sedtext.specs.declared.links.Link.{Link}
 use Rattle.sedtext.specs.declared.links.Link.TheVariants.{Byte}
 use Rattle.sedtext.specs.declared.required.RequiredLiteral.{RequiredLiteral}
@@ -20,13 +20,13 @@ use Rattle.sedtext.proofs.FewLemmas.{length-rest, rest_at}
 use Rattle.sedtext.proofs.LinkLemmas.{chain_on}
 
 -- one more byte of a literal
-pub one_longer : (links : List Link) (q byte : ℕ) (bytes after : List ℕ) (link : Link) → IsLiteral links q bytes → q + length bytes < length links →
-    link ≡ slice_index_or links (q + length bytes) link → IsThisByte link byte → byte < 256 → after ≡ bytes ++ byte ∷ [] → IsLiteral links q after
-one_longer links q byte bytes after (Byte s) literal inside here alone fits is =
+pub one_longer : (links : List Link) (q byte : ℕ) (bytes after : List ℕ) (s : List Bool) → IsLiteral links q bytes → q + length bytes < length links →
+    Byte s ≡ slice_index_or links (q + length bytes) (Byte s) → s ≡ only byte → ((c : ℕ) → IsIn c s → c ≡ byte) → byte < 256 → after ≡ bytes ++ byte ∷ [] → IsLiteral links q after
+one_longer links q byte bytes after s literal inside here sole alone fits is =
     let n = length bytes in
     let long : length after ≡ n + 1 = ap length is ∙ length-append bytes (byte ∷ []) in
     let opened : drop (q + n) links ≡ Byte s ∷ drop (suc (q + n)) links = drop-cons links (q + n) (Byte s) inside ∙ ap (λ v. v ∷ drop (suc (q + n)) links) (sym here) in
-    let member : IsIn byte s = ap (λ v. has v byte) alone.0 ∙ has-set_of (λ c. c == byte) byte fits ∙ (equal-iff byte byte).1 refl in
+    let member : IsIn byte s = ap (λ v. has v byte) sole ∙ has-set_of (λ c. c == byte) byte fits ∙ (equal-iff byte byte).1 refl in
     let old : (k : ℕ) → k < n → slice_index after k ≡ slice_index bytes k = λ k lt. ap (λ l. slice_index l k) is ∙ get_or_append_left bytes (byte ∷ []) 0 k lt in
     let new : slice_index after n ≡ byte = ap (λ l. slice_index l n) is ∙ get_or_push bytes byte 0 n refl in
     let rest : drop (q + length after) links ≡ drop (suc (q + n)) links = ap (λ v. drop v links) (let e : q + length after ≡ suc (q + n) = omega (arith, long) in e) in (
@@ -35,7 +35,7 @@ one_longer links q byte bytes after (Byte s) literal inside here alone fits is =
         λ at.
             let f = (literal.1 nodes w i j within).0 at in
             let h = subst (λ v. ChainLeads nodes w v (i + n) j) opened f.1 in
-            let there : slice_index w (i + n) ≡ byte = get_or_from_slice_get w (i + n) h.1.0.0 0 h.1.0.1 ∙ alone.1 h.1.0.0 h.1.0.2 in
+            let there : slice_index w (i + n) ≡ byte = get_or_from_slice_get w (i + n) h.1.0.0 0 h.1.0.1 ∙ alone h.1.0.0 h.1.0.2 in
             let lies = slice_get_within w (i + n) h.1.0.0 h.1.0.1 in (
               record {
                 fits = omega (arith, lies, long);
@@ -59,17 +59,10 @@ one_longer links q byte bytes after (Byte s) literal inside here alone fits is =
             ),
       ),
     )
-one_longer links q byte bytes after other literal inside here alone fits is = absurd alone
 
--- a literal of the chain, where it is the longer one
-pub hold_longer : (links : List Link) (q : ℕ) (these those result : List ℕ) → IsLiteral links q those → AllHold links these → (result ≡ these) ⊎ (result ≡ those) → AllHold links result
-hold_longer links q these those result literal first which =
-    ⊎_elim
-    (λ (e : result ≡ these). subst (AllHold links) (sym e) first)
-    (λ (e : result ≡ those).
-    subst (AllHold links) (sym e) (λ nodes w i j within at.
-    let f = chain_on nodes w q links i j within at in (f.0, f.1, ((literal.1 nodes w f.0 j f.2).0 f.3).0)))
-    which
+-- a literal of the chain
+pub all_hold : (links : List Link) (q : ℕ) (bytes : List ℕ) → IsLiteral links q bytes → AllHold links bytes
+all_hold links q bytes literal nodes w i j within at = let f = chain_on nodes w q links i j within at in (f.0, f.1, ((literal.1 nodes w f.0 j f.2).0 f.3).0)
 
 module _ (w rest : List ℕ) (p : ℕ) (from : p ≤ length w) (e : rest ≡ take (length w - p) (drop p w)) (literal : List ℕ) where
   -- where the literal occurs in the text from p on, it does in the rest
@@ -112,9 +105,9 @@ module _ (e : Tree) (w : List ℕ) (p : ℕ) (n : RequiredLiteral) (holds : IsRe
 
 module _ (nodes : List Node) (e : Tree) (links : List Link) (chain : IsChain nodes e links) (literal : List ℕ) where
   -- a literal with which the chain begins is a prefix that each match has
-  pub prefix_required : IsLiteral links 0 literal → Requires e literal true
-  prefix_required is w i j within at = (i, omega arith, (λ _. refl), ((is.1 nodes w i j within).0 ((chain.spans w i j).0 at)).0)
+  pub prefix_required : (is_prefix : Bool) → IsLiteral links 0 literal → Requires e literal is_prefix
+  prefix_required is_prefix is w i j within at = (i, omega arith, (λ _. refl), ((is.1 nodes w i j within).0 ((chain.spans w i j).0 at)).0)
 
   -- and one that it holds occurs in each match, or behind its beginning
-  pub part_required : AllHold links literal → Requires e literal false
-  part_required hold w i j within at = let f = hold nodes w i j within ((chain.spans w i j).0 at) in (f.0, f.1, (λ no. absurd (true≢false (sym no))), f.2)
+  pub part_required : (is_prefix : Bool) → is_prefix ≡ false → AllHold links literal → Requires e literal is_prefix
+  part_required is_prefix not_so hold w i j within at = let f = hold nodes w i j within ((chain.spans w i j).0 at) in (f.0, f.1, (λ so. absurd (true≢false (sym so ∙ not_so))), f.2)

@@ -1,5 +1,5 @@
 -- Where bytes of three sets are.
-use Rattle.std.proofs.Common.{◌≡◌, ◌≢◌, ℕ, ◌+◌, ◌-◌, ◌<◌, ◌≤◌, List, length, ap, subst, ⊎_elim, arith, bit_and, w64, ◌∙◌, Option, Some, None}
+use Rattle.std.proofs.Common.{◌≡◌, ◌≢◌, ℕ, ◌+◌, ◌-◌, ◌<◌, ◌≤◌, List, length, max, ap, subst, ⊎_elim, arith, bit_and, w64, ◌∙◌, Option, Some, None}
 use Rattle.std.specs.Prelude.{IfSome}
 use Rattle.sedtext.specs.Beginnings.{NextStart}
 use Rattle.sedtext.specs.declared.beginnings.Begins.TheVariants.{Before}
@@ -23,6 +23,10 @@ all_marked P Q R p a b d one two three = (
       omega (arith, bit_at_and (bit_and a b) d k, bit_at_and a b k, first, second, third),
 )
 
+-- none up to a place, and none from there on
+pub none_on : (P : ℕ → Type 0) (p q n : ℕ) → ((i : ℕ) → p ≤ i → i < q → P i → ⊥) → ((i : ℕ) → q ≤ i → i < n → P i → ⊥) → (i : ℕ) → p ≤ i → i < n → P i → ⊥
+none_on P p q n before after i low high is = ⊎_elim (λ (less : i < q). before i low less is) (λ (ge : q ≤ i). after i ge high is) (cases_lt i q)
+
 module _ (P : ℕ → Type 0) (p marks : ℕ) (are : MarksPlaces P p marks) where
   -- no mark is set
   pub none_marked : marks ≡ 0 → (i : ℕ) → p ≤ i → i < p + 32 → P i → ⊥
@@ -45,16 +49,12 @@ module _ (P : ℕ → Type 0) (p marks : ℕ) (are : MarksPlaces P p marks) wher
       )
 
 -- a place after which they come is farther from the end than the greatest distance
-pub passes_within : (s : Sieve) (w : List ℕ) (i reach : ℕ) →
-    ((n : ℕ) → s.first.offset < n → s.second.offset < n → s.third.offset < n → reach < n) → PassesSieve s w i → i + reach < length w
-passes_within s w i reach one is =
+pub passes_within : (s : Sieve) (w : List ℕ) (i : ℕ) → PassesSieve s w i → i + max (max s.first.offset s.second.offset) s.third.offset < length w
+passes_within s w i is =
     let first = slice_get_within w (i + s.first.offset) is.0.0 is.0.1 in
     let second = slice_get_within w (i + s.second.offset) is.1.0 is.1.1 in
     let third = slice_get_within w (i + s.third.offset) is.2.0 is.2.1 in
-    omega (arith, one (length w - i) (omega (arith, first)) (omega (arith, second)) (omega (arith, third)), first)
-
-pub place_within : (s : Sieve) (w : List ℕ) (i : ℕ) → PassesSieve s w i → i < length w
-place_within s w i is = let first = slice_get_within w (i + s.first.offset) is.0.0 is.0.1 in omega (arith, first)
+    omega (arith, first, second, third)
 
 -- where a match can begin so
 pub sifted : (s : Sieve) (w : List ℕ) (p : ℕ) (r : Option ℕ) → NoneBefore (PassesSieve s w) p r → IfSome r (λ k. k ≤ length w) → NextStart (Before s) w p r

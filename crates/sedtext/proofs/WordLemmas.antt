@@ -1,5 +1,5 @@
 -- Marks as words of 64.
-use Rattle.std.proofs.Common.{[], ◌≡◌, ◌≢◌, ℕ, zero, suc, ◌*◌, ◌+◌, ◌/◌, ◌%◌, ◌<◌, ◌≤◌, Bool, false, List, length, refl, sym, ap, ◌∙◌, ◌⊎◌, ⊎_elim, inl, inr, subst, mul-le-mul_left, arith}
+use Rattle.std.proofs.Common.{[], ◌≡◌, ◌≢◌, ℕ, ◌*◌, ◌+◌, ◌/◌, ◌%◌, ◌^◌, ◌<◌, ◌≤◌, Bool, false, List, length, sym, ap, ◌∙◌, ◌⊎◌, ⊎_elim, inl, inr, subst, mul-le-mul_left, arith}
 use Rattle.std.specs.Prelude.{eqb, slice_index_or, slice_set, replicate}
 use Rattle.std.specs.Int.{bit_at}
 use Rattle.sedre.specs.Words.{is_set}
@@ -9,7 +9,7 @@ use Rattle.std.proofs.lemmas.List.FromFn.{get_or-map-range_with_len, length-map-
 use Rattle.std.proofs.lemmas.Nat.Bits.{bit_at-zero}
 use Rattle.sedtext.proofs.BitLemmas.{bit_put}
 use Rattle.sedtext.specs.declared.counted.rows.Rows.TheInside.{Inside}
-use Rattle.sedtext.specs.Words.{tabulated, marks_of, row_at, rows_of, row_of, KeepsRows}
+use Rattle.sedtext.specs.Words.{tabulated, row_at, rows_of, row_of, KeepsRows}
 
 length-table : {X : Type 0} → (f : ℕ → X) (n : ℕ) → length (tabulated f n) ≡ n
 unfolding tabulated
@@ -34,35 +34,9 @@ table-set f g n i v lt here other =
     (λ (ne : k ≢ i). other k low ne ∙ sym (table-get f n k false low) ∙ sym (get_or-set_other (tabulated f n) i k v false ne))
     (cases_eq k i))
 
-pub length-marks_of : (words : List ℕ) (n : ℕ) → length (marks_of words n) ≡ n
-unfolding marks_of
-length-marks_of words n = length-table (is_set words) n
-
-pub marks_of-get : (words : List ℕ) (n i word : ℕ) → i < n → word ≡ slice_index_or words (i / 64) 0 → eqb (bit_at word (i % 64)) 1 ≡ slice_index_or (marks_of words n) i false
-unfolding marks_of is_set
-marks_of-get words n i word lt is = ap (λ v. eqb (bit_at v (i % 64)) 1) is ∙ sym (table-get (is_set words) n i false lt)
-
 pub zero_unmarked : (words : List ℕ) (i : ℕ) → slice_index_or words (i / 64) 0 ≡ 0 → is_set words i ≡ false
 unfolding is_set
 zero_unmarked words i is = ap (λ v. eqb (bit_at v (i % 64)) 1) is ∙ ap (λ v. eqb v 1) (bit_at-zero (i % 64))
-
-zeros : (m k : ℕ) → slice_index_or (replicate {A = ℕ} m 0) k 0 ≡ 0
-zeros zero k = refl
-zeros (suc m) zero = refl
-zeros (suc m) (suc k) = zeros m k
-
-pub marks_of-set : (words : List ℕ) (n i old word : ℕ) (v : Bool) → n ≤ 64 * length words → i < n → old ≡ slice_index_or words (i / 64) 0 →
-    eqb (bit_at word (i % 64)) 1 ≡ v → ((b : ℕ) → b < 64 → b ≢ i % 64 → bit_at word b ≡ bit_at old b) → marks_of (slice_set words (i / 64) word) n ≡ slice_set (marks_of words n) i v
-unfolding marks_of
-marks_of-set words n i old word v room lt is same other =
-    let put = bit_put words i (i / 64) (i % 64) old word v (omega arith) (omega arith) (omega arith) is same other in
-    table-set (is_set words) (is_set (slice_set words (i / 64) word)) n i v lt put.0 (λ k low apart. put.1 k apart)
-
-pub marks_of-new : (words : List ℕ) (m n : ℕ) → words ≡ replicate m 0 → marks_of words n ≡ replicate n false
-unfolding marks_of
-marks_of-new words m n is =
-    table-is (is_set words) n (replicate n false) (length-replicate n false)
-    (λ k lt. zero_unmarked words k (ap (λ (l : List ℕ). slice_index_or l (k / 64) 0) is ∙ zeros m (k / 64)) ∙ sym (get_or-replicate n k false false lt))
 
 -- a mark of a row
 length-row_at : (words : List ℕ) (width marks q : ℕ) → length (row_at words width marks q) ≡ marks
@@ -80,6 +54,16 @@ rows_of-get words width marks n q lt = table-get (row_at words width marks) n q 
 pub length-row : (words : List ℕ) (width marks n q : ℕ) → q < n → length (row_of (rows_of words width marks n) q) ≡ marks
 length-row words width marks n q lt = ap length (rows_of-get words width marks n q lt) ∙ length-row_at words width marks q
 
+-- a row of no marks
+pub row_clear : (words : List ℕ) (width n : ℕ) → n ≤ 64 * width → words ≡ replicate width 0 → row_of (rows_of words width n 1) 0 ≡ replicate n false
+unfolding row_at
+row_clear words width n fits is =
+    rows_of-get words width n 1 0 (omega arith)
+    ∙ table-is (λ k. is_set words (64 * (width * 0) + k)) n (replicate n false) (length-replicate n false)
+    (λ k lt.
+    let at = 64 * (width * 0) + k in
+    zero_unmarked words at (ap (λ (l : List ℕ). slice_index_or l (at / 64) 0) is ∙ get_or-replicate width (at / 64) 0 0 (omega arith)) ∙ sym (get_or-replicate n k false false lt))
+
 -- a mark is a bit
 row_mark : (words : List ℕ) (width marks n q i : ℕ) → q < n → i < marks → slice_index_or (row_of (rows_of words width marks n) q) i false ≡ is_set words (64 * (width * q) + i)
 unfolding row_at
@@ -96,12 +80,6 @@ row_at-set words width marks q i old word v lt inside is same other =
     let put = bit_put words (base + i) (width * q + i / 64) (i % 64) old word v (omega arith) inside (omega arith) is same other in
     table-set (λ k. is_set words (base + k)) (λ k. is_set (slice_set words (width * q + i / 64) word) (base + k)) marks i v lt put.0
     (λ k low apart. put.1 (base + k) (λ e. apart (omega (arith, e))))
-
--- the words of a row are there
-row_inside : (width rows q c len : ℕ) → q < rows → c ≤ width → width * rows ≤ len → width * q + c ≤ len
-row_inside width rows q c len lt low there =
-    let up : q + 1 ≤ rows = omega arith in
-    omega (arith, mul-le-mul_left width up, low, there)
 
 -- the same words, wherever they are, have the same marks
 pub marked_same : (words other : List ℕ) (base from i : ℕ) → slice_index_or words (base + i / 64) 0 ≡ slice_index_or other (from + i / 64) 0 → is_set words (64 * base + i) ≡ is_set other (64 * from + i)
@@ -150,13 +128,13 @@ module _ (r : Inside) (seen : List (List Bool)) (is : rows_of r.words.items r.wi
   pub marks_seen : (q : ℕ) → q < length seen → r.marks ≡ length (row_of seen q)
   marks_seen q lt = sym (length-row_at r.words.items r.width r.marks q) ∙ ap length (row_seen q lt)
 
-  -- the words of marks of a row are there, and are its own
-  pub words_there : (q c : ℕ) → q < length seen → c ≤ length (row_of seen q) → (r.width * q + (c + 63) / 64 ≤ length r.words.items) × ((c + 63) / 64 ≤ r.width)
-  words_there q c lt low =
+  -- the words of a row are there, and are enough for its marks
+  pub row_there : (q : ℕ) → q < length seen → (r.width * q < 2 ^ 63) × (r.width * q + r.width ≤ length r.words.items) × (r.width * q + r.width < 2 ^ 63) × (length (row_of seen q) ≤ 64 * r.width)
+  row_there q lt =
       let few = rows_seen in
-      let all = marks_seen q lt in
-      let most : (c + 63) / 64 ≤ r.width = omega (arith, all, inside.0) in
-      (row_inside r.width r.count q ((c + 63) / 64) (length r.words.items) (omega arith) most inside.1, most)
+      let up : q + 1 ≤ r.count = omega arith in
+      let there : r.width * q + r.width ≤ length r.words.items = omega (arith, mul-le-mul_left r.width up, inside.1) in
+      (omega (arith, there, r.words.ok), there, omega (arith, there, r.words.ok), omega (arith, marks_seen q lt, inside.0))
 
   -- a mark of a row is a bit, whatever was written
   pub new_bit : (words : List ℕ) (q i : ℕ) → q < length seen → i < length (row_of seen q) → slice_index_or (row_of (rows_of words r.width r.marks r.count) q) i false ≡ is_set words (64 * (r.width * q) + i)
@@ -165,8 +143,8 @@ module _ (r : Inside) (seen : List (List Bool)) (is : rows_of r.words.items r.wi
       let all = marks_seen q lt in
       row_mark words r.width r.marks r.count q i (omega (arith, few, lt)) (omega (arith, all, low))
 
-  pub row_bit : (q i : ℕ) → q < length seen → i < length (row_of seen q) → slice_index_or (row_of seen q) i false ≡ is_set r.words.items (64 * (r.width * q) + i)
-  row_bit q i lt low = ap (λ rows. slice_index_or (row_of rows q) i false) (sym is) ∙ new_bit r.words.items q i lt low
+  pub row_bit : (q c : ℕ) → q < length seen → c ≤ length (row_of seen q) → (i : ℕ) → i < c → slice_index_or (row_of seen q) i false ≡ is_set r.words.items (64 * (r.width * q) + i)
+  row_bit q c lt low i under = ap (λ rows. slice_index_or (row_of rows q) i false) (sym is) ∙ new_bit r.words.items q i lt (omega (arith, low, under))
 
   -- a mark of a row is written
   pub mark_written : (q i old word : ℕ) (v : Bool) → q < length seen → i < length (row_of seen q) → old ≡ slice_index_or r.words.items (r.width * q + i / 64) 0 →
@@ -175,7 +153,7 @@ module _ (r : Inside) (seen : List (List Bool)) (is : rows_of r.words.items r.wi
   mark_written q i old word v lt low read same other =
       let few = rows_seen in
       let all = marks_seen q lt in
-      let there = words_there q (i + 1) lt (omega (arith, low)) in
+      let there = row_there q lt in
       rows_of-get (slice_set r.words.items (r.width * q + i / 64) word) r.width r.marks r.count q (omega (arith, few, lt))
       ∙ row_at-set r.words.items r.width r.marks q i old word v (omega (arith, all, low)) (omega (arith, there)) read same other
       ∙ ap (λ l. slice_set l i v) (row_seen q lt)

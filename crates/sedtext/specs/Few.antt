@@ -9,7 +9,7 @@ use Rattle.sedtext.specs.declared.counted.few.Few.TheVariants.{One, Two, Three}
 abbrev pub HasFew : Few → ℕ → Type 0
 HasFew (One a) c = c ≡ a
 HasFew (Two a b) c = (c ≡ a) ⊎ (c ≡ b)
-HasFew (Three a b d) c = (c ≡ a) ⊎ ((c ≡ b) ⊎ (c ≡ d))
+HasFew (Three a b d) c = ((c ≡ a) ⊎ (c ≡ b)) ⊎ (c ≡ d)
 
 -- one of the few is at the place
 abbrev pub FewAt : Few → List ℕ → ℕ → Type 0

@@ -2,21 +2,14 @@
 -- Literals that the spans of an expression contain.
 use Rattle.std.specs.Prelude.{◌≡◌, ℕ, ◌+◌, ◌-◌, ◌≤◌, ◌↔◌, List, Bool, drop, length, Option, Some, None, IsTrue}
 use Rattle.memchr.specs.Find.{OccursAt}
-use Rattle.sedre.specs.Sets.{only}
 use Rattle.sedre.specs.Tree.{Tree}
 use Rattle.sedre.specs.declared.types.Node.{Node}
 use Rattle.sedtext.specs.Bytes.{FirstFrom}
-use Rattle.sedtext.specs.Spans.{IsIn, Matches, NotFound}
+use Rattle.sedtext.specs.Spans.{Matches, NotFound}
 use Rattle.sedtext.specs.Links.{ChainLeads}
 use Rattle.sedtext.specs.Beginnings.{NoneIn}
 use Rattle.sedtext.specs.declared.links.Link.{Link}
-use Rattle.sedtext.specs.declared.links.Link.TheVariants.{Byte}
 use Rattle.sedtext.specs.declared.required.RequiredLiteral.{RequiredLiteral}
-
--- the link is the one byte
-abbrev pub IsThisByte : Link → ℕ → Type 0
-IsThisByte (Byte s) b = (s ≡ only b) × ((c : ℕ) → IsIn c s → c ≡ b)
-IsThisByte other b = ⊥
 
 -- from the link q on the chain leads over the bytes, and then on as its links do that follow after as many
 abbrev pub IsLiteral : List Link → ℕ → List ℕ → Type 0

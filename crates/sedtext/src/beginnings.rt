@@ -3,7 +3,7 @@ ghost use Rattle.std.specs.Prelude.{◌≡◌, List, ◌-◌, ◌*◌, ◌≤◌
 ghost use Rattle.sedre.specs.Tree.{expression_tree, Tree};
 ghost use Rattle.sedre.specs.declared.types.Node.{Node};
 ghost use Rattle.sedtext.specs.Beginnings.{AllBegin, NextStart, skip_cost};
-ghost use Rattle.sedtext.specs.Branches.{AllHave, AreBranches};
+ghost use Rattle.sedtext.specs.Branches.{AreBranches};
 ghost use Rattle.sedtext.specs.Costs.{CostsWithin};
 ghost use Rattle.sedtext.specs.Links.{IsChain};
 ghost use Rattle.sedtext.specs.Sieve.{AllPass, AllFixed};
@@ -41,26 +41,20 @@ pub enum Begins {
     Before(Sieve),
 }
 
-/// How often the byte occurs in a thousand bytes of ordinary text.
-fn weight(byte: u8) -> usize
-    ensures { result ≤ 255 }
-{
-    match byte {
-        b' ' => 150,
-        b'a'..=b'z' => LETTERS[(byte - b'a') as usize] as usize,
-        b'0'..=b'9' => 12,
-        b'A'..=b'Z' => 4,
-        b'!'..=b'~' => 6,
-        _ => 1,
-    }
-}
-
 /// How often bytes of the set occur in a thousand bytes of ordinary text.
 fn set_weight(set: &ByteSet) -> usize {
     let mut total = 0usize;
-    for byte in 0..256usize {
-        if set.has(byte as u8) {
-            total = total.saturating_add(weight(byte as u8));
+    for x in 0..256usize {
+        let byte = x as u8;
+        if set.has(byte) {
+            total = total.saturating_add(match byte {
+                b' ' => 150,
+                b'a'..=b'z' => LETTERS[(byte - b'a') as usize] as usize,
+                b'0'..=b'9' => 12,
+                b'A'..=b'Z' => 4,
+                b'!'..=b'~' => 6,
+                _ => 1,
+            });
         }
     }
     total
@@ -81,35 +75,17 @@ fn sieve_of(first: Fixed, second: Fixed, third: Fixed) -> Sieve
 fn with_fixed(sieve: Option<Sieve>, more: Fixed) -> Sieve
     ensures { (e : Tree) → AllPass e sieve → AllFixed e more → AllPass e (Some result) }
 {
-    let Some(sieve) = sieve else {
-        let again = Fixed {
-            weight: usize::MAX,
-            ..more
-        };
-        return sieve_of(more, again, again);
+    let again = Fixed {
+        weight: usize::MAX,
+        ..more
     };
-    let (first, second, third) = (sieve.first, sieve.second, sieve.third);
-    if more.weight < first.weight {
-        sieve_of(more, first, second)
-    } else if more.weight < second.weight {
-        sieve_of(first, more, second)
-    } else if more.weight < third.weight {
-        sieve_of(first, second, more)
-    } else {
-        sieve_of(first, second, third)
+    match sieve {
+        None => sieve_of(more, again, again),
+        Some(s) if more.weight < s.first.weight => sieve_of(more, s.first, s.second),
+        Some(s) if more.weight < s.second.weight => sieve_of(s.first, more, s.second),
+        Some(s) if more.weight < s.third.weight => sieve_of(s.first, s.second, more),
+        Some(s) => s,
     }
-}
-
-/// The three rarest of these and of the set, one of whose bytes is `offset` bytes after the beginning of every match.
-fn with_set(sieve: Option<Sieve>, offset: usize, set: &ByteSet) -> Sieve
-    ensures { (e : Tree) → AllPass e sieve → AllHave e offset set.now → AllPass e (Some result) }
-{
-    let more = Fixed {
-        offset,
-        set: Nibbles::of(set),
-        weight: set_weight(set),
-    };
-    with_fixed(sieve, more)
 }
 
 /// The three rarest sets of which a byte is at a fixed distance after the beginning of every match, if there is such a set.
@@ -121,24 +97,14 @@ fn rarest_of(branches: &[Vec<Link>]) -> Option<Sieve>
         let Some(set) = set_at(branches, offset) else {
             return sieve;
         };
-        sieve = Some(with_set(sieve, offset, &set));
+        let fixed = Fixed {
+            offset,
+            set: Nibbles::of(&set),
+            weight: set_weight(&set),
+        };
+        sieve = Some(with_fixed(sieve, fixed));
     }
     sieve
-}
-
-/// How every span of an expression begins, as far as the chains show of which one leads on where one begins.
-fn begins_by(branches: &[Vec<Link>]) -> Begins
-    ensures { (nodes : List Node) (e : Tree) → AreBranches nodes e branches.now → AllBegin e result }
-{
-    if let Some(sieve) = rarest_of(branches) {
-        if sieve.first.weight <= FREQUENT && sieve.second.weight < usize::MAX {
-            return Begins::Before(sieve);
-        }
-    }
-    match set_at(branches, 0) {
-        Some(set) => Begins::With(SetFinder::of(&set)),
-        None => Begins::Anyhow,
-    }
 }
 
 /// How every span of the expression begins, whose chain this is.
@@ -155,7 +121,15 @@ pub fn how_begins(
         return Ok(Begins::AtStart);
     }
     let branches = branches_of(alloc, expr, chain, steps)?;
-    Ok(begins_by(&branches))
+    if let Some(sieve) = rarest_of(&branches) {
+        if sieve.first.weight <= FREQUENT && sieve.second.weight < usize::MAX {
+            return Ok(Begins::Before(sieve));
+        }
+    }
+    match set_at(&branches, 0) {
+        Some(set) => Ok(Begins::With(SetFinder::of(&set))),
+        None => Ok(Begins::Anyhow),
+    }
 }
 
 /// A place from `from` on before which no match begins, as far as `begins` shows, if one may begin there or later.

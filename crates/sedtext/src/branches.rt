@@ -1,11 +1,11 @@
 //! The alternatives with which an expression begins, as chains, and which bytes are at a fixed distance after the beginning of every
 //! match: the sets of alternatives are joined.
-ghost use Rattle.std.specs.Prelude.{ℕ, List, ◌+◌, ◌≤◌, length, take, IfOk, IfSome, IsTrue};
+ghost use Rattle.std.specs.Prelude.{ℕ, List, ◌+◌, ◌≤◌, length, take, IfOk, IfSome};
 ghost use Rattle.std.specs.List.{All};
 ghost use Rattle.sedre.specs.Tree.{Tree, expression_tree};
 ghost use Rattle.sedre.specs.declared.types.Node.{Node};
 ghost use Rattle.sedtext.specs.Bytes.{MemberAt};
-ghost use Rattle.sedtext.specs.Branches.{AllHave, AreBranches, HasOne, IsOneByte, LeadsFrom};
+ghost use Rattle.sedtext.specs.Branches.{AllHave, AreBranches, HasOne, IsOneByte};
 ghost use Rattle.sedtext.specs.Links.{IsChain};
 
 use crate::links::{Link, alternatives_at};
@@ -18,20 +18,13 @@ pub const MAX_OFFSET: usize = 32;
 /// How many alternatives after the first are followed.
 const MORE_ALTERNATIVES: usize = 7;
 
-/// Whether the link is a byte.
-fn is_one_byte(link: &Link) -> bool
-    ensures { IsTrue result → IsOneByte link.now }
-{
-    matches!(link, Link::Byte(_))
-}
-
 /// How many of the chain's links are bytes before one that isn't, as far as a match is followed.
 fn lead(chain: &[Link]) -> usize
     ensures within { result ≤ length chain.now }
     ensures sets { All IsOneByte (take result chain.now) }
 {
     let mut count = 0;
-    while count < chain.len() && count < MAX_OFFSET && is_one_byte(&chain[count]) {
+    while count < chain.len() && count < MAX_OFFSET && matches!(&chain[count], Link::Byte(_)) {
         count += 1;
     }
     count
@@ -62,19 +55,6 @@ pub fn branches_of(
     Ok(branches)
 }
 
-/// The set of the byte over which the chain leads `offset` bytes after its beginning, if it leads over bytes alone up to there.
-fn set_of(chain: &[Link], offset: usize) -> Option<ByteSet>
-    ensures { IfSome result (λ s. (nodes : List Node) (w : List ℕ) (i : ℕ) → LeadsFrom nodes w chain.now i → MemberAt s w (i + offset)) }
-{
-    if offset >= lead(chain) {
-        return None;
-    }
-    match &chain[offset] {
-        Link::Byte(set) => Some(*set),
-        _ => None,
-    }
-}
-
 /// The members of the set, if there is one, and of one more.
 fn joined(members: Option<ByteSet>, more: &ByteSet) -> ByteSet
     ensures members { (w : List ℕ) (q : ℕ) → HasOne members w q → MemberAt result w q }
@@ -92,8 +72,14 @@ pub fn set_at(branches: &[Vec<Link>], offset: usize) -> Option<ByteSet>
 {
     let mut members = None;
     for x in (0..branches.len()).rev() {
-        let set = set_of(&branches[x], offset)?;
-        members = Some(joined(members, &set));
+        let chain = &branches[x];
+        let Some(Link::Byte(set)) = chain.get(offset) else {
+            return None;
+        };
+        if offset >= lead(chain) {
+            return None;
+        }
+        members = Some(joined(members, set));
     }
     members
 }

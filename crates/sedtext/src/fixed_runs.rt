@@ -3,10 +3,9 @@
 //!
 //! The last of these bytes is looked at first. Where it isn't in the set, no match begins before it, and those before
 //! it aren't looked at: where such bytes are rare, most of a text is passed over unseen.
-ghost use Rattle.std.specs.Prelude.{◌≡◌, ◌+◌, ◌≤◌, ◌-◌, length, IfSome, IsTrue};
+ghost use Rattle.std.specs.Prelude.{◌+◌, ◌≤◌, ◌-◌, length, IfSome};
 ghost use Rattle.sedtext.specs.FixedRuns.{AllFixedRuns, FirstFixedRun, passed_run};
 ghost use Rattle.sedtext.specs.Costs.{CostsWithin};
-ghost use Rattle.sedtext.specs.declared.links.Link.TheVariants.{Byte};
 ghost use Rattle.sedre.specs.Steps.{TakesAtLeast};
 
 use crate::counted::Text;
@@ -14,16 +13,6 @@ use crate::counted::few::members_of;
 use crate::counted::members::run_begin;
 use crate::links::Link;
 use sedre::{ByteSet, Steps};
-
-/// Whether the link is a byte of the set.
-fn is_byte_of(link: &Link, set: &ByteSet) -> bool
-    ensures { IsTrue result → link.now ≡ Byte set.now }
-{
-    match link {
-        Link::Byte(other) => other.same(set),
-        _ => false,
-    }
-}
 
 /// The set and the number such that the chain leads over all strings of that many bytes of the set and over no others, if there
 /// are such. Sets of few bytes are left out: these are sought faster one by one.
@@ -37,8 +26,9 @@ pub fn fixed_run_of(chain: &[Link]) -> Option<(ByteSet, usize)>
         return None;
     }
     for x in 0..chain.len() {
-        if !is_byte_of(&chain[x], set) {
-            return None;
+        match &chain[x] {
+            Link::Byte(other) if other.same(set) => {}
+            _ => return None,
         }
     }
     Some((*set, chain.len()))

@@ -10,7 +10,7 @@
 //! once what an expression shows of all its matches. No search for a match of any expression is here.
 //!
 //! The public modules are for the two crates above; `sedmatch` passes on what a program calls, and decides what a matcher uses.
-#![tactic(auto)]
+#![tactic(auto, unfolding(sedre::specs::Steps::TakesAtLeast, sedre::specs::Steps::TakesExactly))]
 
 pub mod beginnings;
 mod branches;

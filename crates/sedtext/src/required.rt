@@ -1,11 +1,11 @@
 //! A literal that every match of an expression contains: a text without it has no match. Links that are one byte alone, one after
 //! another, are a literal.
-ghost use Rattle.std.specs.Prelude.{◌≡◌, ℕ, List, ◌-◌, ◌≤◌, ◌⊎◌, length, IfOk, IfSome};
+ghost use Rattle.std.specs.Prelude.{List, ◌-◌, ◌≤◌, length, IfOk, IfSome};
 ghost use Rattle.sedre.specs.Tree.{Tree};
 ghost use Rattle.sedre.specs.declared.types.Node.{Node};
 ghost use Rattle.sedtext.specs.Costs.{CostsWithin};
 ghost use Rattle.sedtext.specs.Links.{IsChain};
-ghost use Rattle.sedtext.specs.Required.{AllHold, IsThisByte, IsLiteral, IsRequired, Requires, Narrowed};
+ghost use Rattle.sedtext.specs.Required.{AllHold, IsLiteral, IsRequired, Narrowed};
 ghost use Rattle.sedre.specs.Steps.{TakesAtLeast};
 
 use crate::counted::Text;
@@ -27,16 +27,6 @@ pub struct RequiredLiteral {
     pub is_prefix: bool,
 }
 
-/// The byte that the link is, if it is one alone.
-fn sole_byte(link: &Link) -> Option<u8>
-    ensures { IfSome result (IsThisByte link.now) }
-{
-    match link {
-        Link::Byte(set) => set.sole(),
-        _ => None,
-    }
-}
-
 /// The bytes that the chain's links are from a place on, as far as each is one alone.
 pub fn literal_at(alloc: Global, chain: &[Link], from: usize) -> Result<Vec<u8>, AllocError>
     requires from { from ≤ length chain.now }
@@ -44,23 +34,15 @@ pub fn literal_at(alloc: Global, chain: &[Link], from: usize) -> Result<Vec<u8>,
 {
     let mut bytes = Vec::new(alloc);
     while bytes.len() < MAX_LITERAL && from + bytes.len() < chain.len() {
-        let Some(byte) = sole_byte(&chain[from + bytes.len()]) else {
+        let Link::Byte(set) = &chain[from + bytes.len()] else {
+            break;
+        };
+        let Some(byte) = set.sole() else {
             break;
         };
         bytes.push(byte)?;
     }
     Ok(bytes)
-}
-
-/// The longer of two literals.
-fn longer(first: Vec<u8>, second: Vec<u8>) -> Vec<u8>
-    ensures { (result.items ≡ first.items) ⊎ (result.items ≡ second.items) }
-{
-    if first.len() < second.len() {
-        second
-    } else {
-        first
-    }
 }
 
 /// The longest of the literals of the chain; empty where there is none.
@@ -72,24 +54,11 @@ fn longest_literal(alloc: Global, chain: &[Link]) -> Result<Vec<u8>, AllocError>
     while from < chain.len() {
         let bytes = literal_at(alloc, chain, from)?;
         from += bytes.len().max(1);
-        best = longer(best, bytes);
+        if best.len() < bytes.len() {
+            best = bytes;
+        }
     }
     Ok(best)
-}
-
-/// A search for a literal that every match contains, if there is one: an empty one is none.
-fn search_for(
-    alloc: Global,
-    literal: Vec<u8>,
-    is_prefix: bool,
-) -> Result<Option<RequiredLiteral>, AllocError>
-    ensures { (e : Tree) → Requires e literal.items is_prefix → IfOk result (λ n. IsRequired e n) }
-{
-    if literal.is_empty() {
-        return Ok(None);
-    }
-    let finder = Finder::new(&literal).into_owned(alloc)?;
-    Ok(Some(RequiredLiteral { finder, is_prefix }))
 }
 
 /// A literal that every match of the expression contains whose chain this is, if one is found: one of two bytes or more with
@@ -97,11 +66,16 @@ fn search_for(
 pub fn find_required(alloc: Global, chain: &[Link]) -> Result<Option<RequiredLiteral>, AllocError>
     ensures required { (nodes : List Node) (e : Tree) → IsChain nodes e chain.now → IfOk result (λ n. IsRequired e n) }
 {
-    let first = literal_at(alloc, chain, 0)?;
-    if first.len() >= 2 {
-        return search_for(alloc, first, true);
+    let mut literal = literal_at(alloc, chain, 0)?;
+    let is_prefix = literal.len() >= 2;
+    if !is_prefix {
+        literal = longest_literal(alloc, chain)?;
     }
-    search_for(alloc, longest_literal(alloc, chain)?, false)
+    if literal.is_empty() {
+        return Ok(None);
+    }
+    let finder = Finder::new(&literal).into_owned(alloc)?;
+    Ok(Some(RequiredLiteral { finder, is_prefix }))
 }
 
 /// The first place from `from` on at which a match can begin, if there is one, as far as the literal shows that each

@@ -1,8 +1,7 @@
 //! Up to three bytes, one of which is sought.
-ghost use Rattle.std.specs.Prelude.{◌≡◌, ℕ, ◌<◌, ◌↔◌, ◌⊎◌, IfSome};
+ghost use Rattle.std.specs.Prelude.{◌≡◌, ℕ, ◌↔◌, ◌⊎◌, IfSome};
 ghost use Rattle.sedtext.specs.Bytes.{FirstFrom};
 ghost use Rattle.sedtext.specs.Few.{AreMembers, FewAt, HasFew, IsGathered};
-ghost use Rattle.sedtext.specs.Spans.{IsIn};
 
 use memchr::{memchr, memchr2, memchr3};
 use sedre::ByteSet;
@@ -43,18 +42,12 @@ fn with_byte(few: Option<Few>, byte: u8) -> Option<Few>
     }
 }
 
-/// For proofs: each member of a set is below 256.
-fn are_bytes(set: &ByteSet)
-    ensures { (c : ℕ) → IsIn c set.now → c < 256 }
-{
-    let _both = set.union(set);
-}
-
 /// The members of the set, if it has one to three.
 pub(crate) fn members_of(set: &ByteSet) -> Option<Few>
     ensures { IfSome result (AreMembers set.now) }
 {
-    are_bytes(set);
+    // For proofs: each member of a set is below 256.
+    let _both = set.union(set);
     let mut few = None;
     for byte in 0..256usize {
         if set.has(byte as u8) {

@@ -1,6 +1,6 @@
 //! Whether a byte is in a set, and the first one that is; and how far a run of bytes of a set goes in a text, forwards and
 //! backwards, by calls that count.
-ghost use Rattle.std.specs.Prelude.{◌≡◌, ◌+◌, ◌-◌, ◌<◌, ◌≤◌, length, min, slice_get, Some};
+ghost use Rattle.std.specs.Prelude.{◌≡◌, ◌+◌, ◌-◌, ◌≤◌, length, min};
 ghost use Rattle.sedtext.specs.Runs.{IsRun, RunBegins};
 ghost use Rattle.sedtext.specs.Matching.{byte_is_in};
 ghost use Rattle.sedtext.specs.Bytes.{FirstFrom, MemberAt};
@@ -20,24 +20,14 @@ pub fn takes_byte(set: &ByteSet, byte: Option<u8>) -> bool
     }
 }
 
-/// The byte at a place.
-#[inline(always)]
-fn byte_at(bytes: &[u8], i: usize) -> u8
-    requires { i < length bytes.now }
-    ensures byte { slice_get bytes.now i ≡ Some result }
-{
-    bytes[i]
-}
-
 /// The first place whose byte is in the set, if there is one.
 // As a part of a large function it would be slower by the byte.
 #[inline(never)]
 pub(super) fn first_member(set: &ByteSet, bytes: &[u8]) -> Option<usize>
-    ensures first { FirstFrom (MemberAt set.now bytes.now) 0 result }
+    ensures { FirstFrom (MemberAt set.now bytes.now) 0 result }
 {
     for place in 0..bytes.len() {
-        let byte = byte_at(bytes, place);
-        if set.has(byte) {
+        if set.has(bytes[place]) {
             return Some(place);
         }
     }
@@ -53,8 +43,7 @@ fn run_to(set: &ByteSet, bytes: &[u8], from: usize) -> usize
     ensures inside { (from ≤ result) × (result ≤ length bytes.now) }
 {
     for place in from..bytes.len() {
-        let byte = byte_at(bytes, place);
-        if !set.has(byte) {
+        if !set.has(bytes[place]) {
             return place;
         }
     }
@@ -70,8 +59,7 @@ fn run_back(set: &ByteSet, bytes: &[u8], from: usize, to: usize) -> usize
     ensures begins { RunBegins set.now bytes.now from to result }
 {
     for place in (from..to).rev() {
-        let byte = byte_at(bytes, place);
-        if !set.has(byte) {
+        if !set.has(bytes[place]) {
             return place + 1;
         }
     }
@@ -105,11 +93,7 @@ pub fn run_begin(text: &Text, set: &ByteSet, from: usize, to: usize, steps: &mut
 {
     let bytes = uncounted(text);
     let begin = run_back(set, bytes, from, to);
-    let looks = if from < begin {
-        to - begin + 1
-    } else {
-        to - from
-    };
+    let looks = (to + 1 - begin).min(to - from);
     steps.add(looks);
     begin
 }

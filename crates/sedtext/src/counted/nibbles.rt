@@ -1,10 +1,10 @@
 //! Sets of bytes that vectors decide, by the two nibbles of a byte.
-ghost use Rattle.std.specs.Prelude.{◌≡◌, ℕ, ◌/◌, ◌%◌, ◌<◌, ◌^◌, length, slice_index, IsTrue};
+ghost use Rattle.std.specs.Prelude.{◌≡◌, ℕ, ◌/◌, ◌%◌, ◌<◌, ◌^◌, slice_index, IsTrue};
 ghost use Rattle.std.specs.Int.{bit_at};
 ghost use Rattle.sedtext.specs.Sieve.{HasLanes, IsMarked};
 ghost use Rattle.sedtext.specs.Spans.{IsIn};
 
-use super::has_bit;
+use super::rows::has_bit;
 use sedre::ByteSet;
 use std::simd::prelude::*;
 
@@ -18,31 +18,16 @@ pub struct Nibbles {
     rows: [u8; 16],
 }
 
-/// The row with the bit set.
-fn with_bit(row: u8, k: usize) -> u8
-    requires { k < 8 }
-    ensures set { bit_at result k ≡ 1 }
-    ensures rest { (i : ℕ) → bit_at row i ≡ 1 → bit_at result i ≡ 1 }
-{
-    row | (1u8 << k)
-}
-
-/// The table twice.
-fn twice(table: &[u8; 16]) -> u8x32
-    ensures { HasLanes result (λ k. slice_index table.now (k % 16)) }
-{
-    u8x16::from_slice(table).swizzle([
-        0, 1, 2, 3, 4, 5, 6, 7, 8, 9, 10, 11, 12, 13, 14, 15, 0, 1, 2, 3, 4, 5, 6, 7, 8, 9, 10, 11,
-        12, 13, 14, 15,
-    ])
-}
-
 /// What the table contains for each lane.
 fn look_up(table: &[u8; 16], lanes: u8x32) -> u8x32
     requires { (k : ℕ) → k < 32 → slice_index lanes k < 16 }
     ensures { HasLanes result (λ k. slice_index table.now (slice_index lanes k)) }
 {
-    twice(table).swizzle_dyn_within::<16>(lanes)
+    let twice = u8x16::from_slice(table).swizzle([
+        0, 1, 2, 3, 4, 5, 6, 7, 8, 9, 10, 11, 12, 13, 14, 15, 0, 1, 2, 3, 4, 5, 6, 7, 8, 9, 10, 11,
+        12, 13, 14, 15,
+    ]);
+    twice.swizzle_dyn_within::<16>(lanes)
 }
 
 impl Nibbles {
@@ -53,7 +38,7 @@ impl Nibbles {
         let mut rows = [0u8; 16];
         for byte in 0..256usize {
             if set.has(byte as u8) {
-                rows[byte % 16] = with_bit(rows[byte % 16], byte / 16 % 8);
+                rows[byte % 16] |= 1u8 << (byte / 16 % 8);
             }
         }
         Nibbles { rows }

@@ -1,12 +1,72 @@
-//! Marks of several states, a row for each.
-ghost use Rattle.std.specs.Prelude.{◌≡◌, ◌≢◌, ℕ, Bool, List, ◌+◌, ◌*◌, ◌^◌, ◌<◌, ◌≤◌, length, slice_index_or, slice_set, vec_len, IfOk, IsTrue, ◌↔◌, false};
+//! Marks, and rows of them: one for each of several states.
+#![tactic(auto, using(crate::proofs::WordLemmas::row_there))]
+
+ghost use Rattle.std.specs.Prelude.{◌≡◌, ◌≢◌, ℕ, Bool, List, ◌+◌, ◌*◌, ◌^◌, ◌<◌, ◌≤◌, length, slice_index_or, slice_set, replicate, IfOk, IsTrue, ◌↔◌, false, eqb};
+ghost use Rattle.std.specs.Int.{bit_at};
 ghost use Rattle.sedtext.specs.Words.{AgreeBelow, KeepsRows, rows_of, row_of};
 ghost use Rattle.sedre.specs.Steps.{Takes, TakesExactly};
 
-use super::{clear_words, digest_words, has_bit, put_bit, words_meet, zero_words};
 use sedre::Steps;
 use std::alloc::{AllocError, Global};
 use std::marker::Model;
+
+/// A list of marks, each set or not: one row of them.
+#[derive(Drop)]
+pub struct Marks {
+    row: Rows,
+    count: usize,
+}
+
+impl Model for Marks {
+    ghost Value = { List Bool };
+
+    ghost view = { λ m. row_of m.row 0 };
+
+    ghost invariant = { λ m. (length m.row ≡ 1) × (length (row_of m.row 0) ≡ m.count) };
+}
+
+impl Marks {
+    /// `len` marks, none of them set. Fails only where a request for memory was refused.
+    pub fn new(alloc: Global, len: usize) -> Result<Marks, AllocError>
+        ensures { IfOk result (λ m. m ≡ replicate len false) }
+    {
+        let width = len / 64 + 1;
+        let row = Rows {
+            words: vec![in alloc; 0; width]?,
+            width,
+            marks: len,
+            count: 1,
+        };
+        Ok(Marks { row, count: len })
+    }
+
+    /// How many marks there are.
+    pub fn len(&self) -> usize
+        ensures { result ≡ length self.now }
+    {
+        self.count
+    }
+
+    /// Whether the mark is set. Counts one look.
+    pub fn get(&self, i: usize, steps: &mut Steps) -> bool
+        requires inside { i < length self.now }
+        ensures mark { result ≡ slice_index_or self.now i false }
+        ensures cost { Takes steps.old steps.new 1 }
+        ensures counts { TakesExactly steps.old steps.new 1 }
+    {
+        self.row.get(0, i, steps)
+    }
+
+    /// Sets the mark, or takes it away. Counts one look.
+    pub fn set(&mut self, i: usize, mark: bool, steps: &mut Steps)
+        requires inside { i < length self.old }
+        ensures marks { self.new ≡ slice_set self.old i mark }
+        ensures cost { Takes steps.old steps.new 1 }
+        ensures counts { TakesExactly steps.old steps.new 1 }
+    {
+        self.row.set(0, i, mark, steps);
+    }
+}
 
 /// Rows of marks, all of them in one piece of memory. A word contains 64 marks of a row.
 #[derive(Drop)]
@@ -35,7 +95,7 @@ impl Rows {
     {
         let width = marks / 64 + 1;
         Ok(Rows {
-            words: zero_words(alloc, width * count)?,
+            words: vec![in alloc; 0; width * count]?,
             width,
             marks,
             count,
@@ -87,7 +147,11 @@ impl Rows {
         ensures counts { TakesExactly steps.old steps.new count }
     {
         steps.add(count);
-        clear_words(&mut self.words, self.width * row, count.div_ceil(64));
+        let at = self.width * row;
+        let words = &mut self.words;
+        for x in 0..count.div_ceil(64) {
+            words[at + x] = 0;
+        }
     }
 
     /// Copies the first `count` marks of a row of others into a row, a word at a time; those after them in the row may change too.
@@ -111,7 +175,10 @@ impl Rows {
     {
         steps.add(count);
         let (to, from) = (self.width * row, other.width * other_row);
-        copy_words(&mut self.words, to, &other.words, from, count.div_ceil(64));
+        let words = &mut self.words;
+        for x in 0..count.div_ceil(64) {
+            words[to + x] = other.words[from + x];
+        }
     }
 
     /// The same from one of these rows into another.
@@ -144,7 +211,12 @@ impl Rows {
     {
         steps.add(count);
         let (at, other) = (self.width * row, self.width * other_row);
-        same_words(&self.words, at, other, count.div_ceil(64))
+        for x in 0..count.div_ceil(64) {
+            if self.words[at + x] != self.words[other + x] {
+                return false;
+            }
+        }
+        true
     }
 
     /// Whether none of the first `count` marks of a row is set, a word at a time. Counts a look for each of the `count`.
@@ -167,7 +239,14 @@ impl Rows {
         ensures counts { TakesExactly steps.old steps.new count }
     {
         steps.add(count);
-        digest_words(&self.words, self.width * row, count.div_ceil(64))
+        let at = self.width * row;
+        let mut digest = 0u64;
+        for x in 0..count.div_ceil(64) {
+            digest = (digest.rotate_left(5) ^ self.words[at + x]).wrapping_mul(
+                0x9E37_79B9_7F4A_7C15,
+            );
+        }
+        digest ^ (digest >> 32)
     }
 
     /// Whether some of the first `count` marks is set in a row and in one of others, a word at a time.
@@ -189,40 +268,45 @@ impl Rows {
         ensures counts { TakesExactly steps.old steps.new count }
     {
         steps.add(count);
-        words_meet(
-            &self.words,
-            self.width * row,
-            &other.words,
-            other.width * other_row,
-            count,
-        )
-    }
-}
-
-/// Copies `count` words of `other` from `from` on into `words`, from `to` on.
-fn copy_words(words: &mut Vec<u64>, to: usize, other: &Vec<u64>, from: usize, count: usize)
-    requires inside { to + count ≤ vec_len words.old }
-    requires there { from + count ≤ vec_len other.now }
-    ensures len { length words.new.items ≡ length words.old.items }
-    ensures same { (k : ℕ) → k < count → slice_index_or words.new.items (to + k) 0 ≡ slice_index_or other.now.items (from + k) 0 }
-    ensures before { (k : ℕ) → k < to → slice_index_or words.new.items k 0 ≡ slice_index_or words.old.items k 0 }
-    ensures rest { (k : ℕ) → to + count ≤ k → slice_index_or words.new.items k 0 ≡ slice_index_or words.old.items k 0 }
-{
-    for x in 0..count {
-        words[to + x] = other[from + x];
-    }
-}
-
-/// Whether the `count` words from `at` on are those from `other` on.
-fn same_words(words: &Vec<u64>, at: usize, other: usize, count: usize) -> bool
-    requires inside { at + count ≤ vec_len words.now }
-    requires there { other + count ≤ vec_len words.now }
-    ensures same { IsTrue result → (k : ℕ) → k < count → slice_index_or words.now.items (at + k) 0 ≡ slice_index_or words.now.items (other + k) 0 }
-{
-    for x in 0..count {
-        if words[at + x] != words[other + x] {
-            return false;
+        let (at, from) = (self.width * row, other.width * other_row);
+        for x in 0..count.div_ceil(64) {
+            if lowest(self.words[at + x] & other.words[from + x], count - 64 * x) != 0 {
+                return true;
+            }
         }
+        false
     }
-    true
+}
+
+/// Whether the bit is set.
+pub(super) fn has_bit(word: u64, k: usize) -> bool
+    requires { k < 64 }
+    ensures { result ≡ eqb (bit_at word k) 1 }
+{
+    (word >> k) & 1 == 1
+}
+
+/// The word with the bit set, or with it taken away.
+fn put_bit(word: u64, k: usize, mark: bool) -> u64
+    requires { k < 64 }
+    ensures same { eqb (bit_at result k) 1 ≡ mark }
+    ensures other { (i : ℕ) → i < 64 → i ≢ k → bit_at result i ≡ bit_at word i }
+{
+    if mark {
+        word | (1u64 << k)
+    } else {
+        word & !(1u64 << k)
+    }
+}
+
+/// The lowest bits of a word, at most `count` of them.
+fn lowest(word: u64, count: usize) -> u64
+    ensures inside { (k : ℕ) → k < count → bit_at result k ≡ bit_at word k }
+    ensures none { (k : ℕ) → count ≤ k → bit_at result k ≡ 0 }
+{
+    if count < 64 {
+        word & ((1u64 << count) - 1)
+    } else {
+        word
+    }
 }

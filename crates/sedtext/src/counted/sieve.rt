@@ -1,6 +1,6 @@
 //! Three sets of bytes at fixed distances after a place: the places after which bytes of all three come are found by vectors of
 //! 32 bytes.
-ghost use Rattle.std.specs.Prelude.{◌≡◌, ℕ, ◌+◌, ◌<◌, ◌≤◌, ◌^◌, length, slice_index, IfSome, IsTrue};
+ghost use Rattle.std.specs.Prelude.{◌+◌, ◌≤◌, length, IfSome, IsTrue};
 ghost use Rattle.sedtext.specs.Sieve.{MarksPlaces, NoneBefore, FixedAt, PassesSieve};
 
 use super::nibbles::Nibbles;
@@ -31,14 +31,6 @@ pub struct Sieve {
     pub third: Fixed,
 }
 
-/// The 32 bytes from the place `at` on.
-fn lanes_at(bytes: &[u8], at: usize) -> u8x32
-    requires { at + 32 ≤ length bytes.now }
-    ensures { (k : ℕ) → k < 32 → slice_index result k ≡ slice_index bytes.now (at + k) }
-{
-    u8x32::from_slice(&bytes[at..])
-}
-
 impl Fixed {
     /// Whether one of them is at the distance after the place.
     fn stands(&self, bytes: &[u8], place: usize) -> bool
@@ -53,24 +45,12 @@ impl Fixed {
         requires { place + self.now.offset + 32 ≤ length bytes.now }
         ensures { MarksPlaces (FixedAt self.now bytes.now) place result }
     {
-        self.set.marked(lanes_at(bytes, place + self.offset))
+        self.set
+            .marked(u8x32::from_slice(&bytes[place + self.offset..]))
     }
 }
 
 impl Sieve {
-    /// The greatest distance.
-    fn reach(&self) -> usize
-        ensures first { self.now.first.offset ≤ result }
-        ensures second { self.now.second.offset ≤ result }
-        ensures third { self.now.third.offset ≤ result }
-        ensures one { (n : ℕ) → self.now.first.offset < n → self.now.second.offset < n → self.now.third.offset < n → result < n }
-    {
-        self.first
-            .offset
-            .max(self.second.offset)
-            .max(self.third.offset)
-    }
-
     /// Of the 32 places from one on those after which bytes of all three come, a bit each.
     fn marks(&self, bytes: &[u8], place: usize) -> u64
         requires first { place + self.now.first.offset + 32 ≤ length bytes.now }
@@ -78,10 +58,8 @@ impl Sieve {
         requires third { place + self.now.third.offset + 32 ≤ length bytes.now }
         ensures { MarksPlaces (PassesSieve self.now bytes.now) place result }
     {
-        let (first, second) = (
-            self.first.marks(bytes, place),
-            self.second.marks(bytes, place),
-        );
+        let first = self.first.marks(bytes, place);
+        let second = self.second.marks(bytes, place);
         first & second & self.third.marks(bytes, place)
     }
 
@@ -115,7 +93,8 @@ impl Sieve {
         ensures none { NoneBefore (PassesSieve self.now bytes.now) from result }
         ensures inside { IfSome result (λ k. k ≤ length bytes.now) }
     {
-        let reach = self.reach();
+        let nearer = self.first.offset.max(self.second.offset);
+        let reach = nearer.max(self.third.offset);
         if reach >= bytes.len() || bytes.len() - reach < LANES {
             return self.find_slowly(bytes, from);
         }

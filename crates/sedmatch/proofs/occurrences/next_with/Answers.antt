@@ -1,11 +1,12 @@
-use Rattle.std.proofs.Common.{ℕ, ◌+◌, ◌<◌, ◌≤◌, ◌∙◌, true, false, Option, Some, None, length, refl, arith, nat_lt, if◌then◌else◌}
+use Rattle.std.proofs.Common.{◌+◌, ◌<◌, ◌≤◌, ◌∙◌, true, false, Some, None, length, refl, arith}
 use Rattle.sedre.specs.Tree.{expression_tree}
 use Rattle.sedtext.specs.Answer.{SpanAnswer}
 use Rattle.sedtext.specs.Matching.{leftmost_longest}
 use Rattle.sedtext.proofs.FollowingLemmas.{if_occurs}
 use Rattle.sedpass.specs.Search.{owed_seeking}
-use Rattle.sedpass.proofs.OccurrenceLemmas.{answer_found, answer_lies, behind_paid, both_paid, both_square, further_found, further_none, lies_behind, lies_further, one_square, passed_by, search_falls}
+use Rattle.sedpass.proofs.OccurrenceLemmas.{answer_found, answer_lies, behind_paid, both_paid, both_square, further_found, further_none, lies_behind, lies_further, one_square, search_falls}
 use Rattle.sedpass.proofs.SearchLemmas.{later_answer, looks_later, looks_past, looks_to_end, searched_then}
+use Rattle.sedmatch.proofs.MatcherLemmas.{next_by_null}
 use Rattle.sedmatch.proofs.OccurrenceLemmas.{first_paid, first_square, lies_first}
 use Rattle.sedmatch.proofs.occurrences.next_with.Goals as goal
 
@@ -59,10 +60,9 @@ returns-then-not-is_null_at c =
     let within : at ≤ n = rw c.in-Some.is at c.requires.last in
     let r = c.next_match-first.result in
     let one = c.next_match-first.ensures in
-    let other : Option (ℕ × ℕ) = if nat_lt at n then leftmost_longest e w (at + 1) else None in
     let lies = lies_behind n at r (answer_lies e w at r one.answer) (c.is_null_at.ensures.after c.if-not-is_null_at.true) in
     let most = one_square m n at (omega (arith, c.args.prepared.now.is_prepared.last)) in
-    let next = passed_by at r (leftmost_longest e w at) other r c.is_null_at.result false (answer_found e w at r within one.answer) (c.is_null_at.ensures.passed other) c.if-not-is_null_at.true refl in
+    let next = next_by_null e w (Some at) at r r c.is_null_at.result false refl within one.answer c.is_null_at.ensures.passed c.if-not-is_null_at.true refl in
     rw c.in-Some.is record {
       searched = one.searched;
       next = next;
@@ -81,11 +81,10 @@ returns-then-at-len c =
     let within : at ≤ n = rw c.in-Some.is at c.requires.last in
     let r = c.next_match-first.result in
     let one = c.next_match-first.ensures in
-    let other : Option (ℕ × ℕ) = if nat_lt at n then leftmost_longest e w (at + 1) else None in
     let most = one_square m n at (omega (arith, c.args.prepared.now.is_prepared.last)) in
     rw c.in-Some.is record {
       searched = one.searched;
-      next = passed_by at r (leftmost_longest e w at) other None c.is_null_at.result true (answer_found e w at r within one.answer) (c.is_null_at.ensures.passed other) c.if-not-is_null_at.false
+      next = next_by_null e w (Some at) at r None c.is_null_at.result true refl within one.answer c.is_null_at.ensures.passed c.if-not-is_null_at.false
           (further_none n at (leftmost_longest e w (at + 1)) (let end = c.if-at-len.true in let is = c.len.ensures.is in omega (arith, end, is)));
       occurs = tt;
       cost = (one.cost.0, behind_paid m n at (owed_seeking m n c.args.seeking.now at) c.args.steps.now c.next_match-first.new.steps (owed_seeking m n c.next_match-first.new.seeking) None within tt (let pays = one.cost.1 in omega (arith, pays)));
@@ -108,12 +107,11 @@ returns c =
     let mid = c.next_match-first.new.seeking in
     let new = c.next_match-2.new.seeking in
     let on : at < n = (let still = c.if-at-len.false in let is = c.len.ensures.is in omega (arith, still, is)) in
-    let other : Option (ℕ × ℕ) = if nat_lt at n then leftmost_longest e w (at + 1) else None in
     let lies = lies_further e w at r two.answer in
     let both = both_paid m at (owed_seeking m n old at) (owed_seeking m n mid (at + 1)) c.args.steps.now c.next_match-first.new.steps c.next_match-2.new.steps (owed_seeking m n mid) (owed_seeking m n new)
     c.next_match-first.result r (c.is_null_at.ensures.null c.if-not-is_null_at.false) (search_falls m n mid at (at + 1) (omega arith)) one.cost.1 two.cost.1 in
     let most = both_square m n at (omega (arith, p.is_prepared.last)) on in
-    let next = passed_by at c.next_match-first.result (leftmost_longest e w at) other r c.is_null_at.result true (answer_found e w at c.next_match-first.result within one.answer) (c.is_null_at.ensures.passed other) c.if-not-is_null_at.false
+    let next = next_by_null e w (Some at) at c.next_match-first.result r c.is_null_at.result true refl within one.answer c.is_null_at.ensures.passed c.if-not-is_null_at.false
     (answer_found e w (at + 1) r (omega (arith, on)) two.answer ∙ further_found n at (leftmost_longest e w (at + 1)) on) in
     rw c.in-Some.is record {
       searched = searched_then p w c.args.forward_one.now c.next_match-first.new.forward_one c.next_match-2.new.forward_one c.args.reverse_any.now c.next_match-first.new.reverse_any c.next_match-2.new.reverse_any old mid new one.searched two.searched;

@@ -1,13 +1,17 @@
-use Rattle.std.proofs.Common.{◌≡◌, length, Some, refl, arith}
-use Rattle.std.specs.Prelude.{slice_get}
-use Rattle.std.proofs.lemmas.Option.{slice_get_read}
-use Rattle.sedmatch.proofs.OccurrenceLemmas.{one_more}
+use Rattle.std.proofs.Common.{◌∙◌, None, Some, arith}
+use Rattle.sedmatch.proofs.OccurrenceLemmas.{one_more, reverse_any_made}
 use Rattle.sedmatch.proofs.occurrences.own_tables.Goals as goal
+
+pub loop-x-preserved-in_default : goal.loop-x-preserved-in_default
+loop-x-preserved-in_default c =
+    let pushed = c.push_reserved.ensures in
+    let e = c.index-matchers-x.result in
+    (one_more c.args.matchers.now c.loop-x.x c.loop-x.own.items c.push_reserved.new.self.items e None c.loop-x.invariant.0 (omega arith) c.index-matchers-x.is tt pushed.items, omega (arith, pushed.capacity, c.loop-x.invariant.1))
 
 pub loop-x-preserved : goal.loop-x-preserved
 loop-x-preserved c =
-    let es = c.args.matchers.now in
-    let x = c.loop-x.x in
-    let sought : slice_get es x ≡ Some c.index-matchers-x.result = slice_get_read es (length es) x c.index-matchers-x.result refl (omega arith) c.index-matchers-x.is in
-    let pushed = c.push_reserved.ensures in
-    (one_more es x c.loop-x.own.items c.push_reserved.new.self.items c.index-matchers-x.result c.in_ok-own_table.field-0 c.loop-x.invariant.0 sought c.in_ok-own_table.ensures pushed.items, omega (arith, pushed.capacity, c.loop-x.invariant.1))
+    let pushed = c.push_reserved-in-loop-x.ensures in
+    let e = c.index-matchers-x.result in
+    let table = c.fit.new.self in
+    let own = reverse_any_made c.in-Some.prepared.now e table c.in-Some.ensures c.fit.ensures.table (c.fit.ensures.room.0 ∙ c.in_ok-table.ensures.table.1) in
+    (one_more c.args.matchers.now c.loop-x.x c.loop-x.own.items c.push_reserved-in-loop-x.new.self.items e (Some table) c.loop-x.invariant.0 (omega arith) c.index-matchers-x.is own pushed.items, omega (arith, pushed.capacity, c.loop-x.invariant.1))

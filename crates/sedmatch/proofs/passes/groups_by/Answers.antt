@@ -1,11 +1,17 @@
-use Rattle.std.proofs.Common.{refl}
-use Rattle.sedmatch.proofs.PassLemmas.{desk_again, own_decides}
+use Rattle.std.proofs.Common.{◌+◌, ◌-◌, ◌*◌, ◌/◌, ◌<◌, length, refl}
+use Rattle.sedpass.proofs.DecideLemmas.{has_desk}
+use Rattle.sedmatch.proofs.PassLemmas.{desk_again, halves}
 use Rattle.sedmatch.proofs.passes.groups_by.Goals as goal
 
 pub groups_with-requires-clause-desk : goal.groups_with-requires-clause-desk
 groups_with-requires-clause-desk c =
-    let own = rw c.in-Some.is at c.requires.passes.1 in
-    own_decides _ c.in-Some.own.groups c.args.desk.now c.len.result own.2 c.requires.desk.0 c.requires.desk.1 c.requires.desk.2 c.len.ensures.is (c.has_blocks.ensures c.if-has_blocks.true)
+    let d = c.args.desk.now in
+    let t = c.in-Some.own in
+    let n = length c.args.text.now in
+    let is = c.requires.desk.0.space in
+    let all = d.max_text / (d.shared.reverse_one.room - 1) + 1 in
+    let blocks : n < length d.room.kept.edges / 2 * (t.reverse_one.room - 1) = rw c.len.ensures.is at (c.has_blocks.ensures c.if-has_blocks.true) in
+    has_desk _ t d.room d.max_text all d.max_nodes (rw c.in-Some.is at c.requires.passes.1) is c.requires.desk.1 (rw (halves (length d.room.kept.edges) all is.edges) at blocks) c.requires.desk.2
 
 pub returns-then-has_blocks-clause-desk : goal.returns-then-has_blocks-clause-desk
 returns-then-has_blocks-clause-desk c =

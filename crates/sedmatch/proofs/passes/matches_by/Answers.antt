@@ -20,7 +20,7 @@ returns-clause-desk c =
     let new = c.matches_with-2.new in
     let done = c.matches_with-2.ensures in
     desk_again d d.room d.reverse_any new.tables is (space_same d.room.kept) is.space.none (omega arith) is.reverse_any
-    (all_used d.max_nodes c.args.passes.now.prepared d.shared c.fit.new.self new.tables is.shared c.fit.ensures.room done.room done.tables) refl (done.room.1.reverse_one.1 ∙ c.fit.ensures.room.1.reverse_one.1)
+    (all_used d.max_nodes c.args.passes.now.prepared d.shared c.fit.new.self new.tables is.shared c.fit.ensures.room done.room done.tables) refl (done.room.reverse_one.1 ∙ c.fit.ensures.room.reverse_one.1)
 
 pub returns-clause-answered : goal.returns-clause-answered
 returns-clause-answered c =

@@ -1,6 +1,5 @@
-use Rattle.std.proofs.Common.{◌∙◌, ap, refl, sym, arith, length}
+use Rattle.std.proofs.Common.{rules, ◌∙◌, ap, sym, arith, length}
 use Rattle.sedre.specs.Tree.{expression_tree}
-use Rattle.sedmatch.proofs.PassLemmas.{shape_room}
 use Rattle.sedpass.proofs.ForwardLemmas.{passes_later, passes_shown}
 use Rattle.sedpass.proofs.SearchLemmas.{match_cost, some_from}
 use Rattle.sedmatch.proofs.passes.matches_with.Goals as goal
@@ -22,10 +21,10 @@ returns-in_default-begins c =
     let run = c.run-in_default-begins.ensures in
     let is = c.is_some-in_default-begins.ensures in
     let from = some_from e w c.args.prepared.now.begins c.args.from c.in-Some.start c.requires.begins next.next in
-    let all = run.found (ap (λ v. v.all_starts) c.requires.tables.1) in
+    let all = run.found (ap (λ v. v.all_starts) c.requires.tables.ways.forward_any) in
     record {
-      tables = (run.table, run.shape.0 ∙ c.requires.tables.1, c.requires.tables.2);
-      room = (shape_room c.args.tables.now.forward_any c.run-in_default-begins.new.self run.shape, record { reverse_one = (refl, refl, refl, refl); forward_one = (refl, refl, refl, refl) });
+      tables = search rules;
+      room = search rules;
       matches = (λ h. from.0 (all.0 (sym is ∙ h)), λ some. is ∙ all.1 (from.1 some));
       passes = λ h. passes_later e w c.args.from c.in-Some.start c.args.steps.now c.next_start.new.steps c.run-in_default-begins.new.steps next.next.0 next.cost.0 next.counts
           (passes_shown e w c.in-Some.start c.next_start.new.steps c.run-in_default-begins.new.steps c.run-in_default-begins.result.end c.is_some-in_default-begins.result is run.passes h);

@@ -1,8 +1,14 @@
+use Rattle.std.proofs.Common.{subst}
+use Rattle.sedpass.specs.Decide.{AreRoomy}
 use Rattle.sedre.specs.Tree.{expression_tree}
 use Rattle.sedmatch.proofs.passes.new_passes.Goals as goal
+use Rattle.sedmatch.proofs.passes.new_passes.Goals.{then-size_of-room+in_ok-tables, else-size_of-room}
+
+pub fit-requires : goal.fit-requires
+fit-requires c = record { roomy = subst (λ m. AreRoomy m c.in_ok-tables.tables) c.nodes-nodes.ensures.value c.in_ok-tables.ensures.tables }
 
 pub returns : goal.returns
 returns c = (
   record { expr = c.in_ok-prepared.ensures.expr; begins = c.in_ok-prepared-2.ensures.begins; required = c.in_ok-prepared-3.ensures.required c.args.expr.now.nodes (expression_tree c.args.expr.now) c.requires.chain },
-  c.in_ok-own.ensures,
+  elim c.if-size_of-room.branch [ then-size_of-room+in_ok-tables w ↦ rw w.own-is w.fit.ensures.tables | else-size_of-room w ↦ rw w.own-is tt ],
 )

@@ -1,7 +1,7 @@
 use Rattle.std.proofs.Common.{◌≡◌, ℕ, ◌-◌, ◌↔◌, List, drop, suc, subst, arith}
 use Rattle.sedre.specs.declared.types.Node.{Node}
 use Rattle.sedtext.specs.Links.{ChainLeads}
-use Rattle.sedmatch.specs.Shapes.{StemLeads}
+use Rattle.sedmatch.specs.Stretches.{StemLeads}
 use Rattle.sedmatch.proofs.ShapeLemmas.{one_link_more}
 use Rattle.sedmatch.proofs.shapes.stem_of.Goals as goal
 

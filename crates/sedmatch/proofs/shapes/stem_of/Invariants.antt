@@ -1,7 +1,7 @@
 use Rattle.std.proofs.Common.{ℕ, ◌≤◌, ◌↔◌, List, drop, length}
 use Rattle.sedre.specs.declared.types.Node.{Node}
 use Rattle.sedtext.specs.Links.{ChainLeads}
-use Rattle.sedmatch.specs.Shapes.{StemLeads}
+use Rattle.sedmatch.specs.Stretches.{StemLeads}
 use Rattle.sedmatch.proofs.shapes.stem_of.Given as goal
 
 abbrev pub invariant-loop-x : goal.invariant-loop-x

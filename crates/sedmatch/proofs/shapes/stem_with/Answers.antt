@@ -1,19 +1,23 @@
-use Rattle.std.proofs.Common.{◌≡◌, false, None}
-use Rattle.sedtext.specs.declared.links.Link.TheVariants.{Byte, Run}
-use Rattle.sedmatch.proofs.ShapeLemmas.{with_byte, with_run}
+use Rattle.sedmatch.proofs.ShapeLemmas.{BeginsAnywhere, free_anywhere, free_at_end, with_byte, with_run}
 use Rattle.sedmatch.proofs.shapes.stem_with.Goals as goal
+use Rattle.sedmatch.proofs.shapes.stem_with.Goals.{in-None-2, in-None-3, in-Some+in-AtEnd-1, in-Some+in-AtEnd-2}
 
-pub returns-in-Byte-false-None-default-default : goal.returns-in-Byte-false-None-default-default
-returns-in-Byte-false-None-default-default c =
-    let is : c.args.link.now ≡ Byte c.in-Byte-false-None-default-default.set = cc in
-    let anywhere : c.args.stem.at_start ≡ false = cc in
-    let first : c.args.stem.first ≡ None = cc in
-    with_byte c.args.link.now c.args.stem c.in-Byte-false-None-default-default.set anywhere first is
+pub returns-in-Byte-None-None-default : goal.returns-in-Byte-None-None-default
+returns-in-Byte-None-None-default c =
+    let arm = c.in-Byte-None-None-default in
+    let ends = c.args.stem.ends in
+    let placed : BeginsAnywhere ends = elim c.match-this-2.branch [
+      | in-None-2 w ↦ free_anywhere ends (cc)
+      | in-Some+in-AtEnd-1 w ↦ free_at_end ends (cc)
+    ] in
+    with_byte c.args.link.now c.args.stem arm.set placed arm.is-2 arm.is-0
 
-pub returns-in-Run-false-None-None-default : goal.returns-in-Run-false-None-None-default
-returns-in-Run-false-None-None-default c =
-    let is : c.args.link.now ≡ Run c.in-Run-false-None-None-default.set = cc in
-    let anywhere : c.args.stem.at_start ≡ false = cc in
-    let first : c.args.stem.first ≡ None = cc in
-    let rest : c.args.stem.rest ≡ None = cc in
-    with_run c.args.link.now c.args.stem c.in-Run-false-None-None-default.set anywhere first is rest
+pub returns-in-Run-None-None-None : goal.returns-in-Run-None-None-None
+returns-in-Run-None-None-None c =
+    let arm = c.in-Run-None-None-None in
+    let ends = c.args.stem.ends in
+    let placed : BeginsAnywhere ends = elim c.match-this-5.branch [
+      | in-None-3 w ↦ free_anywhere ends (cc)
+      | in-Some+in-AtEnd-2 w ↦ free_at_end ends (cc)
+    ] in
+    with_run c.args.link.now c.args.stem arm.set placed arm.is-2 arm.is-0 arm.is-3

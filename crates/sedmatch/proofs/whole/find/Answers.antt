@@ -1,74 +1,65 @@
-use Rattle.std.proofs.Common.{◌≡◌, ◌-◌, None, length, refl, sym, subst, arith}
+use Rattle.std.proofs.Common.{◌≡◌, ◌+◌, ◌-◌, None, length, refl, rules, sym, arith}
 use Rattle.sedre.specs.Tree.{expression_tree}
-use Rattle.sedtext.specs.Answer.{IsComputed}
 use Rattle.sedtext.proofs.MatchingLemmas.{found-iff, not_found-iff, report-iff}
 use Rattle.sedtext.proofs.PartLemmas.{report_lies}
 use Rattle.sedpass.proofs.OneGroupLemmas.{enters_later}
-use Rattle.sedmatch.proofs.OnceLemmas.{all_cost, bare_cost, if_none, none_cost, none_linear, one_less}
-use Rattle.sedtext.proofs.CountLemmas.{least_since, least_up}
+use Rattle.sedmatch.proofs.OnceLemmas.{all_cost, bare_cost, none_cost, none_linear, one_less}
+use Rattle.sedtext.proofs.CountLemmas.{least_less, least_since, least_up}
 use Rattle.sedmatch.proofs.whole.find.Goals as goal
 
-pub returns-in_err-span-clause-computed : goal.returns-in_err-span-clause-computed
-returns-in_err-span-clause-computed c =
+pub returns-in_err-span : goal.returns-in_err-span
+returns-in_err-span c =
     let e = expression_tree c.args.expr.now in
+    let m = length c.args.expr.now.nodes in
+    let n = length c.args.text.now in
+    let from = c.args.from in
+    let s = c.args.steps.now in
+    let t = c.fit.new.steps in
+    let u = c.next_kept.new.steps in
+    let ready = c.fit.ensures.cost in
+    let sought = rw c.fit.ensures.expr at c.next_kept.ensures.each in
+    let bare = bare_cost m n from s t u u ready sought refl in
     let none : c.from_residual.result ≡ None = cc in
-    let answer = rw c.fit.ensures.expr at c.in_err-span.ensures.answer in
-    subst (IsComputed e c.args.text.now c.args.from) (sym none) (sym ((not_found-iff e c.args.text.now c.args.from c.requires.from).1 answer.1), tt)
+    let answer = rw (c.fit.ensures.expr, c.in_err-span.was) at c.next_kept.ensures.next.answer in
+    rw none record {
+      scratch = search rules;
+      answer = search rules;
+      computed = (sym ((not_found-iff e c.args.text.now from c.requires.from).1 answer.1), tt);
+      cost = none_cost m n from s t u ready sought;
+      linear_cost = none_linear m n from s t u ready sought;
+      cost_without_groups = λ _. bare;
+      cost_of_none = bare;
+      counts = tt;
+      entered = tt;
+    }
 
-pub returns-in_err-span-clause-cost : goal.returns-in_err-span-clause-cost
-returns-in_err-span-clause-cost c = none_cost (length c.args.expr.now.nodes) (length c.args.text.now) c.args.steps.now c.fit.new.steps c.first_span.new.steps c.fit.ensures.cost (rw c.fit.ensures.expr at c.first_span.ensures.cost)
-
-pub returns-in_err-span-clause-linear_cost : goal.returns-in_err-span-clause-linear_cost
-returns-in_err-span-clause-linear_cost c = none_linear (length c.args.expr.now.nodes) (length c.args.text.now) c.args.steps.now c.fit.new.steps c.first_span.new.steps c.fit.ensures.cost (rw c.fit.ensures.expr at c.first_span.ensures.cost)
-
-pub returns-in_err-span-clause-cost_without_groups : goal.returns-in_err-span-clause-cost_without_groups
-returns-in_err-span-clause-cost_without_groups c none = bare_cost (length c.args.expr.now.nodes) (length c.args.text.now) c.args.steps.now c.fit.new.steps c.first_span.new.steps c.first_span.new.steps c.fit.ensures.cost (rw c.fit.ensures.expr at c.first_span.ensures.cost) refl
-
-pub returns-in_err-span-clause-cost_of_none : goal.returns-in_err-span-clause-cost_of_none
-returns-in_err-span-clause-cost_of_none c = if_none c.from_residual.result _ (bare_cost (length c.args.expr.now.nodes) (length c.args.text.now) c.args.steps.now c.fit.new.steps c.first_span.new.steps c.first_span.new.steps c.fit.ensures.cost (rw c.fit.ensures.expr at c.first_span.ensures.cost) refl)
-
-pub returns-clause-answer : goal.returns-clause-answer
-returns-clause-answer c =
+pub returns : goal.returns
+returns c =
     let e = expression_tree c.args.expr.now in
-    let span = c.in_ok-span.span in
-    let answer = rw c.fit.ensures.expr at c.in_ok-span.ensures.answer in
-    let report = rw c.fit.ensures.expr at c.shared_groups-groups.ensures.answered.report in
-    (answer.0, tt, report, report_lies (length c.args.text.now) e c.args.text.now span.0 span.1 c.shared_groups-groups.result answer.2.0 answer.2.1 report)
-
-pub returns-clause-computed : goal.returns-clause-computed
-returns-clause-computed c =
-    let e = expression_tree c.args.expr.now in
+    let m = length c.args.expr.now.nodes in
     let w = c.args.text.now in
-    let span = c.in_ok-span.span in
-    let answer = rw c.fit.ensures.expr at c.in_ok-span.ensures.answer in
-    let report = rw c.fit.ensures.expr at c.shared_groups-groups.ensures.answered.report in
-    (sym ((found-iff e w c.args.from span.0 span.1 c.requires.from).1 answer.0), (report-iff e w span.0 span.1 c.shared_groups-groups.result answer.0.spans).1 report)
-
-pub returns-clause-cost : goal.returns-clause-cost
-returns-clause-cost c =
-    let m = length c.args.expr.now.nodes in
-    let span = c.in_ok-span.span in
-    let lies = c.in_ok-span.ensures.answer.2.1 in
-    (all_cost m (m - 1) (length c.args.text.now) (span.1 - span.0) c.args.steps.now c.fit.new.steps c.first_span.new.steps c.shared_groups-groups.new.steps (one_less m) (omega (arith, lies)) c.fit.ensures.cost (rw c.fit.ensures.expr at c.first_span.ensures.cost) (rw c.fit.ensures.expr at c.shared_groups-groups.ensures.answered.cost)).0
-
-pub returns-clause-linear_cost : goal.returns-clause-linear_cost
-returns-clause-linear_cost c =
-    let m = length c.args.expr.now.nodes in
-    let span = c.in_ok-span.span in
-    let lies = c.in_ok-span.ensures.answer.2.1 in
-    (all_cost m (m - 1) (length c.args.text.now) (span.1 - span.0) c.args.steps.now c.fit.new.steps c.first_span.new.steps c.shared_groups-groups.new.steps (one_less m) (omega (arith, lies)) c.fit.ensures.cost (rw c.fit.ensures.expr at c.first_span.ensures.cost) (rw c.fit.ensures.expr at c.shared_groups-groups.ensures.answered.cost)).1
-
-pub returns-clause-cost_without_groups : goal.returns-clause-cost_without_groups
-returns-clause-cost_without_groups c none =
-    bare_cost (length c.args.expr.now.nodes) (length c.args.text.now) c.args.steps.now c.fit.new.steps c.first_span.new.steps c.shared_groups-groups.new.steps c.fit.ensures.cost (rw c.fit.ensures.expr at c.first_span.ensures.cost) ((rw c.fit.ensures.expr at c.shared_groups-groups.ensures.answered.none_cost) none)
-
-pub returns-clause-counts : goal.returns-clause-counts
-returns-clause-counts c =
-    let long = c.in_ok-span.span.1 - c.in_ok-span.span.0 in
-    least_up c.args.steps.now c.first_span.new.steps c.shared_groups-groups.new.steps long (least_since c.args.steps.now c.fit.new.steps c.first_span.new.steps long c.fit.ensures.cost.0 c.in_ok-span.ensures.counts) c.shared_groups-groups.ensures.answered.cost.0
-
-pub returns-clause-entered : goal.returns-clause-entered
-returns-clause-entered c =
-    let span = c.in_ok-span.span in
-    enters_later (expression_tree c.args.expr.now) c.args.text.now span.0 span.1 c.args.steps.now c.first_span.new.steps c.shared_groups-groups.new.steps (omega (arith, c.fit.ensures.cost.0, c.first_span.ensures.cost.0))
-    (rw c.fit.ensures.expr at c.shared_groups-groups.ensures.answered.entered)
+    let n = length w in
+    let from = c.args.from in
+    let s = c.args.steps.now in
+    let t = c.fit.new.steps in
+    let u = c.next_kept.new.steps in
+    let v = c.shared_groups-groups.new.steps in
+    let i = c.in_ok-span.span.0 in
+    let j = c.in_ok-span.span.1 in
+    let ready = c.fit.ensures.cost in
+    let sought = rw c.fit.ensures.expr at c.next_kept.ensures.each in
+    let groups = rw c.fit.ensures.expr at c.shared_groups-groups.ensures.answered in
+    let is = rw (c.fit.ensures.expr, c.in_ok-span.was) at c.next_kept.ensures.next.answer in
+    let lies = is.2.1 in
+    let all = all_cost m (m - 1) n from (j - i) s t u v (one_less m) (omega (arith, lies)) ready sought groups.cost in
+    record {
+      scratch = search rules;
+      answer = (is.0, tt, groups.report, report_lies n e w i j c.shared_groups-groups.result is.2.0 lies groups.report);
+      computed = (sym ((found-iff e w from i j c.requires.from).1 is.0), (report-iff e w i j c.shared_groups-groups.result is.0.spans).1 groups.report);
+      cost = all.0;
+      linear_cost = all.1;
+      cost_without_groups = λ none. bare_cost m n from s t u v ready sought (groups.none_cost none);
+      cost_of_none = tt;
+      counts = least_up s u v (j - i) (least_since s t u (j - i) ready.0 (least_less t u (j + 1 - from) (j - i) c.in_ok-span.ensures.next.counts (omega (arith, is.0.after)))) groups.cost.0;
+      entered = enters_later e w i j s u v (omega (arith, ready.0, sought.0)) groups.entered;
+    }

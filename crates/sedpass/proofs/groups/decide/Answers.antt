@@ -1,8 +1,7 @@
 use Rattle.std.proofs.Common.{rules, ◌≡◌, ◌-◌, ◌≤◌, List, [], ◌∷◌, ◌++◌, length, reverse, ap, ◌∙◌, subst, arith}
 use Rattle.sedpass.proofs.Words.{nil_from_length, size, tree_at, expression_tree, HasSpan, GroupTask, Apart, Decided}
 use Rattle.sedpass.specs.Decide.{known_groups_in, known_groups, undecided, HasBlank, nodes_in, subject_text, IsMatch}
-use Rattle.sedpass.proofs.DecideLemmas.{starts_due, starts_blank, tables_same, tables_then}
-use Rattle.sedpass.proofs.KeptLemmas.{space_same, space_then}
+use Rattle.sedpass.proofs.DecideLemmas.{starts_due, starts_blank}
 use Rattle.sedpass.proofs.OneGroupLemmas.{walk_report}
 use Rattle.sedpass.proofs.SpineLemmas.{all_paid, due_shown, popped, walk_made, works_forget, works_none, works_then}
 use Rattle.sedpass.proofs.groups.decide.Goals as goal
@@ -17,7 +16,7 @@ all-init c =
     record { inside = omega (arith, s.prepared.now.is_prepared.last); up = c.requires.order.0; fits = c.requires.order.1; at = c.requires.spans } in
     let blank : HasBlank decided = record { blank = starts_blank c.args.start c.args.stop c.args.due c.requires.whole; whole = c.requires.whole } in
     record {
-      keeps = record { desk = c.requires.desk; shape = tables_same c.args.tables.now; space = space_same c.args.room.now.kept; tasks = omega arith };
+      keeps = search rules;
       works = rw begun (works_none s (first ∷ []) decided c.args.steps.now blank (there, tt));
     }
 
@@ -25,10 +24,10 @@ pub all-preserved-in-Forget : goal.all-preserved-in-Forget
 all-preserved-in-Forget c =
     let inv = c.all.invariant in
     let works = rw (popped _ _ _ c.in-Some.ensures.items, c.in-Forget.is) at inv.works in
-    let forgets = works_forget c.args.subject c.in-Forget.x (reverse c.pop.new.self.items) c.all.decided c.forget.new.decided c.all.steps works.ready c.forget.ensures.decided c.forget.ensures.state c.forget.ensures.spans in
+    let forgets = works_forget c.args.subject c.in-Forget.x (reverse c.pop.new.self.items) c.facts_at.result c.without-decided.result c.all.decided c.all.steps works.ready works.decided c.facts_at.ensures.facts c.without-decided.ensures in
     record {
-      keeps = record { desk = inv.keeps.desk; shape = inv.keeps.shape; space = inv.keeps.space; tasks = omega (arith, inv.keeps.tasks, c.pop.ensures.capacity) };
-      works = works_then c.args.subject _ _ _ _ c.all.decided c.forget.new.decided 0 1 0 c.args.steps.now c.all.steps c.all.steps (omega arith) works forgets;
+      keeps = search rules;
+      works = works_then c.args.subject _ _ _ _ c.all.decided (record c.all.decided { due = c.without-decided.result }) 0 1 0 c.args.steps.now c.all.steps c.all.steps (omega arith) works forgets;
     }
 
 pub all-preserved : goal.all-preserved
@@ -38,12 +37,7 @@ all-preserved c =
     let kept = spine.ensures.room in
     let works = rw (popped _ _ _ c.in-Some.ensures.items, c.in-Apart.is) at inv.works in
     record {
-      keeps = record {
-        desk = kept.desk;
-        shape = tables_then c.args.tables.now c.all.tables spine.new.tables inv.keeps.shape kept.shape;
-        space = space_then c.args.room.now.kept c.all.room.kept spine.new.room.kept inv.keeps.space kept.space;
-        tasks = omega (arith, inv.keeps.tasks, c.pop.ensures.capacity, kept.tasks);
-      };
+      keeps = search rules;
       works = works_then c.args.subject _ _ _ _ c.all.decided spine.new.decided 0 1 0 c.args.steps.now c.all.steps spine.new.steps (omega arith) works spine.ensures.works;
     }
 

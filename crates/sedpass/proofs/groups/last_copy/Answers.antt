@@ -1,19 +1,13 @@
-use Rattle.std.proofs.Common.{◌-◌, ◌<◌, length, inl, inr, refl, arith}
-use Rattle.sedpass.proofs.Words.{Star, HasSpan, least_none, least_both, least_up}
+use Rattle.std.proofs.Common.{rules, ◌-◌, ◌<◌, length, inl, inr, refl, arith}
+use Rattle.sedpass.proofs.Words.{Star, HasSpan, least_none, least_both}
 use Rattle.sedpass.specs.Decide.{nodes_in, subject_text}
-use Rattle.sedpass.proofs.DecideLemmas.{copy_fixed, copy_ceases, copy_pays, desk_forward_one, desk_same, desk_then, ends_still, owed_here, part_low}
+use Rattle.sedpass.proofs.DecideLemmas.{copy_fixed, copy_ceases, copy_pays, desk_forward_one, desk_then, ends_still, owed_here, part_low}
 use Rattle.sedpass.proofs.MeetingLemmas.{copy_walk}
 use Rattle.sedpass.proofs.TurnLemmas.{opened, part_inside}
 use Rattle.sedpass.proofs.groups.last_copy.Goals as goal
 
-pub has_empty_copy-taken-requires : goal.has_empty_copy-taken-requires
-has_empty_copy-taken-requires c = rw c.index-part.ensures (part_inside c.args.subject c.args.here (Star c.args.a c.args.first) c.requires.stands c.args.a.index refl)
-
-pub returns-then-taken-clause-counts : goal.returns-then-taken-clause-counts
-returns-then-taken-clause-counts c = λ is_open. least_up c.args.steps.now c.args.steps.now c.has_empty_copy-taken.new.steps _ (least_none c.args.steps.now _ (omega (arith, c.if-here.true))) c.has_empty_copy-taken.ensures.cost.0
-
-pub returns-else-taken-clause-counts : goal.returns-else-taken-clause-counts
-returns-else-taken-clause-counts c = λ is_open. least_up c.args.steps.now c.args.steps.now c.has_empty_copy-taken.new.steps _ (least_none c.args.steps.now _ (omega (arith, c.if-here.true))) c.has_empty_copy-taken.ensures.cost.0
+pub is_null-copy-requires : goal.is_null-copy-requires
+is_null-copy-requires c = record { inside = rw c.index-part.ensures (part_inside c.args.subject c.args.here (Star c.args.a c.args.first) c.requires.stands c.args.a.index refl) }
 
 pub facts_at-requires : goal.facts_at-requires
 facts_at-requires c = rw c.index-part.ensures (part_inside c.args.subject c.args.here (Star c.args.a c.args.first) c.requires.stands c.args.a.index refl)
@@ -30,7 +24,7 @@ returns-in-Some-clause-copy c =
 pub copies-init : goal.copies-init
 copies-init c =
     record {
-      desk = desk_same c.args.subject c.args.tables.now c.args.kept.now c.requires.desk;
+      desk = search rules;
       ends = c.requires.ends;
       low = omega arith;
       within = c.requires.stands.there.up;

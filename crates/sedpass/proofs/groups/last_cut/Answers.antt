@@ -1,14 +1,9 @@
-use Rattle.std.proofs.Common.{◌+◌, ◌-◌, ◌*◌, ◌<◌, length, refl, inl, arith}
-use Rattle.sedpass.proofs.Words.{slice_get_within, Seq, least_less, least_none}
+use Rattle.std.proofs.Common.{◌-◌, ◌<◌, length, refl, inl, arith}
+use Rattle.sedpass.proofs.Words.{slice_get_within, Seq}
 use Rattle.sedpass.specs.Decide.{nodes_in}
-use Rattle.sedpass.proofs.DecideLemmas.{desk_forward_one, part_low, owed_here, run_paid, meet_paid, cut_ceases, cut_runs}
+use Rattle.sedpass.proofs.DecideLemmas.{part_low, owed_here, run_paid, meet_paid, cut_ceases, cut_runs}
 use Rattle.sedpass.proofs.TurnLemmas.{part_inside}
 use Rattle.sedpass.proofs.groups.last_cut.Goals as goal
-
-pub returns-in-Some-clause-counts : goal.returns-in-Some-clause-counts
-returns-in-Some-clause-counts c = λ left right.
-    let same = rw c.in-Some.is at (c.fixed_cut.ensures.open left right) in
-    least_none c.args.steps.now (c.in-Some.cut - c.args.here.start) (omega (arith, same))
 
 pub facts_at-requires : goal.facts_at-requires
 facts_at-requires c = rw c.index-left.ensures (part_inside c.args.subject c.args.here (Seq c.args.a c.args.b) c.requires.stands c.args.a.index (inl refl))
@@ -39,20 +34,17 @@ returns-in-Some-run-clause-cost c =
 pub cut-requires-clause-a : goal.cut-requires-clause-a
 cut-requires-clause-a c = rw c.index-left.ensures (part_low c.args.subject c.args.kept.now.region c.args.here (Seq c.args.a c.args.b) c.args.a.index c.requires.stands c.requires.ends (inl refl))
 
-pub returns : goal.returns
-returns c =
+pub returns-clause-cut : goal.returns-clause-cut
+returns-clause-cut c =
+    let ceases = rw c.index-left.ensures at c.cut.ensures.ceases in
+    cut_ceases c.args.subject c.args.tables.now c.args.kept.now c.args.here c.args.a c.args.b c.cut.result c.requires ceases
+
+pub returns-clause-cost : goal.returns-clause-cost
+returns-clause-cost c =
     let here = c.args.here in
     let cut = c.cut.ensures in
-    let ceases = rw c.index-left.ensures at cut.ceases in
-    let some : here.start < here.stop = omega (arith, c.requires.stands.there.up, c.fixed_cut.ensures.some c.in_default.is) in
-    record {
-      cut = cut_ceases c.args.subject c.args.tables.now c.args.kept.now here c.args.a c.args.b c.cut.result c.requires ceases;
-      same = cut.keeps.same;
-      desk = desk_forward_one c.args.subject c.args.tables.now c.cut.new.table c.cut.new.forward_one c.args.kept.now c.cut.new.self c.requires.desk cut.keeps cut.forward_one cut.shape;
-      cost = (
-        cut.cost.0,
-        meet_paid (length (nodes_in c.args.subject)) c.args.steps.now c.cut.new.steps _ _ here.start c.cut.result (here.stop - here.start) (omega (arith, some))
-            (omega (arith, some, cut.within, c.requires.ends.1)) (owed_here c.args.subject c.args.kept.now.region here c.requires.ends) cut.cost.1,
-      );
-      counts = λ left right. least_less c.args.steps.now c.cut.new.steps (2 * (c.cut.result - here.start) + 1) (c.cut.result - here.start) cut.counts (omega arith);
-    }
+    let some : here.start < here.stop = omega (arith, c.requires.stands.there.up, c.fixed_cut.ensures.some c.in_default.is) in (
+      cut.cost.0,
+      meet_paid (length (nodes_in c.args.subject)) c.args.steps.now c.cut.new.steps _ _ here.start c.cut.result (here.stop - here.start) (omega (arith, some))
+          (omega (arith, some, cut.within, c.requires.ends.1)) (owed_here c.args.subject c.args.kept.now.region here c.requires.ends) cut.cost.1,
+    )

@@ -1,53 +1,78 @@
-use Rattle.std.proofs.Common.{◌≡◌, ◌∷◌, Some, length, reverse, sym, ap, subst, arith}
-use Rattle.sedpass.proofs.Words.{length-reverse, Apart}
-use Rattle.sedpass.specs.Decide.{AreReady, GoesOn, Works, nodes_in, subject_text, waiting, weights}
+use Rattle.std.proofs.Common.{rules, ◌≡◌, ◌∷◌, ◌++◌, length, reverse, sym, ap, arith}
+use Rattle.sedpass.proofs.Words.{length-reverse, both_ways, Apart}
+use Rattle.sedpass.specs.Decide.{Works, nodes_in, tasks_after, weights}
 use Rattle.sedpass.specs.Regions.{all_of}
-use Rattle.sedpass.proofs.DecideLemmas.{desk_then, tables_same}
-use Rattle.sedpass.proofs.KeptLemmas.{space_same}
-use Rattle.sedpass.proofs.SpineLemmas.{done, done_once, no_more, turned_goes, works_none, works_then, works_turn}
+use Rattle.sedpass.proofs.DecideLemmas.{desk_then, none_due}
+use Rattle.sedpass.proofs.SpineLemmas.{no_more, popped, works_left, works_none, works_then, works_turn}
+use Rattle.sedpass.proofs.groups.spine.Goals.{After-turn_node}
 use Rattle.sedpass.proofs.groups.spine.Goals as goal
 
 pub nodes-init : goal.nodes-init
 nodes-init c =
-    let desk = c.requires.desk in
     record {
-      keeps = record { desk = record { region = c.begin.ensures.kept; one_end = desk.one_end; forward_one = desk.forward_one }; shape = tables_same c.args.tables.now; space = space_same c.begin.new.self };
-      goes = (all_of c.args.here.node (sym c.begin.ensures.root), sym c.begin.ensures.end);
+      keeps = search rules;
+      ends = (all_of c.args.here.node (sym c.begin.ensures.root), sym c.begin.ensures.end);
       room = omega arith;
       works = works_none c.args.subject (Apart c.args.here ∷ reverse c.args.room.now.tasks.items) c.args.decided.now c.args.steps.now c.requires.keeps_blank c.requires.ready;
     }
 
-pub put-at-requires : goal.put-at-requires
-put-at-requires c =
+pub push_reserved-requires : goal.push_reserved-requires
+push_reserved-requires c =
     let stack = c.nodes.room.tasks.items in
-    let works = subst (λ at. Works c.args.subject (Apart c.args.here ∷ reverse c.args.room.now.tasks.items) c.args.decided.now (waiting at stack) c.nodes.decided (done at) c.args.steps.now c.nodes.steps)
-    c.in-Some.is c.nodes.invariant.works in
     let same : length (reverse stack) ≡ length stack = simp length-reverse in
-    omega (arith, works.less, same, no_more (nodes_in c.args.subject) (waiting (Some c.in-Some.next) stack), c.requires.enough, c.nodes.invariant.room, c.nodes.room.tasks.ok)
+    omega (arith, c.nodes.invariant.works.less, same, no_more (nodes_in c.args.subject) (Apart c.nodes.at ∷ reverse stack), c.requires.enough, c.nodes.invariant.room, c.nodes.room.tasks.ok)
+
+-- the match is done as far as what comes in its place
+turned : (c : After-turn_node) → Works c.args.subject (Apart c.nodes.at ∷ reverse c.nodes.room.tasks.items) c.nodes.decided (tasks_after c.turn_node.result ++ reverse c.nodes.room.tasks.items) c.turn_node.new.decided 1
+    c.nodes.steps c.turn_node.new.steps
+turned c =
+    let look = c.look-node in
+    let done = c.turn_node.ensures in
+    works_turn c.args.subject c.nodes.at look.result c.turn_node.result _ c.nodes.decided c.turn_node.new.decided c.turn_node.new.kept.region c.nodes.steps look.new.steps c.turn_node.new.steps c.nodes.invariant.works.ready
+    look.ensures.counts look.ensures.cost done.turned done.decided done.few
+
+pub returns-then-not-meets-clause-works : goal.returns-then-not-meets-clause-works
+returns-then-not-meets-clause-works c =
+    let works = c.nodes.invariant.works in
+    let decided = c.nodes.decided in
+    let none = none_due (nodes_in c.args.subject) c.nodes.at.node c.facts_at.result decided.due decided.spans c.facts_at.ensures.facts works.decided.whole
+    (λ k has due. both_ways _ c.if-not-meets.true (c.meets.ensures.1 (k, has, due))) in
+    works_then c.args.subject _ _ _ _ decided decided 0 1 1 c.args.steps.now c.nodes.steps c.nodes.steps (omega arith) works
+    (works_left c.args.subject c.nodes.at (reverse c.nodes.room.tasks.items) decided c.nodes.steps works.ready none works.decided)
+
+pub returns-in-Done-clause-works : goal.returns-in-Done-clause-works
+returns-in-Done-clause-works c =
+    let now = c.turn_node.new in
+    let turned = rw c.in-Done.is at (turned (goal.at.returns-in-Done-clause-works c).After-turn_node) in
+    works_then c.args.subject _ _ _ _ c.nodes.decided now.decided 0 1 1 c.args.steps.now c.nodes.steps now.steps (omega arith) c.nodes.invariant.works turned
+
+pub nodes-preserved-in-One : goal.nodes-preserved-in-One
+nodes-preserved-in-One c =
+    let inv = c.nodes.invariant in
+    let now = c.turn_node.new in
+    let done = c.turn_node.ensures in
+    let turned = rw c.in-One.is at (turned (goal.at.nodes-preserved-in-One c).After-turn_node) in
+    record {
+      keeps = desk_then c.args.subject c.args.tables.now c.nodes.tables now.tables c.begin.new.self c.nodes.room.kept now.kept inv.keeps done.desk;
+      ends = rw c.in-One.is at done.turned.goes;
+      room = inv.room;
+      works = works_then c.args.subject _ _ _ _ c.nodes.decided now.decided 0 1 0 c.args.steps.now c.nodes.steps now.steps (omega arith) inv.works turned;
+    }
 
 pub nodes-smaller : goal.nodes-smaller
 nodes-smaller c =
-    let s = c.args.subject in
-    let stack = c.nodes.room.tasks.items in
-    let turn = c.turn-then in
-    let ready = subst (λ at. AreReady (nodes_in s) (subject_text s) (waiting at stack)) c.in-Some.is c.nodes.invariant.works.ready in
-    let turned = works_turn s c.in-Some.next turn.result (reverse stack) c.nodes.decided turn.new.decided turn.new.kept.region c.nodes.steps turn.new.steps ready turn.ensures.turned turn.ensures.decided turn.ensures.counts in
-    omega (arith, turned.less, ap (weights (nodes_in s)) c.put-at.ensures.items, ap (λ at. weights (nodes_in s) (waiting at stack)) c.in-Some.is)
+    let turned = rw c.in-Two.is at (turned (goal.at.nodes-smaller c).After-turn_node) in
+    omega (arith, turned.less, ap (weights (nodes_in c.args.subject)) (popped _ _ _ c.push_reserved.ensures.items))
 
 pub nodes-preserved : goal.nodes-preserved
 nodes-preserved c =
-    let s = c.args.subject in
     let inv = c.nodes.invariant in
-    let turn = c.turn-then in
-    let put = c.put-at in
-    let first = Apart c.args.here ∷ reverse c.args.room.now.tasks.items in
-    let works = subst (λ at. Works s first c.args.decided.now (waiting at c.nodes.room.tasks.items) c.nodes.decided (done at) c.args.steps.now c.nodes.steps) c.in-Some.is inv.works in
-    let turned = works_turn s c.in-Some.next turn.result (reverse c.nodes.room.tasks.items) c.nodes.decided turn.new.decided turn.new.kept.region c.nodes.steps turn.new.steps works.ready turn.ensures.turned turn.ensures.decided
-    turn.ensures.counts in
+    let now = c.turn_node.new in
+    let done = c.turn_node.ensures in
+    let turned = rw c.in-Two.is at (turned (goal.at.nodes-preserved c).After-turn_node) in
     record {
-      keeps = desk_then s c.args.tables.now c.nodes.tables turn.new.tables c.begin.new.self c.nodes.room.kept turn.new.kept inv.keeps turn.ensures.desk;
-      goes = subst (GoesOn s turn.new.kept.region) (sym put.ensures.first) (turned_goes s c.in-Some.next turn.result _ _ turn.new.kept.region c.nodes.steps turn.new.steps turn.ensures.turned);
-      room = omega (arith, inv.room, put.ensures.room);
-      works = subst (λ tasks. Works s first c.args.decided.now tasks turn.new.decided (done put.result) c.args.steps.now turn.new.steps) (sym put.ensures.items)
-          (works_then s first _ _ c.args.decided.now c.nodes.decided turn.new.decided 0 1 (done put.result) c.args.steps.now c.nodes.steps turn.new.steps (done_once put.result) works turned);
+      keeps = desk_then c.args.subject c.args.tables.now c.nodes.tables now.tables c.begin.new.self c.nodes.room.kept now.kept inv.keeps done.desk;
+      ends = rw c.in-Two.is at done.turned.goes;
+      room = omega (arith, inv.room, c.push_reserved.ensures.capacity);
+      works = rw (popped _ _ _ c.push_reserved.ensures.items) (works_then c.args.subject _ _ _ _ c.nodes.decided now.decided 0 1 0 c.args.steps.now c.nodes.steps now.steps (omega arith) inv.works turned);
     }

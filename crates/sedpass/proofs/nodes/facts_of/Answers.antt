@@ -1,5 +1,6 @@
 use Rattle.std.proofs.Common.{◌≡◌, length, refl, ◌∙◌, ap, Some, arith, rules}
 use Rattle.sedpass.proofs.Words.{slice_get_within, tree_at, null_string, byte_of, text_begin, text_end, Seq, Alt, Group, Star, Opt}
+use Rattle.sedpass.proofs.FactLemmas.{null_both, null_either, shown_short}
 use Rattle.sedpass.proofs.nodes.facts_of.Goals as goal
 
 pub returns-in-Empty : goal.returns-in-Empty
@@ -22,29 +23,33 @@ returns-in-Seq c nodes groups expr facts is =
     let follows = expr.ranges (length c.args.facts.now.items) (Seq c.in-Seq.a c.in-Seq.b) at in
     let inside = slice_get_within nodes (length c.args.facts.now.items) (Seq c.in-Seq.a c.in-Seq.b) at in
     let small = expr.sizes a (omega (arith, follows.0)) in
-    rw c.in-Seq.is (c.of_seq.ensures (tree_at nodes a) (tree_at nodes b) a b (length c.args.facts.now.items) (facts a c.of_part.result c.of_part.ensures) (facts b c.of_part-in-Seq.result c.of_part-in-Seq.ensures)
-    follows.0 follows.1 (omega (arith, follows.0, expr.few)))
+    let few = expr.few in
+    let left = facts a c.of_part-left.result c.of_part-left.ensures in
+    let right = facts b c.of_part-right.result c.of_part-right.ensures in
+    rw c.in-Seq.is (search (rules, null_both, shown_short))
 
 pub returns-in-Alt : goal.returns-in-Alt
 returns-in-Alt c nodes groups expr facts is =
     let a = c.in-Alt.a.index in
     let b = c.in-Alt.b.index in
     let follows = expr.ranges (length c.args.facts.now.items) (Alt c.in-Alt.a c.in-Alt.b) (is ∙ ap Some c.in-Alt.is) in
-    rw c.in-Alt.is (c.of_alt.ensures (tree_at nodes a) (tree_at nodes b) a b (length c.args.facts.now.items) (facts a c.of_part-in-Alt.result c.of_part-in-Alt.ensures) (facts b c.of_part-in-Alt-2.result c.of_part-in-Alt-2.ensures)
-    follows.0 follows.1)
+    let left = facts a c.of_part-left-in-Alt.result c.of_part-left-in-Alt.ensures in
+    let right = facts b c.of_part-right-in-Alt.result c.of_part-right-in-Alt.ensures in
+    rw c.in-Alt.is (search (rules, null_either))
 
 pub returns-in-Group : goal.returns-in-Group
 returns-in-Group c nodes groups expr facts is =
     let a = c.in-Group.a.index in
     let next = expr.ranges (length c.args.facts.now.items) (Group c.in-Group.k c.in-Group.a) (is ∙ ap Some c.in-Group.is) in
-    rw c.in-Group.is (c.of_group.ensures (tree_at nodes a) a (length c.args.facts.now.items) (facts a c.of_part-in-Group.result c.of_part-in-Group.ensures) next)
+    let part = facts a c.of_part-part.result c.of_part-part.ensures in
+    rw c.in-Group.is (search rules)
 
 pub returns-in-Star : goal.returns-in-Star
 returns-in-Star c nodes groups expr facts is =
     let a = c.in-Star.a.index in
     let next = expr.ranges (length c.args.facts.now.items) (Star c.in-Star.a c.in-Star.field-1) (is ∙ ap Some c.in-Star.is) in
-    rw c.in-Star.is (c.of_many.ensures.star (tree_at nodes a) c.in-Star.field-1 a (length c.args.facts.now.items) (facts a c.of_part-in-Star.result c.of_part-in-Star.ensures) next
-    (c.set_at.ensures (tree_at nodes a) (facts a c.of_part-in-Star-2.result c.of_part-in-Star-2.ensures)))
+    rw c.in-Star.is (c.of_many.ensures.star (tree_at nodes a) c.in-Star.field-1 a (length c.args.facts.now.items) (facts a c.of_part.result c.of_part.ensures) next
+    (c.set_at.ensures (tree_at nodes a) (facts a c.of_part-in-Star.result c.of_part-in-Star.ensures)))
 
 pub returns-in-Opt : goal.returns-in-Opt
 returns-in-Opt c nodes groups expr facts is =

@@ -67,7 +67,7 @@ loop-x-preserved c =
     let here : c.get-here.result ≡ slice_index_or (row_of old 0) x false = c.get-here.ensures.mark in
     let some = c.leaves_row-leaves.ensures in
     let more = c.ends_row-ends.ensures in
-    let written = rows_written leaves ends x c.leaf_bit-leaf.result c.end_bit-kept.result old c.enter.new.rows c.set-in-loop-x.new.self new (omega (arith, some)) (omega (arith, some, more))
+    let written = rows_written leaves ends x c.leaf_bit-leaf.result _ old c.enter.new.rows c.set-in-loop-x.new.self new (omega (arith, some)) (omega (arith, some, more))
     c.enter.ensures.keeps c.set-in-loop-x.ensures.keeps c.set-in-loop-x.ensures.marks c.set-in-loop-x-2.ensures.keeps c.set-in-loop-x-2.ensures.marks in
     let value : row_of new 0 ≡ enter_parts (slice_index_or (row_of old 0) x false) null ended node (row_of old 0) = written.1 ∙ rw (← here) c.enter.ensures.marks in
     let few = enters_few x node c.look-node.ensures.parts in
@@ -89,10 +89,10 @@ loop-x-preserved c =
                 (bits m (row_of old leaves)) (bits m (row_of old ends)) (bits m (row_of new leaves)) (bits m (row_of new ends)) is
                 (rw here (before.0 x (tree_shown nodes arena r x there))) (rw c.get-end.ensures.mark (shown x there)) (rw c.null_at-null.ensures.null none)
                 (bits_set m (row_of old leaves) (row_of new leaves) x c.leaf_bit-leaf.result (omega arith) (omega (arith, wide.2 leaves (omega (arith, wide.1, some)))) written.2 ∙ c.leaf_bit-leaf.ensures)
-                (bits_set m (row_of old ends) (row_of new ends) x c.end_bit-kept.result (omega arith) (omega (arith, wide.2 ends (omega (arith, wide.1, more)))) written.3 ∙ c.end_bit-kept.ensures)
+                (bits_set m (row_of old ends) (row_of new ends) x _ (omega arith) (omega (arith, wide.2 ends (omega (arith, wide.1, more)))) written.3)
                 (λ n ne. (
                   bits_other m (row_of old leaves) (row_of new leaves) x c.leaf_bit-leaf.result written.2 n ne,
-                  bits_other m (row_of old ends) (row_of new ends) x c.end_bit-kept.result written.3 n ne,
+                  bits_other m (row_of old ends) (row_of new ends) x _ written.3 n ne,
                 )) before.1,
           );
     }
@@ -108,7 +108,3 @@ returns-clause-row c w s place nulls ended begins =
     (row_done (nodes_of act.way e) w act.root place s act.way.mirrored c.loop-x.x (bits m (row_of rows c.leaves_row-leaves.result)) (bits m (row_of rows c.ends_row-ends.result))
     (λ n there. let from = ((c.low-low.ensures.range act.way.mirrored n).1 there).0 in omega arith)
     (c.loop-x.invariant.shown w s place nulls ended begins).1))
-
-pub returns-clause-counts : goal.returns-clause-counts
-unfolding TakesAtLeast TakesExactly
-returns-clause-counts c = omega arith

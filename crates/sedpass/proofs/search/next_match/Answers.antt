@@ -1,56 +1,51 @@
 use Rattle.std.proofs.Common.{◌≡◌, ◌≤◌, false, length, ap, refl, ◌∙◌, arith}
 use Rattle.sedpass.proofs.Words.{expression_tree, Matches-forward}
 use Rattle.sedpass.proofs.KeptLemmas.{same_shape, space_then}
-use Rattle.sedpass.proofs.SearchLemmas.{ComesTo, comes_at_once, comes_tired, hit_cost, hit_each, later_answer, looks_later, nothing_cost, nothing_each, pass_paid, unbegun, searched_by}
-use Rattle.sedpass.proofs.search.next_match.Goals.{After-begin_kept, After-try_all, then-not-seeking+then-seeking-len+in-Tired, else-not-seeking}
-use Rattle.sedpass.specs.Search.{Searched}
+use Rattle.sedpass.proofs.SearchLemmas.{ComesTo, comes_at_once, comes_tired, hit_cost, hit_each, later_answer, looks_later, nothing_cost, nothing_each, pass_paid, unbegun}
+use Rattle.sedpass.proofs.search.next_match.Goals.{After-begin_kept, then-not-seeking+then-seeking-len+in-Tired, else-not-seeking}
 use Rattle.sedpass.proofs.search.next_match.Goals as goal
 
-searched : (c : After-try_all) → Searched c.args.subject.prepared.now c.args.subject.text.now c.args.forward_one.now c.try_all.new.forward_one c.args.reverse_any.now c.args.reverse_any.now c.args.seeking.now
-    (record c.args.seeking.now { tried = c.try_all.new.tried })
-searched c =
-    searched_by c.args.subject.prepared.now c.args.subject.text.now c.args.forward_one.now c.try_all.new.forward_one c.args.reverse_any.now c.args.seeking.now c.try_all.new.tried c.requires.ready
-    c.try_all.ensures.forward_one c.try_all.ensures.forward_one_shape
+pub returns-in-Hit-clause-answer : goal.returns-in-Hit-clause-answer
+returns-in-Hit-clause-answer c =
+    let answer = c.in-Hit.ensures.made.answer in
+    (answer.0, tt, (Matches-forward (expression_tree c.args.subject.prepared.now.arena.expr) c.args.subject.text.now _ _ answer.0.spans, answer.1))
 
-pub returns-in-Hit : goal.returns-in-Hit
-returns-in-Hit c =
-    let e = expression_tree c.args.subject.prepared.now.arena.expr in
+pub returns-in-Hit-clause-cost : goal.returns-in-Hit-clause-cost
+returns-in-Hit-clause-cost c =
     let m = length c.args.subject.prepared.now.arena.expr.nodes in
     let n = length c.args.subject.text.now in
-    let i = c.in-Hit.first in
     let j = c.in-Hit.end in
-    let some : 1 ≤ m = omega (arith, c.args.subject.prepared.now.is_prepared.last) in
     let made = c.in-Hit.ensures.made in
-    let on = Matches-forward e c.args.subject.text.now i j made.answer.0.spans in
     let begun : c.args.seeking.now.begun ≡ false = c.if-not-seeking.true in
     let low : c.args.seeking.now.tried ≤ n = omega (arith, c.if-seeking-len.true, c.len.ensures.is) in
     let old = unbegun m n c.args.seeking.now c.args.from begun in
     let new = unbegun m n (record c.args.seeking.now { tried = c.try_all.new.tried }) j begun in
-    let cost = hit_cost m n c.args.from i j c.args.seeking.now.tried c.try_all.new.tried c.args.steps.now c.try_all.new.steps some made.answer.0.after on made.answer.1 low (omega (arith, made.few, low)) made.cost.1 in
-    record {
-      searched = searched (goal.at.returns-in-Hit c).After-try_all;
-      answer = (made.answer.0, tt, (on, made.answer.1));
-      cost = (made.cost.0, omega (arith, cost, old, new));
-      each = (made.cost.0, hit_each m n c.args.from i j c.args.seeking.now.tried c.try_all.new.tried c.args.steps.now c.try_all.new.steps some made.answer.0.after on made.answer.1 made.few made.cost.1);
-      counts = made.counts;
-    }
+    let cost = hit_cost m n c.args.from c.in-Hit.first j c.args.seeking.now.tried c.try_all.new.tried c.args.steps.now c.try_all.new.steps (omega (arith, c.args.subject.prepared.now.is_prepared.last)) made.answer.0.after
+    (Matches-forward (expression_tree c.args.subject.prepared.now.arena.expr) c.args.subject.text.now _ _ made.answer.0.spans) made.answer.1 low (omega (arith, made.few, low)) made.cost.1 in
+    (made.cost.0, omega (arith, cost, old, new))
 
-pub returns-in-Nothing : goal.returns-in-Nothing
-returns-in-Nothing c =
+pub returns-in-Hit-clause-each : goal.returns-in-Hit-clause-each
+returns-in-Hit-clause-each c =
+    let made = c.in-Hit.ensures.made in (
+      made.cost.0,
+      hit_each (length c.args.subject.prepared.now.arena.expr.nodes) (length c.args.subject.text.now) c.args.from c.in-Hit.first c.in-Hit.end c.args.seeking.now.tried c.try_all.new.tried c.args.steps.now c.try_all.new.steps
+          (omega (arith, c.args.subject.prepared.now.is_prepared.last)) made.answer.0.after (Matches-forward (expression_tree c.args.subject.prepared.now.arena.expr) c.args.subject.text.now _ _ made.answer.0.spans) made.answer.1 made.few made.cost.1,
+    )
+
+pub returns-in-Nothing-clause-cost : goal.returns-in-Nothing-clause-cost
+returns-in-Nothing-clause-cost c =
     let m = length c.args.subject.prepared.now.arena.expr.nodes in
     let n = length c.args.subject.text.now in
-    let some : 1 ≤ m = omega (arith, c.args.subject.prepared.now.is_prepared.last) in
     let made = c.in-Nothing.ensures.made in
     let low : c.args.seeking.now.tried ≤ n = omega (arith, c.if-seeking-len.true, c.len.ensures.is) in
     let old = unbegun m n c.args.seeking.now c.args.from c.if-not-seeking.true in
-    let cost = nothing_cost m n c.args.from c.args.seeking.now.tried c.try_all.new.tried c.args.steps.now c.try_all.new.steps some c.requires.from low (omega (arith, made.few, low)) made.cost.1 in
-    record {
-      searched = searched (goal.at.returns-in-Nothing c).After-try_all;
-      answer = (tt, made.answer, tt);
-      cost = (made.cost.0, omega (arith, cost, old));
-      each = (made.cost.0, nothing_each m n c.args.from c.args.seeking.now.tried c.try_all.new.tried c.args.steps.now c.try_all.new.steps some c.requires.from made.few made.cost.1);
-      counts = tt;
-    }
+    let cost = nothing_cost m n c.args.from c.args.seeking.now.tried c.try_all.new.tried c.args.steps.now c.try_all.new.steps (omega (arith, c.args.subject.prepared.now.is_prepared.last)) c.requires.from low (omega (arith, made.few, low)) made.cost.1 in
+    (made.cost.0, omega (arith, cost, old))
+
+pub returns-in-Nothing-clause-each : goal.returns-in-Nothing-clause-each
+returns-in-Nothing-clause-each c =
+    let made = c.in-Nothing.ensures.made in
+    (made.cost.0, nothing_each _ _ c.args.from c.args.seeking.now.tried c.try_all.new.tried c.args.steps.now c.try_all.new.steps (omega (arith, c.args.subject.prepared.now.is_prepared.last)) c.requires.from made.few made.cost.1)
 
 -- where the pass from the text's end goes on
 

@@ -1,5 +1,5 @@
-use Rattle.std.proofs.Common.{◌≡◌, ◌+◌, ◌-◌, ◌≤◌, ℕ, length, Option, None, Some, refl, subst, arith, IfSome}
-use Rattle.sedpass.proofs.Words.{expression_tree, IsLongestFrom, Matches-forward, Matches-within, least_none}
+use Rattle.std.proofs.Common.{◌≡◌, ◌+◌, ◌-◌, ◌≤◌, ℕ, length, Option, None, Some, subst, arith, IfSome}
+use Rattle.sedpass.proofs.Words.{expression_tree, IsLongestFrom, Matches-forward, Matches-within}
 use Rattle.sedpass.proofs.KeptLemmas.{same_shape}
 use Rattle.sedpass.proofs.SearchLemmas.{found_at, hit_paid, hit_room, none_more, none_on, looks_tried, trial_cost, trial_is}
 use Rattle.sedpass.proofs.ForwardLemmas.{forward_one_still}
@@ -58,19 +58,6 @@ returns-then-tried-length-clause-made c =
       cost = (omega (arith, i.cost.0, next.cost, run.cost), omega (arith, i.cost.1, paid));
       counts = looks_tried c.args.from c.loop-start.start first c.run-passed.result.place c.args.steps.now c.loop-start.steps c.next_start.new.steps c.run-passed.new.steps i.counts c.in-Some.ensures.counts run.counts (first + 1 - c.args.from) (omega (arith, is.after));
     }
-
-pub loop-start-init : goal.loop-start-init
-loop-start-init c = record {
-  forward_one = c.requires.forward_one;
-  forward_one_shape = (refl, refl, refl, refl, refl);
-  none = λ h k low high. absurd (omega arith);
-  after = omega arith;
-  within = omega arith;
-  few = λ h. omega arith;
-  room = omega arith;
-  counts = least_none c.args.steps.now (c.args.from - c.args.from) (omega arith);
-  cost = (omega arith, omega arith);
-}
 
 pub loop-start-preserved : goal.loop-start-preserved
 loop-start-preserved c =

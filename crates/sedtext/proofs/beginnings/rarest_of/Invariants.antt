@@ -6,6 +6,4 @@ use Rattle.sedtext.specs.Sieve.{AllPass}
 use Rattle.sedtext.proofs.beginnings.rarest_of.Given as goal
 
 abbrev pub invariant-loop-offset : goal.invariant-loop-offset
-invariant-loop-offset l = record {
-  pass : (nodes : List Node) (e : Tree) → AreBranches nodes e l.branches → AllPass e l.sieve;
-}
+invariant-loop-offset l = (nodes : List Node) (e : Tree) → AreBranches nodes e l.branches → AllPass e l.sieve

@@ -1,8 +1,8 @@
-use Rattle.std.proofs.Common.{◌≡◌, ℕ, List, ◌+◌, ◌-◌, suc, drop, subst, arith}
-use Rattle.sedtext.specs.Branches.{LeadsFrom}
-use Rattle.sedtext.specs.Bytes.{MemberAt}
-use Rattle.sedre.specs.declared.types.Node.{Node}
-use Rattle.sedtext.proofs.BranchLemmas.{AllLeadTo, lead_more, led_to}
+use Rattle.std.proofs.Common.{◌≡◌, ◌-◌, length, Some, suc, drop, refl, sym, ◌∙◌, subst, arith}
+use Rattle.std.specs.Prelude.{slice_get}
+use Rattle.std.proofs.lemmas.Option.{slice_get_read}
+use Rattle.sedtext.specs.declared.links.Link.TheVariants.{Byte}
+use Rattle.sedtext.proofs.BranchLemmas.{AllLeadTo, lead_more, led_to, member_behind}
 use Rattle.sedtext.proofs.branches.set_at.Goals as goal
 
 pub loop-x-preserved : goal.loop-x-preserved
@@ -10,11 +10,16 @@ loop-x-preserved c =
     let cs = c.args.branches.now in
     let x = c.loop-x.x - 1 in
     let chain = c.index-branches-x.result in
+    let set = c.in-Some-Byte.set in
     let next : c.loop-x.x ≡ suc x = omega arith in
+    let read = rw c.deref.ensures.value at c.in-Some-Byte.ensures.lookup.3 in
+    let is : slice_get chain.items c.args.offset ≡ Some (Byte set) = slice_get_read chain.items (length chain.items) c.args.offset (Byte set) refl read.0 (sym c.in-Some-Byte.field-0-is ∙ read.1 (Byte set)) in
+    let bytes = rw c.deref-in-loop-x.ensures.value at c.lead.ensures.sets in
     record {
       within = omega arith;
-      lead = lead_more cs x c.args.offset chain c.in_ok-set.set c.loop-x.members c.joined.result (omega arith) c.index-branches-x.is
-          (subst (λ v. (nodes : List Node) (w : List ℕ) (i : ℕ) → LeadsFrom nodes w v i → MemberAt c.in_ok-set.set w (i + c.args.offset)) c.deref.ensures.value c.in_ok-set.ensures) (subst (λ v. AllLeadTo (drop v cs) c.args.offset c.loop-x.members) next c.loop-x.invariant.lead) c.joined.ensures.members c.joined.ensures.more;
+      lead = lead_more cs x c.args.offset chain set c.loop-x.members c.joined.result (omega arith) c.index-branches-x.is
+          (λ nodes w i at. member_behind nodes w c.args.offset c.lead.result chain.items set bytes (omega arith) is i at.0 at.1)
+          (subst (λ v. AllLeadTo (drop v cs) c.args.offset c.loop-x.members) next c.loop-x.invariant.lead) c.joined.ensures.members c.joined.ensures.more;
     }
 
 pub returns : goal.returns

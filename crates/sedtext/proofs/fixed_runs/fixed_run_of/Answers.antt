@@ -9,5 +9,5 @@ pub returns : goal.returns
 returns c =
     let links = c.args.chain.now in
     let set = c.in-Some-Byte.set in
-    let all : AllWithin (λ l. l ≡ Byte set) links 0 (length links) = rw (← (let e : c.loop-x.x ≡ length links = omega arith in e)) c.loop-x.invariant.bytes in
+    let all : AllWithin (λ l. l ≡ Byte set) links 0 (length links) = rw (← (let e : c.loop-x.x ≡ length links = omega arith in e)) c.loop-x.invariant in
     runs_of_bytes links set (All-from_all_within (λ l. l ≡ Byte set) links all)

@@ -4,6 +4,4 @@ use Rattle.sedtext.specs.declared.links.Link.TheVariants.{Byte}
 use Rattle.sedtext.proofs.fixed_runs.fixed_run_of.Given as goal
 
 abbrev pub invariant-loop-x : goal.invariant-loop-x
-invariant-loop-x l = record {
-  bytes : AllWithin (λ k. k ≡ Byte l.set) l.chain 0 l.x;
-}
+invariant-loop-x l = AllWithin (λ k. k ≡ Byte l.set) l.chain 0 l.x

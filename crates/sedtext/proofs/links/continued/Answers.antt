@@ -1,6 +1,4 @@
-use Rattle.std.proofs.Common.{rules, ◌≡◌, Some}
-use Rattle.std.specs.Prelude.{slice_get}
-use Rattle.sedre.specs.declared.types.Node.TheVariants.{Seq, Group}
+use Rattle.std.proofs.Common.{rules}
 use Rattle.sedtext.proofs.LinkLemmas.{all_left, left_behind, left_inner, left_parts, none_left}
 use Rattle.sedtext.proofs.links.continued.Goals as goal
 
@@ -8,34 +6,25 @@ pub loop-index-init : goal.loop-index-init
 loop-index-init c = record { left = all_left _ _ _ c.in_ok-links.links.items _ _ (search rules) c.new-rest.ensures.items c.in_ok-push.ensures.items c.requires.inside; within = search rules }
 
 pub loop-index-smaller-in-Continue-branch-4 : goal.loop-index-smaller-in-Continue-branch-4
-loop-index-smaller-in-Continue-branch-4 c =
-    let is : slice_get c.args.expr.now.nodes c.in-Some.index ≡ Some (Seq c.in-Seq.left c.in-Seq.right) = cc in
-    (left_parts _ _ _ _ _ _ _ c.in-Some.ensures.items c.loop-index.invariant.left c.look-node.ensures.arena c.in-Seq.left c.in-Seq.right _ _ is (rw c.index.ensures at c.in_ok-push-in-Seq.ensures.items) (rw c.index-in-Seq.ensures at c.in_ok-push-in-Seq-2.ensures.items)).1
+loop-index-smaller-in-Continue-branch-4 c = (left_parts _ _ _ _ _ _ _ c.in-Some.ensures.items c.loop-index.invariant.left c.look-node.ensures.arena c.in-Seq.left c.in-Seq.right _ _ (cc) (rw c.index.ensures at c.in_ok-push-in-Seq.ensures.items) (rw c.index-in-Seq.ensures at c.in_ok-push-in-Seq-2.ensures.items)).1
 
 pub loop-index-preserved-in-Continue-branch-4 : goal.loop-index-preserved-in-Continue-branch-4
-loop-index-preserved-in-Continue-branch-4 c =
-    let is : slice_get c.args.expr.now.nodes c.in-Some.index ≡ Some (Seq c.in-Seq.left c.in-Seq.right) = cc in
-    record {
-      left = (left_parts _ _ _ _ _ _ _ c.in-Some.ensures.items c.loop-index.invariant.left c.look-node.ensures.arena c.in-Seq.left c.in-Seq.right _ _ is (rw c.index.ensures at c.in_ok-push-in-Seq.ensures.items) (rw c.index-in-Seq.ensures at c.in_ok-push-in-Seq-2.ensures.items)).0;
-      within = c.loop-index.invariant.within;
-    }
+loop-index-preserved-in-Continue-branch-4 c = record {
+  left = (left_parts _ _ _ _ _ _ _ c.in-Some.ensures.items c.loop-index.invariant.left c.look-node.ensures.arena c.in-Seq.left c.in-Seq.right _ _ (cc) (rw c.index.ensures at c.in_ok-push-in-Seq.ensures.items) (rw c.index-in-Seq.ensures at c.in_ok-push-in-Seq-2.ensures.items)).0;
+  within = c.loop-index.invariant.within;
+}
 
 pub loop-index-smaller-in-Continue-branch-5 : goal.loop-index-smaller-in-Continue-branch-5
-loop-index-smaller-in-Continue-branch-5 c =
-    let is : slice_get c.args.expr.now.nodes c.in-Some.index ≡ Some (Group c.in-Group.field-0 c.in-Group.part) = cc in
-    (left_inner _ _ _ _ _ _ _ c.in-Some.ensures.items c.loop-index.invariant.left c.look-node.ensures.arena _ c.in-Group.part _ is (rw c.index-in-Group.ensures at c.in_ok-push-in-Group.ensures.items)).1
+loop-index-smaller-in-Continue-branch-5 c = (left_inner _ _ _ _ _ _ _ c.in-Some.ensures.items c.loop-index.invariant.left c.look-node.ensures.arena c.in-Group.field-0 c.in-Group.part _ (cc) (rw c.index-in-Group.ensures at c.in_ok-push-in-Group.ensures.items)).1
 
 pub loop-index-preserved-in-Continue-branch-5 : goal.loop-index-preserved-in-Continue-branch-5
-loop-index-preserved-in-Continue-branch-5 c =
-    let is : slice_get c.args.expr.now.nodes c.in-Some.index ≡ Some (Group c.in-Group.field-0 c.in-Group.part) = cc in
-    record {
-      left = (left_inner _ _ _ _ _ _ _ c.in-Some.ensures.items c.loop-index.invariant.left c.look-node.ensures.arena _ c.in-Group.part _ is (rw c.index-in-Group.ensures at c.in_ok-push-in-Group.ensures.items)).0;
-      within = c.loop-index.invariant.within;
-    }
+loop-index-preserved-in-Continue-branch-5 c = record {
+  left = (left_inner _ _ _ _ _ _ _ c.in-Some.ensures.items c.loop-index.invariant.left c.look-node.ensures.arena c.in-Group.field-0 c.in-Group.part _ (cc) (rw c.index-in-Group.ensures at c.in_ok-push-in-Group.ensures.items)).0;
+  within = c.loop-index.invariant.within;
+}
 
 pub loop-index-smaller : goal.loop-index-smaller
-loop-index-smaller c =
-    (left_behind _ _ _ _ _ _ _ c.in-Some.ensures.items c.loop-index.invariant.left _ _ c.link_of.ensures.leads c.in_ok-push-in_default-node.ensures.items).1
+loop-index-smaller c = (left_behind _ _ _ _ _ _ _ c.in-Some.ensures.items c.loop-index.invariant.left _ _ c.link_of.ensures.leads c.in_ok-push-in_default-node.ensures.items).1
 
 pub loop-index-preserved : goal.loop-index-preserved
 loop-index-preserved c = record {

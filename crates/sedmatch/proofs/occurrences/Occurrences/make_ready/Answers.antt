@@ -1,12 +1,22 @@
+use Rattle.std.proofs.Common.{◌≡◌, ◌∙◌, None, Some, ap, false, sym}
+use Rattle.std.proofs.lemmas.Option.{slice_get-get_or}
 use Rattle.sedmatch.proofs.OccurrenceLemmas.{own_ready, shared_ready}
 use Rattle.sedmatch.proofs.occurrences.Occurrences.make_ready.Goals as goal
+use Rattle.sedmatch.proofs.occurrences.Occurrences.make_ready.Goals.{in_default-via-in-Some-Some+else-has_blocks, in_default-via-in-Some+in_default, in_default-via-in_default}
 
-pub returns-in-Some-clause-ready : goal.returns-in-Some-clause-ready
-returns-in-Some-clause-ready c =
+pub returns-in-Some-Some-clause-ready : goal.returns-in-Some-Some-clause-ready
+returns-in-Some-Some-clause-ready c =
     let begun = c.begin_text.ensures in
-    own_ready c.args.prepared.now c.args.text.now c.args.self.now c.requires.room c.begin_text.new.seeking c.in-Some.own.now c.in-Some.ensures.own begun.kept begun.serves
+    let at = rw c.deref.ensures.value at c.in-Some-Some.ensures.lookup.3 in
+    let there = slice_get-get_or c.args.self.now.own.items c.args.self.now.number None at.0 ∙ ap (λ z. Some z) (sym (at.1 None) ∙ c.in-Some-Some.field-0-is) in
+    own_ready c.args.prepared.now c.args.text.now c.args.self.now c.requires.room c.begin_text.new.seeking c.in-Some-Some.own there begun.kept begun.serves
 
-pub returns-in-None-clause-ready : goal.returns-in-None-clause-ready
-returns-in-None-clause-ready c =
-    let begun = c.begin_text-in-None.ensures in
-    shared_ready c.args.prepared.now c.args.text.now c.args.self.now c.requires.room c.begin_text-in-None.new.seeking c.fit.new.self c.fit.ensures.room c.fit.ensures.table begun.kept begun.serves
+pub returns-in_default-clause-ready : goal.returns-in_default-clause-ready
+returns-in_default-clause-ready c =
+    let begun = c.begin_text-in_default.ensures in
+    let is : c.in_default.self ≡ record c.args.self.now { is_fresh = false } = elim c.in_default.branch [
+      | in_default-via-in-Some-Some+else-has_blocks w ↦ w.self-is
+      | in_default-via-in-Some+in_default w ↦ w.self-is
+      | in_default-via-in_default w ↦ w.self-is
+    ] in
+    rw is (shared_ready c.args.prepared.now c.args.text.now c.args.self.now c.requires.room c.begin_text-in_default.new.seeking c.fit.new.self (rw is at c.fit.ensures.room) c.fit.ensures.table (rw is at begun.kept) begun.serves)

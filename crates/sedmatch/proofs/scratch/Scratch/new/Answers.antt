@@ -1,10 +1,25 @@
-use Rattle.sedmatch.proofs.PassLemmas.{desk_made}
+use Rattle.std.proofs.Common.{◌≡◌, ◌∙◌, ◌+◌, ◌-◌, ◌/◌, sym, subst, arith}
+use Rattle.sedpass.specs.Decide.{HasSpace}
 use Rattle.sedmatch.proofs.scratch.Scratch.new.Goals as goal
 
 pub invariant_of-result : goal.invariant_of-result
 invariant_of-result c =
-    let reverse_any = c.in_ok-with_room.ensures.table in (
-      desk_made c.args.max_text c.args.max_nodes c.width_for-block.result c.in_ok-new.field-0 c.in_ok-with_room.field-0 c.in_ok-with_room-2.field-0 c.in_ok-new.ensures (reverse_any.0, reverse_any.1)
-          c.in_ok-with_room-2.ensures.tables c.in_ok-with_room-2.ensures.room reverse_any.2 (c.width_for-block.ensures.blocks c.requires.text),
+    let text = c.args.max_text in
+    let block = c.width_for-block.result in
+    let room = c.in_ok-new.field-0 in
+    let made = c.in_ok-new.ensures in
+    let edges = made.edges in
+    let reverse_any = c.in_ok-with_room.ensures.table in
+    let shared = c.in_ok-with_room-2.ensures in
+    let states = shared.room.0 in
+    let width : c.in_ok-with_room-2.field-0.reverse_one.room - 1 ≡ block = omega (arith, states) in
+    let few = c.width_for-block.ensures.blocks c.requires.text in (
+      record {
+        space = subst (λ v. HasSpace text (text / v + 1) c.args.max_nodes room) (sym width) made;
+        reverse_any = (reverse_any.0, reverse_any.1);
+        states = reverse_any.2 ∙ sym states;
+        shared = shared.tables;
+        few = omega (arith, edges, few);
+      },
       (c.in_ok-prepared.ensures.nodes, c.in_ok-prepared.ensures.facts),
     )

@@ -1,10 +1,10 @@
-use Rattle.std.proofs.Common.{◌-◌, length, ap, subst, arith}
+use Rattle.std.proofs.Common.{◌-◌, ◌∙◌, length, ap, subst, sym, arith}
 use Rattle.sedre.specs.Tree.{expression_tree}
 use Rattle.sedre.specs.Arena.{IsExpr}
 use Rattle.sedtext.proofs.MatchingLemmas.{report-iff}
 use Rattle.sedtext.proofs.PartLemmas.{report_lies}
 use Rattle.sedmatch.specs.Passes.{AnswersGroups, searched_expression}
-use Rattle.sedmatch.proofs.MatcherLemmas.{direct_is, groups_within, passes_are, written_is}
+use Rattle.sedmatch.proofs.MatcherLemmas.{direct_is, groups_within, passes_are}
 use Rattle.sedmatch.proofs.table_matcher.TableMatcher.groups_of.Goals as goal
 use Rattle.sedmatch.proofs.table_matcher.TableMatcher.groups_of.Goals.{in-Direct, in-Passes}
 
@@ -13,7 +13,7 @@ answered c =
     elim c.match-self.branch [
       | in-Direct w ↦
           let is = direct_is c.self.inside.engine c.args.self.now w.in-Direct.expr w.in-Direct.field-1 c.self.view_is c.self.invariant w.in-Direct.is in
-          let same = written_is c.self.inside.engine c.args.self.now w.in-Direct.expr w.in-Direct.field-1 c.self.view_is w.in-Direct.is in
+          let same = sym (ap searched_expression w.in-Direct.is) ∙ c.self.view_is in
           let expr = subst (λ v. IsExpr v.nodes v.groups) same w.is_expression.ensures.expr in
           rw (w.result-is, w.steps-is) (w.whole_alone.ensures c.args.self.now c.args.text.now c.args.steps.now expr is.1 c.requires.spans)
       | in-Passes w ↦

@@ -1,4 +1,4 @@
-use Rattle.std.proofs.Common.{length, ap}
+use Rattle.std.proofs.Common.{length, ap, rules}
 use Rattle.sedre.specs.Tree.{expression_tree}
 use Rattle.sedtext.proofs.FollowingLemmas.{if_occurs}
 use Rattle.sedmatch.specs.Occurrences.{AnswersNext}
@@ -31,17 +31,7 @@ answered c =
           rw (w.result-is, w.occurrences-is, w.steps-is) (rw is at w.next_by_passes.ensures.answered)
     ]
 
-pub returns-clause-occurs : goal.returns-clause-occurs
-returns-clause-occurs c = (answered c).occurs
-
-pub returns-clause-serves : goal.returns-clause-serves
-returns-clause-serves c = (answered c).serves
-
-pub returns-clause-cost : goal.returns-clause-cost
-returns-clause-cost c = (answered c).cost
-
-pub returns-clause-once : goal.returns-clause-once
-returns-clause-once c = (answered c).once
-
-pub returns-clause-passes : goal.returns-clause-passes
-returns-clause-passes c = (answered c).passes
+pub returns : goal.returns
+returns c =
+    let all = answered c in
+    record { same = search rules; scratch = search rules; next = all.next; occurs = all.occurs; serves = all.serves; cost = all.cost; once = all.once; counts = all.counts; passes = all.passes }

@@ -1,5 +1,5 @@
 use Rattle.std.proofs.Common.{◌≡◌, ◌-◌, ◌*◌, ◌<◌, ◌≤◌, ◌↔◌, ⊎_elim, refl, subst, IsTrue, arith, length}
-use Rattle.sedpass.proofs.Words.{cases_lt, TakesAtLeast, one_start, least_none, least_both, least_since}
+use Rattle.sedpass.proofs.Words.{cases_lt, one_start, least_none, least_both, least_since}
 use Rattle.sedpass.specs.Kept.{KeepsRegion, Meet, ends_shown, owed_region}
 use Rattle.sedpass.specs.Regions.{MeetsAt}
 use Rattle.sedpass.proofs.KeptLemmas.{keeps_same, keeps_then, same_shape, shown_as, follows_first, meet_end}
@@ -24,12 +24,6 @@ meets c q after under =
     (λ (ge : c.loop-place.place ≤ q). shown_as (λ r t. MeetsAt c.args.subject.prepared.now.arena.expr.nodes w r t c.args.a (one_start c.args.from) q) _ w c.args.table.now c.ready-to.new.table c.args.self.now c.ready-to.new.self (keeps c)
     ((c.meet-reached.ensures.meets c.args.a c.args.from (low c) before.above before.follows).1 q ge under))
     (cases_lt q c.loop-place.place)
-
-counts : (c : After-meet-reached) → TakesAtLeast c.first-code.new.steps c.meet-reached.new.steps (2 * (c.meet-reached.result.0 - c.args.from))
-counts c =
-    let before = c.loop-place.invariant in
-    least_both _ c.loop-place.steps _ _ (2 * (c.meet-reached.result.0 - c.loop-place.place)) _ before.counts
-    (least_since _ c.ready-to.new.steps _ _ c.ready-to.ensures.cost.0 c.meet-reached.ensures.counts) (omega (arith, before.above, c.meet-reached.ensures.after))
 
 pub loop-place-init : goal.loop-place-init
 loop-place-init c =
@@ -76,59 +70,44 @@ loop-place-preserved c =
             c.loop-place.steps _ c.ready-to.new.steps c.meet-reached.new.steps c.args.from c.loop-place.place reached before.cost.1 ready.cost.1 (meet.whole at).1
             (owed_falls m c.ready-to.new.self.region c.loop-place.place reached (omega (arith, up))),
       );
-      counts = counts here;
+      counts = least_both _ c.loop-place.steps _ _ (2 * (reached - c.loop-place.place)) _ before.counts (least_since _ c.ready-to.new.steps _ _ ready.cost.0 meet.counts) (omega (arith, before.above, meet.after));
     }
 
-pub returns-then-place-to : goal.returns-then-place-to
-returns-then-place-to c =
+pub returns-then-place-to-clause-keeps : goal.returns-then-place-to-clause-keeps
+returns-then-place-to-clause-keeps c = keeps (goal.at.returns-then-place-to-clause-keeps c).After-meet-reached
+
+pub returns-then-place-to-clause-ceases : goal.returns-then-place-to-clause-ceases
+returns-then-place-to-clause-ceases c =
+    let before = c.loop-place.invariant in
+    let meet = c.meet-reached.ensures in
+    let here = (goal.at.returns-then-place-to-clause-ceases c).After-meet-reached in (
+      omega (arith, before.above, meet.after),
+      meets here,
+      shown_as (λ r t. MeetsAt c.args.subject.prepared.now.arena.expr.nodes c.args.subject.text.now r t c.args.a (one_start c.args.from) c.meet-reached.result.0 → ⊥) _ c.args.subject.text.now c.args.table.now c.ready-to.new.table c.args.self.now c.ready-to.new.self (keeps here)
+          ((meet.meets c.args.a c.args.from (low here) before.above before.follows).2 (omega (arith, c.if-place-to.true, c.ready-to.ensures.to.0))),
+    )
+
+pub returns-then-place-to-clause-cost : goal.returns-then-place-to-clause-cost
+returns-then-place-to-clause-cost c =
     let m = length c.args.subject.prepared.now.arena.expr.nodes in
-    let w = c.args.subject.text.now in
     let before = c.loop-place.invariant in
     let ready = c.ready-to.ensures in
     let meet = c.meet-reached.ensures in
     let first = c.first-code.ensures in
-    let reached = c.meet-reached.result.0 in
-    let here = (goal.at.returns-then-place-to c).After-meet-reached in
-    let under : reached < c.ready-to.new.self.region.to = (let h = c.if-place-to.true in let g = ready.to.0 in omega (arith, h, g)) in
-    let still = keeps here in
-    record {
-      keeps = still;
-      forward_one = meet.forward_one;
-      shape = same_shape c.args.forward_one.now c.first-code.new.self c.meet-reached.new.forward_one first.codes.adds.shape (same_shape c.first-code.new.self c.loop-place.forward_one c.meet-reached.new.forward_one before.forward_one_shape meet.shape);
-      within = (let h = ready.keeps.kept.region.within in let g = still.same.end in omega (arith, under, h, g));
-      ceases = (
-        (let h = before.above in let g = meet.after in omega (arith, h, g)),
-        meets here,
-        shown_as (λ r t. MeetsAt c.args.subject.prepared.now.arena.expr.nodes w r t c.args.a (one_start c.args.from) reached → ⊥) _ w c.args.table.now c.ready-to.new.table c.args.self.now c.ready-to.new.self still
-            ((meet.meets c.args.a c.args.from (low here) before.above before.follows).2 under),
-      );
-      cost = (
-        (let h = before.cost.0 in let g = ready.cost.0 in let f = meet.cost.0 in let e = first.cost.0 in omega (arith, h, g, f, e)),
-        cut_at m (owed_region m c.args.self.now.region c.args.from) (owed_region m c.loop-place.self.region c.loop-place.place) (owed_region m c.ready-to.new.self.region c.loop-place.place) (owed_region m c.ready-to.new.self.region reached)
-            c.loop-place.steps c.args.steps.now c.first-code.new.steps c.ready-to.new.steps c.meet-reached.new.steps c.args.from c.loop-place.place reached first.cost.1 before.cost.1 ready.cost.1 meet.cost.1
-            (owed_falls m c.ready-to.new.self.region c.loop-place.place reached meet.after),
-      );
-      counts = least_both _ c.first-code.new.steps _ 1 _ _ first.counts (counts here) (omega arith);
-    }
+    let reached = c.meet-reached.result.0 in (
+      (let h = before.cost.0 in let g = ready.cost.0 in let f = meet.cost.0 in let e = first.cost.0 in omega (arith, h, g, f, e)),
+      cut_at m (owed_region m c.args.self.now.region c.args.from) (owed_region m c.loop-place.self.region c.loop-place.place) (owed_region m c.ready-to.new.self.region c.loop-place.place) (owed_region m c.ready-to.new.self.region reached)
+          c.loop-place.steps c.args.steps.now c.first-code.new.steps c.ready-to.new.steps c.meet-reached.new.steps c.args.from c.loop-place.place reached first.cost.1 before.cost.1 ready.cost.1 meet.cost.1
+          (owed_falls m c.ready-to.new.self.region c.loop-place.place reached meet.after),
+    )
 
-pub returns : goal.returns
-returns c =
-    let p = c.args.subject.prepared.now in
+pub returns-clause-ceases : goal.returns-clause-ceases
+returns-clause-ceases c =
     let w = c.args.subject.text.now in
     let last = c.loop-place.invariant in
-    let first = c.first-code.ensures in
     let at : c.args.self.now.region.end ≡ c.loop-place.place = (let h = last.keeps.same.end in let g = last.below in let f = c.loop-place-test.false in omega (arith, h, g, f)) in
-    let end = meet_end p w c.args.table.now c.args.self.now c.args.a c.args.from c.requires.kept in
-    record {
-      keeps = last.keeps;
-      forward_one = last.forward_one;
-      shape = same_shape c.args.forward_one.now c.first-code.new.self c.loop-place.forward_one first.codes.adds.shape last.forward_one_shape;
-      within = omega (arith, at);
-      ceases = (
-        last.above,
-        last.meets,
-        subst (λ y. MeetsAt p.arena.expr.nodes w c.args.self.now.region.root (ends_shown c.args.table.now.way.all_starts (length w) c.args.self.now.region.end) c.args.a (one_start c.args.from) y → ⊥) at end,
-      );
-      cost = ((let h = last.cost.0 in let g = first.cost.0 in omega (arith, h, g)), (let h = last.cost.1 in let g = first.cost.1 in omega (arith, h, g)));
-      counts = least_both _ c.first-code.new.steps _ 1 _ _ first.counts last.counts (omega arith);
-    }
+    let end = meet_end c.args.subject.prepared.now w c.args.table.now c.args.self.now c.args.a c.args.from c.requires.kept in (
+      last.above,
+      last.meets,
+      subst (λ y. MeetsAt c.args.subject.prepared.now.arena.expr.nodes w c.args.self.now.region.root (ends_shown c.args.table.now.way.all_starts (length w) c.args.self.now.region.end) c.args.a (one_start c.args.from) y → ⊥) at end,
+    )

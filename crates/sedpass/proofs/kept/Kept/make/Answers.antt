@@ -1,55 +1,98 @@
-use Rattle.std.proofs.Common.{◌≡◌, ◌-◌, ◌*◌, ◌/◌, refl, ap, ◌∙◌, arith}
-use Rattle.sedpass.specs.Kept.{EdgesFrom}
-use Rattle.sedpass.proofs.KeptLemmas.{block_cost, block_right, edges_same, kept_passed, make_cost, passes_first, same_kept, same_shape, same_by}
-use Rattle.sedpass.proofs.Words.{div-mul-le_self, least_none, least_both, least_since}
+use Rattle.std.proofs.Common.{◌≡◌, ◌≢◌, ℕ, ◌+◌, ◌-◌, ◌*◌, ◌/◌, ◌^◌, ◌≤◌, length, refl, ap, ◌∙◌, arith}
+use Rattle.sedre.specs.Steps.{Takes}
+use Rattle.sedpass.proofs.Words.{KeepsRows, row_of}
+use Rattle.sedpass.specs.Rows.{bits, leaves_row, ends_row}
+use Rattle.sedpass.specs.Kept.{EdgesFrom, PassesDownTo, SameKept}
+use Rattle.sedpass.proofs.RowLemmas.{copied_rows, keeps_then}
+use Rattle.sedpass.proofs.KeptLemmas.{block_cost, block_right, edges_more, edges_none, edges_same, kept_passed, make_cost, passes_with, same_kept, same_shape, same_by}
+use Rattle.sedpass.proofs.Words.{div-mul-le_self, least_both, least_since}
+use Rattle.sedpass.proofs.kept.Kept.make.Goals.{After-max-least, then-place-end, else-place-end}
 use Rattle.sedpass.proofs.kept.Kept.make.Goals as goal
 
-pub loop-place-init : goal.loop-place-init
-loop-place-init c =
-    let first = c.edge_state-offset.ensures in
-    let end_is = ap (λ r. r.end) first.region in
-    record {
-      order = omega arith;
-      below = omega arith;
-      end_is = end_is;
-      passes = passes_first c.args.subject.prepared.now c.args.subject.text.now c.args.table.now c.edge_state-offset.new.table c.args.self.now _ c.args.self.now.region.end c.edge_state-offset.result
-          c.requires.kept.region first.adds.shape first.table first.states first.edges (ap (λ r. r.root) first.region) end_is refl (omega arith) first.there first.at;
-      edges = λ b above before. absurd (omega (arith, above, before, end_is));
-      right = λ some before. absurd (omega arith);
-      shape = (refl, refl, refl, refl, refl);
-      same = record { root = refl; end = refl; space = record { places = refl; edges = refl; marks = λ q. refl } };
-      to = λ before. absurd (omega arith);
-      cost = (omega arith, omega arith);
-      counts = least_none _ _ (omega arith);
-    }
+-- the rows of the block alone have changed
+abbrev Elsewhere : ℕ → ℕ → Type 0
+Elsewhere block q = (q ≢ 2 * block) × (q ≢ 2 * block + 1)
 
 pub loop-place-smaller : goal.loop-place-smaller
 loop-place-smaller c = omega (arith, div-mul-le_self (c.loop-place.place - 1) (c.loop-place.table.room - 1), c.loop-place-test.true)
 
+-- where the place is a block's right end, its row is kept
+edge_kept : (c : After-max-least) → PassesDownTo c.args.subject.prepared.now c.args.subject.text.now c.loop-place.table c.if-place-end.self c.loop-place.place c.loop-place.offset
+    × EdgesFrom c.args.subject.prepared.now c.args.subject.text.now c.loop-place.table c.if-place-end.self ((c.loop-place.place - 1) / (c.loop-place.table.room - 1) * (c.loop-place.table.room - 1))
+    × SameKept c.loop-place.self c.if-place-end.self × Takes c.loop-place.steps c.if-place-end.steps (4 * length c.args.subject.prepared.now.arena.expr.nodes)
+edge_kept c =
+    let p = c.args.subject.prepared.now in
+    let w = c.args.subject.text.now in
+    let t = c.loop-place.table in
+    let k = c.loop-place.self in
+    let old = c.loop-place.invariant in
+    let place = c.loop-place.place in
+    let width = t.room - 1 in
+    let block = (place - 1) / width in
+    elim c.if-place-end.branch [
+      | then-place-end v ↦
+          let m = length p.arena.expr.nodes in
+          let some = old.passes.region.table.room.rows.some in
+          let q = c.loop-place.offset / 2 ^ t.layout.shift in
+          let one = v.copy.ensures in
+          let two = v.copy-then-place-end.ensures in
+          let keeps : KeepsRows (Elsewhere block) k.edges v.copy-then-place-end.new.self = keeps_then (λ q. q ≢ 2 * block) (λ q. q ≢ 2 * block + 1) (Elsewhere block) _ _ _ (λ q far. far) one.keeps two.keeps in
+          let on = c.loop-place-test.true in
+          let right = old.right (omega (arith, on)) (omega (arith, v.if-place-end.true)) in
+          let at : place ≡ block * width + width = block_right place width right.0 (omega (arith, some)) (omega (arith, on)) right.1 in
+          let copied = copied_rows m c.nodes-nodes.result (2 * block) (2 * block + 1) v.copy.new.self v.copy-then-place-end.new.self (row_of t.rows v.leaves_row.result) (row_of t.rows v.ends_row.result) c.nodes-nodes.ensures.value (λ e. omega arith) one.same two.keeps two.same in
+          let leaves = v.leaves_row.ensures ∙ ap leaves_row v.state_at-state.ensures in
+          let ends = v.ends_row.ensures ∙ ap ends_row v.state_at-state.ensures in
+          rw (v.self-is, v.steps-is) (
+            passes_with (Elsewhere block) p w t k v.copy-then-place-end.new.self place c.loop-place.offset keeps old.passes,
+            edges_more p w t.way k.region.root k.region.end width block k.edges v.copy-then-place-end.new.self (row_of t.rows (leaves_row q)) (row_of t.rows (ends_row q)) (omega (arith, some)) keeps
+                (copied.0 ∙ ap (λ r. bits m (row_of t.rows r)) leaves, copied.1 ∙ ap (λ r. bits m (row_of t.rows r)) ends) (rw (← at) old.passes.at.1) (rw (← at) old.edges),
+            record { root = refl; end = refl; space = record { places = refl; edges = keeps.len; marks = keeps.lens } },
+            (omega (arith, one.cost.0, two.cost.0), omega (arith, c.nodes-nodes.ensures.value, one.cost.1, two.cost.1)),
+          )
+      | else-place-end v ↦ rw (v.self-is, v.steps-is) (
+        old.passes,
+        edges_none p w t k block (omega (arith, v.if-place-end.false, old.end_is)),
+        same_by k k refl refl refl refl,
+        (omega arith, omega arith),
+      )
+    ]
+
+pub copy-requires-then-place-end-clause-inside : goal.copy-requires-then-place-end-clause-inside
+copy-requires-then-place-end-clause-inside c =
+    let passes = c.loop-place.invariant.passes in
+    let width = c.loop-place.table.room - 1 in
+    let block = (c.loop-place.place - 1) / width in
+    let low : block * width ≤ length c.args.subject.text.now = omega (arith, div-mul-le_self (c.loop-place.place - 1) width, passes.within, passes.region.inside) in
+    omega (arith, c.nodes-nodes.ensures.value, c.copy.ensures.keeps.lens (2 * block + 1), passes.region.room.marks (2 * block + 1) (passes.region.room.blocks block low))
+
+pub pass-offset-requires-clause-passes : goal.pass-offset-requires-clause-passes
+pass-offset-requires-clause-passes c = (edge_kept (goal.at.pass-offset-requires-clause-passes c).After-max-least).0
+
 pub loop-place-preserved : goal.loop-place-preserved
 loop-place-preserved c =
     let before = c.loop-place.invariant in
-    let edge = c.keep_edge.ensures in
+    let edge = edge_kept (goal.at.loop-place-preserved c).After-max-least in
     let now = c.pass-offset.ensures in
     let least = c.max-least.result in
     let on = c.loop-place-test.true in
     record {
       order = omega arith;
       below = (let h = before.below in omega (arith, h));
-      end_is = now.down.same.end ∙ edge.same.end ∙ before.end_is;
+      end_is = now.down.same.end ∙ edge.2.end ∙ before.end_is;
       passes = now.down.passes;
-      edges = edges_same c.args.subject.prepared.now c.args.subject.text.now c.loop-place.table c.pass-offset.new.table c.keep_edge.new.self c.pass-offset.new.self _ least
-          now.down.shape now.down.edges now.down.same.root now.down.same.end (omega arith) edge.edges;
+      edges = edges_same c.args.subject.prepared.now c.args.subject.text.now c.loop-place.table c.pass-offset.new.table c.if-place-end.self c.pass-offset.new.self _ least
+          now.down.shape now.down.edges now.down.same.root now.down.same.end (omega arith) edge.1;
       right = λ some below. ((c.loop-place.place - 1) / (c.loop-place.table.room - 1), (let h = now.down.shape.1 in rw h (omega (arith, some))));
       shape = same_shape c.edge_state-offset.new.table c.loop-place.table c.pass-offset.new.table before.shape now.down.shape;
-      same = same_kept _ c.keep_edge.new.self c.pass-offset.new.self (same_kept _ c.loop-place.self c.keep_edge.new.self before.same edge.same) now.down.same;
+      same = same_kept _ c.if-place-end.self c.pass-offset.new.self (same_kept _ c.loop-place.self c.if-place-end.self before.same edge.2) now.down.same;
       to = λ below. now.to;
-      cost = ((let h = before.cost.0 in let g = edge.cost.0 in let f = now.cost.0 in omega (arith, h, g, f)), (let h = before.cost.1 in let g = block_cost _ least c.loop-place.place c.loop-place.steps c.keep_edge.new.steps c.pass-offset.new.steps (omega arith) edge.cost.1 now.cost.1 in omega (arith, h, g)));
-      counts = least_both _ c.loop-place.steps _ _ (2 * (c.loop-place.place - least)) _ before.counts (least_since _ c.keep_edge.new.steps _ _ edge.cost.0 now.counts) (let h = before.below in omega (arith, h));
+      cost = ((let h = before.cost.0 in let g = edge.3.0 in let f = now.cost.0 in omega (arith, h, g, f)), (let h = before.cost.1 in let g = block_cost _ least c.loop-place.place c.loop-place.steps c.if-place-end.steps c.pass-offset.new.steps (omega arith) edge.3.1 now.cost.1 in omega (arith, h, g)));
+      counts = least_both _ c.loop-place.steps _ _ (2 * (c.loop-place.place - least)) _ before.counts (least_since _ c.if-place-end.steps _ _ edge.3.0 now.counts) (let h = before.below in omega (arith, h));
     }
 
-pub returns : goal.returns
-returns c =
+pub returns-clause-keeps : goal.returns-clause-keeps
+returns-clause-keeps c =
     let p = c.args.subject.prepared.now in
     let w = c.args.subject.text.now in
     let last = c.loop-place.invariant in
@@ -57,23 +100,14 @@ returns c =
     edges_same p w c.loop-place.table c.loop-place.table c.loop-place.self c.loop-place.self c.loop-place.place c.args.low (refl, refl, refl, refl, refl) refl refl refl (omega arith) last.edges in
     let first = c.edge_state-offset.ensures in
     record {
-      keeps = record {
-        kept = kept_passed p w c.loop-place.table c.loop-place.self _ c.loop-place.place c.loop-place.offset last.passes edges (omega arith) (omega arith) refl refl refl refl refl;
-        shape = same_shape c.args.table.now c.edge_state-offset.new.table c.loop-place.table first.adds.shape last.shape;
-        same = same_kept c.args.self.now c.loop-place.self _
-            (same_kept c.args.self.now _ c.loop-place.self (same_by c.args.self.now _ (ap (λ r. r.root) first.region) (ap (λ r. r.end) first.region) first.states first.edges) last.same) (same_by c.loop-place.self _ refl refl refl refl);
-      };
-      low = refl;
-      from = refl;
-      to = (let end = ap (λ r. r.end) first.region in let at : c.loop-place.place ≡ c.args.low = omega arith in rw (← at) (last.to (omega (arith, at, c.requires.low, end))));
-      cost = (omega (arith, first.cost.0, last.cost.0), make_cost _ c.args.low (c.args.self.now.region.end - c.args.low) c.loop-place.place c.args.self.now.region.end _ c.edge_state-offset.new.steps _ (omega arith) (omega arith) first.cost.1 last.cost.1);
-      counts = least_both _ c.edge_state-offset.new.steps _ _ _ _ first.counts last.counts (omega arith);
+      kept = kept_passed p w c.loop-place.table c.loop-place.self _ c.loop-place.place c.loop-place.offset last.passes edges (omega arith) (omega arith) refl refl refl refl refl;
+      shape = same_shape c.args.table.now c.edge_state-offset.new.table c.loop-place.table first.adds.shape last.shape;
+      same = same_kept c.args.self.now c.loop-place.self _
+          (same_kept c.args.self.now _ c.loop-place.self (same_by c.args.self.now _ (ap (λ r. r.root) first.region) (ap (λ r. r.end) first.region) first.states first.edges) last.same) (same_by c.loop-place.self _ refl refl refl refl);
     }
 
-pub keep_edge-requires-clause-right : goal.keep_edge-requires-clause-right
-keep_edge-requires-clause-right c before =
-    let old = c.loop-place.invariant in
-    let some = old.passes.region.table.room.rows.some in
-    let on = c.loop-place-test.true in
-    let at = old.right (omega (arith, on)) (omega (arith, before, old.end_is)) in
-    block_right c.loop-place.place (c.loop-place.table.room - 1) at.0 (omega (arith, some)) (omega (arith, on)) at.1
+pub returns-clause-cost : goal.returns-clause-cost
+returns-clause-cost c =
+    let first = c.edge_state-offset.ensures in
+    let last = c.loop-place.invariant in
+    (omega (arith, first.cost.0, last.cost.0), make_cost _ c.args.low (c.args.self.now.region.end - c.args.low) c.loop-place.place c.args.self.now.region.end _ c.edge_state-offset.new.steps _ (omega arith) (omega arith) first.cost.1 last.cost.1)

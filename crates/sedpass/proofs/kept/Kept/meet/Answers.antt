@@ -1,23 +1,11 @@
-use Rattle.std.proofs.Common.{◌≡◌, ◌+◌, ◌*◌, ◌<◌, ◌≤◌, refl, sym, ap, ◌∙◌, subst, true≢false, arith, length, slice_index_or}
-use Rattle.sedpass.proofs.Words.{CostsWithin, eqb-true, eq-eqb, least_none, least_both, least_since, least_up, least_counted}
+use Rattle.std.proofs.Common.{◌≡◌, ◌+◌, ◌<◌, ◌≤◌, sym, ap, ◌∙◌, subst, true≢false, arith, length, slice_index_or}
+use Rattle.sedpass.proofs.Words.{eqb-true, eq-eqb, least_both, least_since, least_counted}
 use Rattle.sedpass.specs.Rows.{leaves_row}
 use Rattle.sedpass.specs.Kept.{Follows, Meet}
 use Rattle.sedpass.proofs.KeptLemmas.{same_shape, follows_next, meet_on, meet_read, place_cost}
 use Rattle.sedpass.proofs.TableLemmas.{names_offset, names_state}
 use Rattle.sedpass.proofs.kept.Kept.meet.Goals.{After-index}
 use Rattle.sedpass.proofs.kept.Kept.meet.Goals as goal
-
-pub loop-place-init : goal.loop-place-init
-loop-place-init c = record {
-  above = omega arith;
-  below = (let h = c.requires.to in omega (arith, h));
-  forward_one = c.requires.forward_one;
-  shape = (refl, refl, refl, refl, refl);
-  offset = c.requires.offset;
-  meets = λ a i low start follows. (follows, λ q after before. absurd (omega (arith, after, before)));
-  cost = (omega arith, omega arith);
-  counts = least_none _ _ (omega arith);
-}
 
 -- the state of the place is in the table, and its number was read
 here : (c : After-index) → (c.args.self.now.region.from ≤ c.loop-place.place) × (c.loop-place.place < c.args.self.now.region.to) × (c.index.result.now ≡ slice_index_or c.args.self.now.states.items c.loop-place.place c.index.result.now)
@@ -28,34 +16,13 @@ here c =
       c.index.ensures,
     )
 
-pub returns-then-not-meets : goal.returns-then-not-meets
-returns-then-not-meets c =
-    let p = c.args.subject.prepared.now in
-    let w = c.args.subject.text.now in
-    let t = c.args.table.now in
-    let k = c.args.self.now in
-    let old = c.loop-place.invariant in
-    let place = c.loop-place.place in
-    let there = here (goal.at.returns-then-not-meets c).After-index in
-    let looked = c.meets.ensures.cost in
-    let m = length p.arena.expr.nodes in
-    let cost : CostsWithin c.args.steps.now c.meets.new.steps (36 * m * place + m) (36 * m * c.args.from) =
-    (omega (arith, old.cost.0, looked.0), omega (arith, old.cost.1, looked.1, c.nodes-nodes.ensures.value)) in
-    record {
-      forward_one = old.forward_one;
-      shape = old.shape;
-      offset = old.offset;
-      after = old.above;
-      within = omega (arith, there.1);
-      meets = λ a i low start follows.
-          let on = old.meets a i low start follows in
-          let shows = meet_read p w t c.loop-place.forward_one k a i place c.loop-place.offset c.nodes-nodes.result c.leaves_row-ahead.result c.index.result.now c.ends_row-behind.result c.meets.result c.requires.kept there.0 there.1 on.0
-          c.nodes-nodes.ensures.value (c.leaves_row-ahead.ensures ∙ ap leaves_row c.state_at.ensures) there.2 c.ends_row-behind.ensures c.meets.ensures.meets in
-          (on.0, on.1, λ under met. true≢false (sym (shows.1 met) ∙ c.if-not-meets.true));
-      cost = cost;
-      whole = λ all. absurd (omega (arith, all, there.1));
-      counts = least_up _ c.loop-place.steps _ _ old.counts looked.0;
-    }
+pub returns-then-not-meets-clause-meets : goal.returns-then-not-meets-clause-meets
+returns-then-not-meets-clause-meets c a i low start follows =
+    let there = here (goal.at.returns-then-not-meets-clause-meets c).After-index in
+    let on = c.loop-place.invariant.meets a i low start follows in
+    let shows = meet_read c.args.subject.prepared.now c.args.subject.text.now c.args.table.now c.loop-place.forward_one c.args.self.now a i c.loop-place.place c.loop-place.offset c.nodes-nodes.result c.leaves_row-ahead.result c.index.result.now c.ends_row-behind.result c.meets.result c.requires.kept there.0 there.1 on.0
+    c.nodes-nodes.ensures.value (c.leaves_row-ahead.ensures ∙ ap leaves_row c.state_at.ensures) there.2 c.ends_row-behind.ensures c.meets.ensures.meets in
+    (on.0, on.1, λ under met. true≢false (sym (shows.1 met) ∙ c.if-not-meets.true))
 
 pub loop-place-preserved : goal.loop-place-preserved
 loop-place-preserved c =
@@ -93,22 +60,11 @@ loop-place-preserved c =
           (least_since _ c.meets.new.steps _ _ c.meets.ensures.cost.0 (least_both _ c.byte-byte.new.steps _ 1 1 2 (least_counted _ _ 1 1 c.byte-byte.ensures.counts (omega arith)) next.counts (omega arith))) (let h = old.above in omega (arith, h));
     }
 
-pub returns : goal.returns
-returns c =
+pub returns-clause-meets : goal.returns-clause-meets
+returns-clause-meets c a i low start follows =
     let p = c.args.subject.prepared.now in
     let w = c.args.subject.text.now in
     let old = c.loop-place.invariant in
     let at : c.loop-place.place ≡ c.args.self.now.region.to = (let h = old.below in let g = c.loop-place-test.false in omega (arith, h, g)) in
-    record {
-      forward_one = old.forward_one;
-      shape = old.shape;
-      offset = old.offset;
-      after = omega (arith, at, old.above);
-      within = omega arith;
-      meets = λ a i low start follows.
-          let on = old.meets a i low start follows in
-          (subst (λ y. Follows p w c.loop-place.forward_one a i y c.loop-place.offset) at on.0, subst (λ y. Meet p w c.args.table.now c.args.self.now a i c.args.from y) at on.1, λ under met. absurd (omega (arith, under)));
-      cost = (old.cost.0, rw (← at) (omega (arith, old.cost.1)));
-      whole = λ _. rw (← at) old.cost;
-      counts = rw (← at) old.counts;
-    }
+    let on = old.meets a i low start follows in
+    (subst (λ y. Follows p w c.loop-place.forward_one a i y c.loop-place.offset) at on.0, subst (λ y. Meet p w c.args.table.now c.args.self.now a i c.args.from y) at on.1, λ under met. absurd (omega arith))

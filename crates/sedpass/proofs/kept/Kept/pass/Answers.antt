@@ -1,32 +1,14 @@
 use Rattle.std.proofs.Common.{◌≡◌, ◌+◌, ◌-◌, ◌*◌, inl, inr, refl, subst, arith, length}
-use Rattle.sedpass.proofs.Words.{eqb-true, eq-eqb, least_none, least_both, least_counted}
+use Rattle.sedpass.proofs.Words.{eqb-true, eq-eqb, least_both, least_counted}
 use Rattle.sedpass.specs.Kept.{ComesDown}
 use Rattle.sedpass.proofs.KeptLemmas.{comes_down, down_cost}
 use Rattle.sedpass.proofs.TableLemmas.{names_offset, names_state}
 use Rattle.sedpass.proofs.kept.Kept.pass.Goals as goal
 
-pub loop-place-init : goal.loop-place-init
-loop-place-init c = record {
-  order = omega arith;
-  below = omega arith;
-  down = record { passes = c.requires.passes; shape = (refl, refl, refl, refl, refl); same = record { root = refl; end = refl; space = record { places = refl; edges = refl; marks = λ q. refl } }; low = refl; from = refl; edges = refl };
-  to = λ h. absurd (omega arith);
-  steady = λ h. (refl, h);
-  cost = (omega arith, omega arith);
-  counts = least_none _ _ (omega arith);
-}
-
-pub returns : goal.returns
-returns c =
-    let last = c.loop-place.invariant in
-    let at : c.loop-place.place ≡ c.args.low = (let low = last.order in omega (arith, low, c.loop-place-test.false)) in
-    record {
-      down = subst (λ x. ComesDown c.args.subject.prepared.now c.args.subject.text.now c.args.table.now c.loop-place.table c.args.self.now c.loop-place.self x c.loop-place.offset) at last.down;
-      to = (let some = c.requires.order in let to = last.to (omega (arith, at, some)) in omega (arith, at, to));
-      steady = λ few. (last.steady few).0;
-      cost = rw (← at) last.cost;
-      counts = rw (← at) last.counts;
-    }
+pub returns-clause-down : goal.returns-clause-down
+returns-clause-down c =
+    let at : c.loop-place.place ≡ c.args.low = omega (arith, c.loop-place.invariant.order, c.loop-place-test.false) in
+    rw (← at) c.loop-place.invariant.down
 
 pub loop-place-preserved : goal.loop-place-preserved
 loop-place-preserved c =

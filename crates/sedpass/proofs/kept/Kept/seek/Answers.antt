@@ -1,9 +1,8 @@
-use Rattle.std.proofs.Common.{◌≡◌, ◌-◌, subst, ◌↔◌, IsTrue, arith, length, not}
-use Rattle.sedpass.proofs.Words.{TakesAtLeast, least_none, least_both, least_since}
+use Rattle.std.proofs.Common.{◌≡◌, ◌-◌, subst, arith, length, not}
+use Rattle.sedpass.proofs.Words.{least_both, least_since}
 use Rattle.sedpass.specs.Kept.{AllMarked, KeepsRegion, ends_shown, owed_region}
-use Rattle.sedpass.proofs.KeptLemmas.{keeps_same, keeps_then, marked_then, shown_as}
-use Rattle.sedpass.specs.Regions.{ReachesEnd}
-use Rattle.sedpass.proofs.OwedLemmas.{owed_falls, seek_at, seek_on}
+use Rattle.sedpass.proofs.KeptLemmas.{keeps_then, marked_then, shown_as}
+use Rattle.sedpass.proofs.OwedLemmas.{owed_falls, seek_on}
 use Rattle.sedpass.proofs.kept.Kept.seek.Goals.{After-seek_in-found}
 use Rattle.sedpass.proofs.kept.Kept.seek.Goals as goal
 
@@ -20,22 +19,6 @@ passed c =
     marked_then nodes w c.args.self.now.region.root c.args.x (ends_shown c.args.table.now.way.all_starts (length w) c.args.self.now.region.end) (not c.args.marked) c.args.from c.loop-place.place c.seek_in-found.result
     c.loop-place.invariant.passed
     (shown_as (λ r t. AllMarked nodes w r t c.args.x (not c.args.marked) c.loop-place.place c.seek_in-found.result) _ w c.args.table.now c.ready-to.new.table c.args.self.now c.ready-to.new.self (keeps c) c.seek_in-found.ensures.passed)
-
-counts : (c : After-seek_in-found) → TakesAtLeast c.args.steps.now c.seek_in-found.new.steps (c.seek_in-found.result - c.args.from)
-counts c =
-    let before = c.loop-place.invariant in
-    least_both _ c.loop-place.steps _ _ (c.seek_in-found.result - c.loop-place.place) _ before.counts
-    (least_since _ c.ready-to.new.steps _ _ c.ready-to.ensures.cost.0 c.seek_in-found.ensures.counts) (omega (arith, before.above, c.seek_in-found.ensures.after))
-
-pub loop-place-init : goal.loop-place-init
-loop-place-init c = record {
-  above = omega arith;
-  below = c.requires.from;
-  keeps = keeps_same _ _ c.args.table.now c.args.self.now c.requires.kept;
-  passed = λ q after before. absurd (omega arith);
-  cost = (omega arith, omega arith);
-  counts = least_none _ _ (omega arith);
-}
 
 pub loop-place-preserved : goal.loop-place-preserved
 loop-place-preserved c =
@@ -60,31 +43,8 @@ loop-place-preserved c =
             (owed_region m c.ready-to.new.self.region c.ready-to.result) c.loop-place.steps c.args.steps.now c.ready-to.new.steps c.seek_in-found.new.steps c.args.from c.loop-place.place c.ready-to.result
             before.cost.1 ready.cost.1 (let h = seek.cost.1 in omega (arith, h, at)) (owed_falls m c.ready-to.new.self.region c.loop-place.place c.ready-to.result (omega (arith, up))) up,
       );
-      counts = subst (λ y. TakesAtLeast c.args.steps.now c.seek_in-found.new.steps (y - c.args.from)) at (counts here);
+      counts = least_both _ c.loop-place.steps _ _ (c.seek_in-found.result - c.loop-place.place) _ before.counts (least_since _ c.ready-to.new.steps _ _ ready.cost.0 seek.counts) (omega (arith, before.above, seek.after, at));
     }
 
-pub returns-then-found-to : goal.returns-then-found-to
-returns-then-found-to c =
-    let w = c.args.subject.text.now in
-    let m = length c.args.subject.prepared.now.arena.expr.nodes in
-    let before = c.loop-place.invariant in
-    let ready = c.ready-to.ensures in
-    let seek = c.seek_in-found.ensures in
-    let found = c.seek_in-found.result in
-    let here = (goal.at.returns-then-found-to c).After-seek_in-found in
-    let kept = keeps here in
-    record {
-      keeps = kept;
-      after = omega (arith, before.above, seek.after);
-      within = omega (arith, seek.within, ready.keeps.kept.region.within, kept.same.end);
-      passed = passed here;
-      found = λ below. shown_as (λ r t. IsTrue c.args.marked ↔ ReachesEnd c.args.subject.prepared.now.arena.expr.nodes w r t c.args.x found) _ w c.args.table.now c.ready-to.new.table c.args.self.now c.ready-to.new.self
-          kept (seek.found (let h = c.if-found-to.true in omega (arith, h, ready.to.0)));
-      cost = (
-        (let h = before.cost.0 in let g = ready.cost.0 in let f = seek.cost.0 in omega (arith, h, g, f)),
-        seek_at (owed_region m c.args.self.now.region c.args.from) (owed_region m c.loop-place.self.region c.loop-place.place) (owed_region m c.ready-to.new.self.region c.loop-place.place)
-            (owed_region m c.ready-to.new.self.region found) c.loop-place.steps c.args.steps.now c.ready-to.new.steps c.seek_in-found.new.steps c.args.from c.loop-place.place found
-            before.cost.1 ready.cost.1 seek.cost.1 (owed_falls m c.ready-to.new.self.region c.loop-place.place found seek.after) seek.after,
-      );
-      counts = counts here;
-    }
+pub returns-then-found-to-clause-passed : goal.returns-then-found-to-clause-passed
+returns-then-found-to-clause-passed c = passed (goal.at.returns-then-found-to-clause-passed c).After-seek_in-found

@@ -2,17 +2,8 @@ use Rattle.std.proofs.Common.{◌↔◌, IsTrue, arith, length, not}
 use Rattle.sedpass.specs.Kept.{ends_shown}
 use Rattle.sedpass.specs.Regions.{ReachesEnd}
 use Rattle.sedpass.proofs.KeptLemmas.{as_asked, kept_mark, marked_on, not_asked}
-use Rattle.sedtext.proofs.CountLemmas.{least_none, least_both, least_counted, least_up}
+use Rattle.sedtext.proofs.CountLemmas.{least_both, least_counted}
 use Rattle.sedpass.proofs.kept.Kept.seek_in.Goals as goal
-
-pub loop-place-init : goal.loop-place-init
-loop-place-init c = record {
-  above = omega arith;
-  below = (let h = c.requires.to in omega (arith, h));
-  passed = λ q after before. absurd (omega arith);
-  cost = (omega arith, omega arith);
-  counts = least_none _ _ (omega arith);
-}
 
 pub returns-then-get-marked-clause-found : goal.returns-then-get-marked-clause-found
 returns-then-get-marked-clause-found c before =
@@ -22,9 +13,6 @@ returns-then-get-marked-clause-found c before =
     let k = c.args.self.now in
     as_asked (ReachesEnd p.arena.expr.nodes w k.region.root (ends_shown t.way.all_starts (length w) k.region.end) c.args.x c.loop-place.place) c.get.result c.args.marked c.if-get-marked.true
     (kept_mark p w t k c.args.x c.loop-place.place c.index.result.now c.ends_row-ends.result c.get.result c.requires.kept c.requires.x (omega (arith, c.loop-place.invariant.above, c.requires.from)) before c.index.ensures c.ends_row-ends.ensures c.get.ensures.mark)
-
-pub returns-then-get-marked-clause-counts : goal.returns-then-get-marked-clause-counts
-returns-then-get-marked-clause-counts c = least_up _ c.loop-place.steps _ _ c.loop-place.invariant.counts c.get.ensures.cost.0
 
 pub loop-place-preserved : goal.loop-place-preserved
 loop-place-preserved c =

@@ -1,8 +1,8 @@
 use Rattle.std.proofs.Common.{◌≡◌, ◌<◌, ◌↔◌, sym, ap, ◌∙◌, subst, IsTrue, arith, false}
-use Rattle.sedpass.proofs.Words.{HasSpan, one_start, least_counted, least_since}
+use Rattle.sedpass.proofs.Words.{HasSpan, one_start}
 use Rattle.sedpass.specs.Regions.{IsLastIn}
 use Rattle.sedpass.proofs.LeaveLemmas.{last_inside}
-use Rattle.sedpass.proofs.KeptLemmas.{keeps_same, kept_rows, mark_spans}
+use Rattle.sedpass.proofs.KeptLemmas.{kept_rows, mark_spans}
 use Rattle.sedpass.proofs.kept.Kept.spans.Goals as goal
 
 pub is_null-requires : goal.is_null-requires
@@ -10,26 +10,16 @@ is_null-requires c =
     let up = last_inside c.args.subject.prepared.now.arena.expr.nodes c.args.subject.text.now c.args.self.now.region.root (one_start 0) c.requires.kept.region.table.expr.arena c.args.x c.requires.last in
     record { inside = omega (arith, c.requires.kept.region.root.0, up) }
 
-pub returns-then-place-self : goal.returns-then-place-self
-returns-then-place-self c =
-    let null = c.is_null.ensures in
-    record {
-      keeps = keeps_same c.args.subject.prepared.now c.args.subject.text.now c.args.table.now c.args.self.now c.requires.kept;
-      spans = subst (λ e. IsTrue c.is_null.result ↔ HasSpan c.args.subject.prepared.now.arena.expr.nodes c.args.subject.text.now c.args.x c.args.place e) c.if-place-self.true null.null;
-      cost = (null.cost.0, (let look = null.cost.1 in omega (arith, look)));
-      counts = least_counted _ _ 1 1 null.counts (omega arith);
-    }
-
 pub get-requires : goal.get-requires
 get-requires c =
     let to = c.ready.ensures.to in
     let wide = kept_rows c.args.subject.prepared.now c.args.subject.text.now c.ready.new.table c.ready.new.self c.args.place c.index.result.now c.ready.ensures.keeps.kept c.ready.ensures.from (omega (arith, to.0, to.1)) c.index.ensures in
     let up = last_inside c.args.subject.prepared.now.arena.expr.nodes c.args.subject.text.now c.args.self.now.region.root (one_start 0) c.requires.kept.region.table.expr.arena c.args.x c.requires.last in
-    let row = c.ends_row.ensures in
-    record { row = omega (arith, row, wide.1); inside = omega (arith, wide.2 c.ends_row.result (omega (arith, row, wide.1)), c.requires.kept.region.root.0, up) }
+    let row = c.ends_row-ends.ensures in
+    record { row = omega (arith, row, wide.1); inside = omega (arith, wide.2 c.ends_row-ends.result (omega (arith, row, wide.1)), c.requires.kept.region.root.0, up) }
 
-pub returns : goal.returns
-returns c =
+pub returns-clause-spans : goal.returns-clause-spans
+returns-clause-spans c =
     let p = c.args.subject.prepared.now in
     let w = c.args.subject.text.now in
     let k = c.ready.new.self in
@@ -38,10 +28,5 @@ returns c =
     let before : c.args.place < k.region.to = omega (arith, ready.to.0, ready.to.1) in
     let one : t.way.all_starts ≡ false = ap (λ v. v.all_starts) ready.keeps.shape.0 ∙ c.requires.all_starts in
     let last : IsLastIn p.arena.expr.nodes k.region.root c.args.x = subst (λ r. IsLastIn p.arena.expr.nodes r c.args.x) (sym ready.keeps.same.root) c.requires.last in
-    record {
-      keeps = ready.keeps;
-      spans = subst (λ e. IsTrue c.get.result ↔ HasSpan p.arena.expr.nodes w c.args.x c.args.place e) ready.keeps.same.end
-          (mark_spans p w t k c.args.x c.args.place c.index.result.now c.ends_row.result c.get.result ready.keeps.kept one last ready.from before c.index.ensures c.ends_row.ensures c.get.ensures.mark);
-      cost = ((let one = ready.cost.0 in let two = c.get.ensures.cost.0 in omega (arith, one, two)), (let one = ready.cost.1 in let two = c.get.ensures.cost.1 in omega (arith, one, two)));
-      counts = least_since _ c.ready.new.steps _ _ ready.cost.0 (least_counted _ _ 1 1 c.get.ensures.counts (omega arith));
-    }
+    subst (λ e. IsTrue c.get.result ↔ HasSpan p.arena.expr.nodes w c.args.x c.args.place e) ready.keeps.same.end
+    (mark_spans p w t k c.args.x c.args.place c.index.result.now c.ends_row-ends.result c.get.result ready.keeps.kept one last ready.from before c.index.ensures c.ends_row-ends.ensures c.get.ensures.mark)

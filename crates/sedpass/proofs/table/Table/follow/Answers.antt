@@ -1,5 +1,5 @@
-use Rattle.std.proofs.Common.{◌+◌, ◌-◌, ◌*◌, arith, sym, refl, true≢false, ◌∙◌}
-use Rattle.sedpass.proofs.Words.{least_both, least_counted, least_none, least_up}
+use Rattle.std.proofs.Common.{arith, sym, refl, true≢false, ◌∙◌}
+use Rattle.sedpass.proofs.Words.{least_both, least_counted, least_none}
 use Rattle.sedpass.proofs.ForwardLemmas.{follows_on}
 use Rattle.sedpass.proofs.table.Table.follow.Goals as goal
 
@@ -29,13 +29,3 @@ loop-at-preserved c =
       cost = (omega (arith, old.cost.0, one.cost.0), omega (arith, old.cost.1, one.cost.1, next.place));
       counts = least_both _ _ _ _ 1 _ old.counts (least_counted _ _ 1 1 one.counts (omega arith)) (omega (arith, old.after, next.place));
     }
-
-pub returns-then-cell-eq0-clause-counts : goal.returns-then-cell-eq0-clause-counts
-returns-then-cell-eq0-clause-counts c =
-    let gone = c.loop-at.at.place - c.args.from.place in
-    least_both _ c.byte-byte.new.steps _ gone gone (2 * gone) (least_up _ c.loop-at.steps _ gone c.loop-at.invariant.counts c.byte-byte.ensures.cost.0) (least_counted _ _ (gone + 1) gone c.add.ensures.counts (omega arith)) (omega arith)
-
-pub returns-clause-counts : goal.returns-clause-counts
-returns-clause-counts c =
-    let gone = c.loop-at.at.place - c.args.from.place in
-    least_both _ c.loop-at.steps _ gone gone (2 * gone) c.loop-at.invariant.counts (least_counted _ _ gone gone c.add-2.ensures.counts (omega arith)) (omega arith)

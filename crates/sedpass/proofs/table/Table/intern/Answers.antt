@@ -1,67 +1,99 @@
-use Rattle.std.proofs.Common.{◌*◌, ◌<◌, length, subst, arith, ◌↔◌, ℕ, ◌≡◌, false, IsTrue, slice_index_or}
-use Rattle.sedpass.proofs.Words.{TakesAtLeast, row_of, Table, least_up}
-use Rattle.sedpass.specs.Rows.{leaves_row}
-use Rattle.sedpass.specs.Table.{state_of, FlagsShow, HasNewRow}
-use Rattle.sedpass.proofs.TableLemmas.{adds_none, marks_show}
-use Rattle.sedpass.proofs.table.Table.intern.Goals.{After-flags-flags}
+use Rattle.std.proofs.Common.{◌*◌, ◌%◌, ◌^◌, ◌<◌, ◌∙◌, length, arith, ap, ℕ, ◌≡◌, ◌+◌, sym, mul-le-mul_left}
+use Rattle.sedpass.proofs.Words.{Prepared, Table, get_or_default, row_of}
+use Rattle.sedpass.specs.Table.{state_of, code_of, FlagsShow, HasNewRow, IsTable}
+use Rattle.sedpass.proofs.RowLemmas.{bits_agree}
+use Rattle.sedpass.proofs.TableLemmas.{adds_none, few_offset, marks_show, shifted}
+use Rattle.sedpass.proofs.table.Table.intern.Goals.{After-is_clear, in_default-via-in-None-1, in_default-via-in-Some+else-index-root, in_default-via-in-Some+then-index-root+else-same, in_default-via-in-Some+then-index-root+then-same+else-same-2}
 use Rattle.sedpass.proofs.table.Table.intern.Goals as goal
 
 -- the flags are those of a state with this row
-shown : (c : After-flags-flags) → (t : Table) (q : ℕ) → HasNewRow (length c.args.prepared.now.arena.expr.nodes) c.args.self.now c.args.root (state_of (length c.args.prepared.now.arena.expr.nodes) t q) →
-    FlagsShow (state_of (length c.args.prepared.now.arena.expr.nodes) t q) c.flags-flags.result
+shown : (c : After-is_clear) → (t : Table) (q : ℕ) → HasNewRow (length c.args.prepared.now.arena.expr.nodes) c.args.self.now c.args.root (state_of (length c.args.prepared.now.arena.expr.nodes) t q) →
+    FlagsShow (state_of (length c.args.prepared.now.arena.expr.nodes) t q) (record { ends = c.get.result; dead = c.is_clear.result })
 shown c t q has =
-    let is = c.flags-flags.ensures in
     let now = c.args.self.now in
-    marks_show (length c.args.prepared.now.arena.expr.nodes) now c.args.root (state_of (length c.args.prepared.now.arena.expr.nodes) t q) c.flags-flags.result c.requires.root is.ends
-    (subst (λ n. IsTrue c.flags-flags.result.dead ↔ ((k : ℕ) → k < n → slice_index_or (row_of now.rows (leaves_row now.count)) k false ≡ false)) c.nodes-nodes.ensures.value is.dead) has
+    marks_show (length c.args.prepared.now.arena.expr.nodes) now c.args.root (state_of (length c.args.prepared.now.arena.expr.nodes) t q) (record { ends = c.get.result; dead = c.is_clear.result }) c.requires.root (rw (← c.ends_row-ends.ensures) c.get.ensures.mark)
+    (rw (← c.leaves_row-leaves.ensures, ← c.nodes-nodes.ensures.value) c.is_clear.ensures.clear) has
 
-pub returns-in-Some : goal.returns-in-Some
-returns-in-Some c =
-    let q = c.in-Some.state in
-    let slot = c.slot_of-slot.ensures in
-    let flags = c.flags-flags.ensures.cost in
-    let find = c.find.ensures.cost in
+-- where the cells of a state begin, which has a code
+offset_is : (p : Prepared) (t : Table) → IsTable p t → (q : ℕ) → q < t.count → ((q * 2 ^ t.layout.shift) % 2 ^ 64 ≡ q * 2 ^ t.layout.shift) × ((q * 2 ^ t.layout.shift) % 2 ^ 64 < 536870912)
+offset_is p t table q there =
+    let inside : q < t.room = omega (arith, table.room.count) in
+    let is = shifted q t.room t.layout.shift inside table.room.rows.few table.layout.small in
+    (is, rw is (few_offset q t.room t.layout.shift inside table.room.rows.few table.layout.small))
+
+pub code_of-requires : goal.code_of-requires
+code_of-requires c = (offset_is c.args.prepared.now c.args.self.now c.requires.table c.in-Some.state c.in-Some.ensures).1
+
+pub code_of-requires-2 : goal.code_of-requires-2
+code_of-requires-2 c = (offset_is c.args.prepared.now c.add-state.new.self c.add-state.ensures.table c.add-state.result c.add-state.ensures.there).1
+
+pub loop-slot-preserved : goal.loop-slot-preserved
+loop-slot-preserved c =
+    let before = c.loop-slot.invariant.cost in
+    let look = c.add.ensures.cost in
     let nodes = c.nodes-nodes.ensures.value in
     record {
-      codes = record {
-        table = c.requires.table;
-        adds = adds_none (length c.args.prepared.now.arena.expr.nodes) c.args.self.now;
-        names = record {
-          to = q;
-          there = c.in-Some.ensures.there;
-          flags = c.flags-flags.result;
-          shown = shown (goal.at.returns-in-Some c).After-flags-flags c.args.self.now q c.in-Some.ensures.has;
-          code = c.code.ensures;
-          is = c.in-Some.ensures.has;
-        };
-      };
-      cost = (omega (arith, slot.cost.0, flags.0, find.0), omega (arith, nodes, slot.cost.1, flags.1, find.1));
-      counts = least_up _ c.slot_of-slot.new.steps _ _ (subst (λ n. TakesAtLeast c.args.steps.now c.slot_of-slot.new.steps (2 * n)) nodes slot.counts) (omega (arith, flags.0, find.0));
+      cost = elim c.in_default.branch [
+        | in_default-via-in-None-1 w ↦ rw w.steps-is (omega (arith, before.0, look), omega (arith, before.1, look))
+        | in_default-via-in-Some+else-index-root w ↦ rw w.steps-is (omega (arith, before.0, look), omega (arith, before.1, look))
+        | in_default-via-in-Some+then-index-root+else-same w ↦ (let one = w.same.ensures.cost in rw w.steps-is (omega (arith, before.0, look, one), omega (arith, nodes, before.1, look, one)))
+        | in_default-via-in-Some+then-index-root+then-same+else-same-2 w ↦
+            (let one = w.same.ensures.cost in let two = w.same-in-loop-slot.ensures.cost in rw w.steps-is (omega (arith, before.0, look, one, two), omega (arith, nodes, before.1, look, one, two)))
+      ];
     }
 
-pub returns : goal.returns
-returns c =
-    let slot = c.slot_of-slot.ensures in
-    let flags = c.flags-flags.ensures.cost in
-    let find = c.find.ensures.cost in
+-- the state that is found has the row
+pub returns-in-loop-slot-clause-codes : goal.returns-in-loop-slot-clause-codes
+returns-in-loop-slot-clause-codes c =
+    let m = length c.args.prepared.now.arena.expr.nodes in
+    let t = c.args.self.now in
+    let q = c.in-Some.state in
+    let rows = c.requires.table.room.rows in
+    let inside : q < length t.roots.items = omega (arith, c.in-Some.ensures, c.requires.table.room.count, rows.roots) in
+    let has : HasNewRow m t c.args.root (state_of m t q) = (
+      sym (c.index.ensures ∙ get_or_default t.roots.items q c.index.result.now 0 inside) ∙ c.if-index-root.true,
+      rw (← c.nodes-nodes.ensures.value, ← c.leaves_row.ensures, ← c.leaves_row-leaves.ensures) (bits_agree c.nodes-nodes.result (row_of t.rows c.leaves_row.result) (row_of t.rows c.leaves_row-leaves.result) (c.same.ensures.same c.if-same.true)),
+      rw (← c.nodes-nodes.ensures.value, ← c.ends_row.ensures, ← c.ends_row-ends.ensures) (bits_agree c.nodes-nodes.result (row_of t.rows c.ends_row.result) (row_of t.rows c.ends_row-ends.result) (c.same-in-loop-slot.ensures.same c.if-same-2.true)),
+    ) in
+    record {
+      table = c.requires.table;
+      adds = adds_none m t;
+      names = record {
+        to = q;
+        there = c.in-Some.ensures;
+        flags = record { ends = c.get.result; dead = c.is_clear.result };
+        shown = shown (goal.at.returns-in-loop-slot-clause-codes c).After-is_clear t q has;
+        code = c.code_of.ensures ∙ ap (code_of (record { ends = c.get.result; dead = c.is_clear.result })) (offset_is c.args.prepared.now t c.requires.table q c.in-Some.ensures).0;
+        is = has;
+      };
+    }
+
+pub returns-clause-cost : goal.returns-clause-cost
+returns-clause-cost c =
+    let up = mul-le-mul_left (2 * length c.args.prepared.now.arena.expr.nodes + 1) (c.loop-slot.auto.slot-end (omega arith)) in
+    let one = c.digest-entered.ensures.cost in
+    let two = c.digest-ended.ensures.cost in
+    let ends = c.get.ensures.cost in
+    let dead = c.is_clear.ensures.cost in
+    let find = c.loop-slot.invariant.cost in
+    let room = c.make_room.ensures.cost in
+    let add = c.add-state.ensures.cost in
+    (omega (arith, one.0, two.0, ends.0, dead.0, find.0, room.0, add.0), omega (arith, up, c.nodes-nodes.ensures.value, one.1, two.1, ends.1, dead.1, find.1, room.1, add.1))
+
+pub returns-clause-codes : goal.returns-clause-codes
+returns-clause-codes c =
     let add = c.add-state.ensures in
-    let nodes = c.nodes-nodes.ensures.value in
-    let room = c.make_room.ensures in
-    let place = room.place in
+    let place = c.make_room.ensures.place in
     let has = place.made c.args.root _ add.has in
     record {
-      codes = record {
-        table = add.table;
-        adds = place.adds c.add-state.new.self add.adds;
-        names = record {
-          to = c.add-state.result;
-          there = add.there;
-          flags = c.flags-flags.result;
-          shown = shown (goal.at.returns c).After-flags-flags c.add-state.new.self c.add-state.result has;
-          code = c.code-2.ensures;
-          is = has;
-        };
+      table = add.table;
+      adds = place.adds c.add-state.new.self add.adds;
+      names = record {
+        to = c.add-state.result;
+        there = add.there;
+        flags = record { ends = c.get.result; dead = c.is_clear.result };
+        shown = shown (goal.at.returns-clause-codes c).After-is_clear c.add-state.new.self c.add-state.result has;
+        code = c.code_of-2.ensures ∙ ap (code_of (record { ends = c.get.result; dead = c.is_clear.result })) (offset_is c.args.prepared.now c.add-state.new.self add.table c.add-state.result add.there).0;
+        is = has;
       };
-      cost = (omega (arith, slot.cost.0, flags.0, find.0, room.cost.0, add.cost.0), omega (arith, nodes, slot.cost.1, flags.1, find.1, room.cost.1, add.cost.1));
-      counts = least_up _ c.slot_of-slot.new.steps _ _ (subst (λ n. TakesAtLeast c.args.steps.now c.slot_of-slot.new.steps (2 * n)) nodes slot.counts) (omega (arith, flags.0, find.0, room.cost.0, add.cost.0));
     }

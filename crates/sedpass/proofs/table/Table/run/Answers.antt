@@ -1,23 +1,25 @@
-use Rattle.std.proofs.Common.{◌+◌, ◌-◌, ◌*◌, ◌∙◌, length, sym, ap, subst, inl, inr, arith}
-use Rattle.sedpass.proofs.Words.{not-false, Way, least_less, least_both}
+use Rattle.std.proofs.Common.{◌+◌, ◌-◌, ◌*◌, ◌<◌, ◌≤◌, ◌∙◌, length, sym, ap, subst, inl, inr, arith, nat_eq}
+use Rattle.sedre.specs.Steps.{TakesAtLeast, TakesExactly}
+use Rattle.sedpass.proofs.Words.{not-false, Way, eqb-true, eq-eqb, least_less, least_both}
 use Rattle.sedpass.specs.Rows.{nodes_of}
 use Rattle.sedpass.specs.Table.{BeginsIn, NamesState}
 use Rattle.sedpass.specs.Forwards.{Arrives}
+use Rattle.sedpass.proofs.KeptLemmas.{same_shape}
 use Rattle.sedpass.proofs.TableLemmas.{names_map}
-use Rattle.sedpass.proofs.ForwardLemmas.{arrives_first, end_below, none_before, run_longest, run_found, run_passes}
+use Rattle.sedpass.proofs.ForwardLemmas.{arrives_first, fill_cost, goes_on, none_before, over_cost, run_longest, run_found, run_passes}
 use Rattle.sedpass.proofs.table.Table.run.Goals as goal
 
-pub loop-at-init : goal.loop-at-init
-loop-at-init c =
+pub loop-here-init : goal.loop-here-init
+loop-here-init c =
     let p = c.args.prepared.now in
     let m = length p.arena.expr.nodes in
     let T = c.args.self.now in
     let S = c.first-code.new.self in
     let w = c.args.text.now in
-    let from = c.args.from in
+    let from = c.args.at in
     let way = c.first-code.ensures.codes.adds.shape.0 in
     let kind = c.kind_of-kind.result in
-    let here = c.arrive-at.ensures.place in
+    let here = c.arrive-here.ensures.place in
     let end = c.kind_of-kind.ensures.end in
     let is = c.len.ensures.is in
     let names = subst (λ (x : Way). NamesState m S (Arrives p x w from from) c.first-code.result) (sym way)
@@ -27,63 +29,79 @@ loop-at-init c =
     record {
       table = c.first-code.ensures.codes.table;
       shape = c.first-code.ensures.codes.adds.shape;
-      offset = c.arrive-at.ensures.offset;
-      passes = c.arrive-at.ensures.passes from (omega arith) c.requires.from names (none_before p S.way w from);
+      offset = c.arrive-here.ensures.offset;
+      passes = c.arrive-here.ensures.passes from (omega arith) c.requires.from names (none_before p S.way w from);
       cost = (cost.0, omega (arith, cost, ap (λ x. 40 * m * (x + 1)) here));
-      counts = least_less c.args.steps.now c.first-code.new.steps 1 (2 * (c.arrive-at.result.place - from) + 1) c.first-code.ensures.counts (omega (arith, here));
+      counts = least_less c.args.steps.now c.first-code.new.steps 1 (2 * (c.arrive-here.result.place - from) + 1) c.first-code.ensures.counts (omega (arith, here));
     }
 
-pub loop-at-preserved : goal.loop-at-preserved
-loop-at-preserved c =
-    let i = c.loop-at.invariant in
-    let go = c.go_on-at.ensures in
-    let before = i.cost in
-    let cost = go.cost in
-    record {
-      table = go.table;
-      shape = (go.shape.0 ∙ i.shape.0, go.shape.1 ∙ i.shape.1, go.shape.2 ∙ i.shape.2, go.shape.3 ∙ i.shape.3, go.shape.4 ∙ i.shape.4);
-      offset = go.offset;
-      passes = go.passes c.args.from i.passes;
-      cost = (omega (arith, before.0, cost), omega (arith, before.1, cost));
-      counts = least_both c.args.steps.now c.loop-at.steps c.go_on-at.new.steps (2 * (c.loop-at.at.place - c.args.from) + 1) (2 * (c.go_on-at.result.place - c.loop-at.at.place)) (2 * (c.go_on-at.result.place - c.args.from) + 1) i.counts go.counts (omega (arith, i.passes.after, go.after));
-    }
-
-pub returns-else-at-len : goal.returns-else-at-len
-returns-else-at-len c =
-    let p = c.args.prepared.now in
-    let w = c.args.text.now in
-    let i = c.loop-at.invariant in
-    let at = c.loop-at.at in
-    let way = c.args.self.now.way in
+-- the pass is over where filled cells led to
+pub loop-here-preserved : goal.loop-here-preserved
+loop-here-preserved c =
+    let i = c.loop-here.invariant in
+    let at = c.follow-here.ensures in
+    let moved = at.moved (not-false c.follow-here.result.over c.if-not-here.false) in
+    let cost = over_cost (length c.args.prepared.now.arena.expr.nodes) c.loop-here.here.place c.follow-here.result.place (c.len-last.result - 1) c.loop-here.steps c.follow-here.new.steps (omega (arith, i.table.expr.arena.nonempty)) moved at.cost.1 in
     record {
       table = i.table;
       shape = i.shape;
-      after = i.passes.after;
-      within = i.passes.within;
-      reached = end_below _ _ _ _ at.place at.end i.passes.last;
-      longest = λ single. run_longest p way c.loop-at.self w c.args.from at i.shape.0 c.requires.forwards c.requires.from i.passes (inr (omega (arith, c.if-at-len.false, c.len-in-loop-at.ensures.is))) single;
-      found = λ all_starts. run_found p way c.loop-at.self w c.args.from at i.shape.0 c.requires.forwards c.requires.from i.passes (inr (omega (arith, c.if-at-len.false, c.len-in-loop-at.ensures.is))) all_starts;
-      passes = run_passes p way c.loop-at.self w c.args.from at i.shape.0 c.requires.forwards c.requires.from i.passes (inr (omega (arith, c.if-at-len.false, c.len-in-loop-at.ensures.is))) c.args.steps.now c.loop-at.steps i.counts;
-      cost = i.cost;
-      counts = i.counts;
+      offset = at.offset;
+      passes = at.passes c.args.at i.passes;
+      cost = (omega (arith, i.cost.0, at.cost.0), omega (arith, i.cost.1, cost));
+      counts = least_both c.args.steps.now c.loop-here.steps c.follow-here.new.steps (2 * (c.loop-here.here.place - c.args.at) + 1) (2 * (c.follow-here.result.place - c.loop-here.here.place)) _ i.counts at.counts (omega (arith, i.passes.after, at.after));
     }
 
-pub returns-after-loop-at : goal.returns-after-loop-at
-returns-after-loop-at c =
-    let p = c.args.prepared.now in
-    let w = c.args.text.now in
-    let i = c.loop-at.invariant in
-    let at = c.loop-at.at in
-    let way = c.args.self.now.way in
+-- or it comes to the next place
+pub loop-here-preserved-then-not-here : goal.loop-here-preserved-then-not-here
+unfolding TakesAtLeast TakesExactly
+loop-here-preserved-then-not-here c =
+    let i = c.loop-here.invariant in
+    let m = length c.args.prepared.now.arena.expr.nodes in
+    let one : 1 ≤ m = omega (arith, i.table.expr.arena.nonempty) in
+    let from = c.loop-here.here.place in
+    let mid = c.follow-here.result in
+    let last = c.len-last.result - 1 in
+    let is = c.len-last.ensures.is in
+    let inside : from < length c.args.text.now = omega (arith, c.if-here-len.true, c.len-in-loop-here.ensures.is) in
+    let up = c.follow-here.ensures in
+    let byte = c.byte-byte.ensures in
+    let next = c.next-code.ensures in
+    let way = next.codes.adds.shape in
+    let at = c.arrive-here-then-not-here in
+    let place = at.ensures.place in
+    let cost = fill_cost m from mid.place last c.loop-here.steps c.follow-here.new.steps c.byte-byte.new.steps c.next-code.new.steps one up.after up.cost.1 byte.cost.1 next.cost.1 in
     record {
-      table = i.table;
-      shape = i.shape;
-      after = i.passes.after;
-      within = i.passes.within;
-      reached = end_below _ _ _ _ at.place at.end i.passes.last;
-      longest = λ single. run_longest p way c.loop-at.self w c.args.from at i.shape.0 c.requires.forwards c.requires.from i.passes (inl (not-false c.loop-at.at.over c.loop-at-test.false)) single;
-      found = λ all_starts. run_found p way c.loop-at.self w c.args.from at i.shape.0 c.requires.forwards c.requires.from i.passes (inl (not-false c.loop-at.at.over c.loop-at-test.false)) all_starts;
-      passes = run_passes p way c.loop-at.self w c.args.from at i.shape.0 c.requires.forwards c.requires.from i.passes (inl (not-false c.loop-at.at.over c.loop-at-test.false)) c.args.steps.now c.loop-at.steps i.counts;
-      cost = i.cost;
-      counts = i.counts;
+      table = next.codes.table;
+      shape = same_shape c.args.self.now c.loop-here.self c.next-code.new.self i.shape way;
+      offset = at.ensures.offset;
+      passes =
+          goes_on c.args.prepared.now c.loop-here.self c.next-code.new.self c.args.text.now c.args.at c.byte-byte.result c.next-code.result (nat_eq mid.place last) mid at.result way.0 (up.passes c.args.at i.passes) byte.byte
+          ((λ h. let e = eqb-true mid.place last h in omega (arith, e, is, inside)), (λ e. eq-eqb mid.place last (omega (arith, e, is))))
+          next.codes.names (at.ensures.passes c.args.at);
+      cost = (omega (arith, i.cost.0, up.cost, byte.cost, next.cost), rw place (omega (arith, i.cost.1, cost)));
+      counts = omega (arith, place, i.passes.after, up.after, i.counts, up.counts, byte.counts, next.counts);
     }
+
+pub returns-else-here-len-clause-longest : goal.returns-else-here-len-clause-longest
+returns-else-here-len-clause-longest c =
+    run_longest c.args.prepared.now c.args.self.now.way c.loop-here.self c.args.text.now c.args.at c.loop-here.here c.loop-here.invariant.shape.0 c.requires.forwards c.requires.from c.loop-here.invariant.passes (inr (omega (arith, c.if-here-len.false, c.len-in-loop-here.ensures.is)))
+
+pub returns-else-here-len-clause-found : goal.returns-else-here-len-clause-found
+returns-else-here-len-clause-found c =
+    run_found c.args.prepared.now c.args.self.now.way c.loop-here.self c.args.text.now c.args.at c.loop-here.here c.loop-here.invariant.shape.0 c.requires.forwards c.requires.from c.loop-here.invariant.passes (inr (omega (arith, c.if-here-len.false, c.len-in-loop-here.ensures.is)))
+
+pub returns-else-here-len-clause-passes : goal.returns-else-here-len-clause-passes
+returns-else-here-len-clause-passes c =
+    run_passes c.args.prepared.now c.args.self.now.way c.loop-here.self c.args.text.now c.args.at c.loop-here.here c.loop-here.invariant.shape.0 c.requires.forwards c.requires.from c.loop-here.invariant.passes (inr (omega (arith, c.if-here-len.false, c.len-in-loop-here.ensures.is))) c.args.steps.now c.loop-here.steps c.loop-here.invariant.counts
+
+pub returns-after-loop-here-clause-longest : goal.returns-after-loop-here-clause-longest
+returns-after-loop-here-clause-longest c =
+    run_longest c.args.prepared.now c.args.self.now.way c.loop-here.self c.args.text.now c.args.at c.loop-here.here c.loop-here.invariant.shape.0 c.requires.forwards c.requires.from c.loop-here.invariant.passes (inl (not-false c.loop-here.here.over c.loop-here-test.false))
+
+pub returns-after-loop-here-clause-found : goal.returns-after-loop-here-clause-found
+returns-after-loop-here-clause-found c =
+    run_found c.args.prepared.now c.args.self.now.way c.loop-here.self c.args.text.now c.args.at c.loop-here.here c.loop-here.invariant.shape.0 c.requires.forwards c.requires.from c.loop-here.invariant.passes (inl (not-false c.loop-here.here.over c.loop-here-test.false))
+
+pub returns-after-loop-here-clause-passes : goal.returns-after-loop-here-clause-passes
+returns-after-loop-here-clause-passes c =
+    run_passes c.args.prepared.now c.args.self.now.way c.loop-here.self c.args.text.now c.args.at c.loop-here.here c.loop-here.invariant.shape.0 c.requires.forwards c.requires.from c.loop-here.invariant.passes (inl (not-false c.loop-here.here.over c.loop-here-test.false)) c.args.steps.now c.loop-here.steps c.loop-here.invariant.counts

@@ -1,37 +1,42 @@
-use Rattle.std.proofs.Common.{◌≡◌, ◌*◌, ◌≤◌, length, refl, subst, arith, replicate, vec_capacity}
-use Rattle.sedpass.proofs.Words.{Table}
-use Rattle.sedpass.proofs.TableLemmas.{has_parts, none_noted}
+use Rattle.std.proofs.Common.{◌≡◌, ℕ, ◌*◌, ◌<◌, ◌≤◌, length, refl, subst, arith, replicate, vec_capacity}
+use Rattle.sedpass.proofs.Words.{PlaceKind, Table}
+use Rattle.sedpass.specs.Table.{beginning_at}
+use Rattle.sedpass.proofs.TableLemmas.{few_kinds, has_parts, none_noted}
+use Rattle.sedpass.proofs.table.Table.with_room.Goals.{After-vec-3, then-way, else-way}
 use Rattle.sedpass.proofs.table.Table.with_room.Goals as goal
+
+-- each beginning is among them
+beginnings_fit : (c : After-vec-3) → (root : ℕ) (kind : PlaceKind) → root < c.args.most → beginning_at c.args.way.all_starts root kind < c.if-way.kinds
+beginnings_fit c root kind low = elim c.if-way.branch [
+  | then-way w ↦ rw (w.kinds-is, w.if-way.true) (few_kinds kind.begin kind.end)
+  | else-way w ↦ rw (w.kinds-is, w.if-way.false) (let few = few_kinds kind.begin kind.end in omega (arith, few, low))
+]
 
 pub returns : goal.returns
 returns c =
-    let given = c.if-requests.false in
     let T : Table = record {
       way = c.args.way;
       room = c.args.room;
-      marks = c.args.nodes;
+      marks = c.args.most;
       layout = record { classes = replicate 256 0; columns = 0; shift = 0 };
       count = 0;
       epoch = 1;
-      rows = c.in_ok-rows.rows;
-      roots = c.copies.result;
-      cells = c.room.result;
-      index = c.copies-2.result;
-      beginnings = c.copies-3.result;
+      rows = c.in_ok-new.field-0;
+      roots = c.in_ok-vec.field-0;
+      cells = c.in_ok-with_capacity.field-0;
+      index = c.in_ok-vec-2.field-0;
+      beginnings = c.in_ok-vec-3.field-0;
     } in
-    let before-3 = c.copies-3.ensures.refused given in
-    let before-2 = c.copies-2.ensures.refused before-3 in
-    let before-room = c.room.ensures.refused before-2 in
-    let index : 2 ≤ length T.index.items = omega (arith, c.copies-2.ensures.long before-3, T.index.ok) in
-    let begins : length T.beginnings.items ≡ c.count_beginnings-kinds.result = omega (arith, c.copies-3.ensures.long given, T.beginnings.ok) in
-    let noted = none_noted T.beginnings.items c.count_beginnings-kinds.result (c.copies-3.ensures.items given (λ y h. h)) in
-    let has = has_parts T c.count_beginnings-kinds.result
+    let index : 2 ≤ length T.index.items = omega (arith, c.in_ok-vec-2.ensures.len, T.index.ok) in
+    let begins : length T.beginnings.items ≡ c.if-way.kinds = omega (arith, c.in_ok-vec-3.ensures.len, T.beginnings.ok) in
+    let noted = none_noted T.beginnings.items c.if-way.kinds (c.in_ok-vec-3.ensures.items_if_clones_equal (λ y h. h)) in
+    let has = has_parts T c.if-way.kinds
     (record {
       some = c.requires.some;
       few = c.requires.few;
-      rows = c.in_ok-rows.ensures.count;
-      long = λ q lt. c.in_ok-rows.ensures.marks q (omega (arith, lt, c.in_ok-rows.ensures.count));
-      roots = omega (arith, c.copies.ensures.long before-room, T.roots.ok);
+      rows = c.in_ok-new.ensures.count;
+      long = λ q lt. c.in_ok-new.ensures.marks q (omega (arith, lt, c.in_ok-new.ensures.count));
+      roots = omega (arith, c.in_ok-vec.ensures.len, T.roots.ok);
     })
-    (subst (λ n. c.args.room * n ≤ vec_capacity c.room.result) c.most_cells.ensures (c.room.ensures.room before-2)) index begins c.count_beginnings-kinds.ensures.begins noted in
+    (subst (λ n. c.args.room * n ≤ vec_capacity c.in_ok-with_capacity.field-0) c.min.ensures c.in_ok-with_capacity.ensures.capacity) index begins (beginnings_fit (goal.at.returns c).After-vec-3) noted in
     record { table = (has, refl, refl) }

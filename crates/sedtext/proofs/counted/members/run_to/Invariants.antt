@@ -2,6 +2,4 @@ use Rattle.sedtext.specs.Runs.{SetRepeats}
 use Rattle.sedtext.proofs.counted.members.run_to.Given as goal
 
 abbrev pub invariant-loop-place : goal.invariant-loop-place
-invariant-loop-place l = record {
-  copies : SetRepeats l.set l.bytes l.from l.place;
-}
+invariant-loop-place l = SetRepeats l.set l.bytes l.from l.place

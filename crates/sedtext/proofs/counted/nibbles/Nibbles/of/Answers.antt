@@ -12,12 +12,12 @@ loop-byte-preserved c =
     let marked = c.loop-byte.invariant.marked in
     record {
       long = elim c.if-has.branch [
-        | then-has w ↦ ap length w.rows-is ∙ length-set c.loop-byte.rows (byte % 16) w.with_bit.result ∙ long
+        | then-has w ↦ ap length w.rows-is ∙ length-set c.loop-byte.rows (byte % 16) _ ∙ long
         | else-has w ↦ ap length w.rows-is ∙ long
       ];
       marked = elim c.if-has.branch [
         | then-has w ↦ subst (AllMarked set (byte + 1)) (sym w.rows-is)
-            (marked_more set c.loop-byte.rows byte w.with_bit.result (omega (arith, long)) w.with_bit.ensures.rest w.with_bit.ensures.set marked)
+            (marked_more set c.loop-byte.rows byte (omega (arith, long)) marked)
         | else-has w ↦ subst (AllMarked set (byte + 1)) (sym w.rows-is) (marked_less set c.loop-byte.rows byte marked (sym c.has.ensures.is ∙ w.if-has.false))
       ];
     }

@@ -1,25 +1,25 @@
-use Rattle.std.proofs.Common.{◌*◌, ◌/◌, ◌∙◌, sym, arith}
-use Rattle.sedtext.proofs.WordLemmas.{marked_same, new_bit, row_bit, row_written, words_there}
+use Rattle.std.proofs.Common.{◌≡◌, ◌+◌, ◌*◌, ◌/◌, ◌<◌, ◌∙◌, length, sym, arith}
+use Rattle.std.specs.Prelude.{slice_index_or}
+use Rattle.std.proofs.lemmas.Grind.{common_steps}
+use Rattle.std.proofs.lemmas.List.{get_or_default}
+use Rattle.sedtext.proofs.WordLemmas.{marked_same, new_bit, row_bit, row_written, row_there}
 use Rattle.sedtext.proofs.counted.rows.Rows.copy.Goals as goal
 
-pub overflow_mul-to : goal.overflow_mul-to
-overflow_mul-to c = omega (arith, words_there c.self.inside c.args.self.now c.self.view_is c.self.invariant c.args.row c.args.count c.requires.row c.requires.inside, c.self.inside.words.ok)
-
-pub overflow_mul-from : goal.overflow_mul-from
-overflow_mul-from c = omega (arith, words_there c.other.inside c.args.other.now c.other.view_is c.other.invariant c.args.other_row c.args.count c.requires.other_row c.requires.there, c.other.inside.words.ok)
-
-pub copy_words-requires-clause-inside : goal.copy_words-requires-clause-inside
-copy_words-requires-clause-inside c = omega (arith, words_there c.self.inside c.args.self.now c.self.view_is c.self.invariant c.args.row c.args.count c.requires.row c.requires.inside)
-
-pub copy_words-requires-clause-there : goal.copy_words-requires-clause-there
-copy_words-requires-clause-there c = omega (arith, words_there c.other.inside c.args.other.now c.other.view_is c.other.invariant c.args.other_row c.args.count c.requires.other_row c.requires.there)
+pub loop-x-preserved : goal.loop-x-preserved
+loop-x-preserved c =
+    let other = c.other.inside.words.items in
+    let from = c.other.inside.width * c.args.other_row + c.loop-x.x in
+    let here : c.self.inside.width * c.args.row + c.loop-x.x < length c.loop-x.words.items = omega (arith, row_there c.self.inside c.args.self.now c.self.view_is c.self.invariant c.args.row c.requires.row) in
+    let read : c.index.result.now ≡ slice_index_or other from 0 =
+    c.index.ensures ∙ get_or_default other from c.index.result.now 0 (omega (arith, row_there c.other.inside c.args.other.now c.other.view_is c.other.invariant c.args.other_row c.requires.other_row)) in
+    grind (arith, common_steps)
 
 pub returns-clause-keeps : goal.returns-clause-keeps
-returns-clause-keeps c = row_written c.self.inside c.args.self.now c.self.view_is c.self.invariant c.copy_words.new.words.items c.args.row c.div_ceil.result (omega (arith, words_there c.self.inside c.args.self.now c.self.view_is c.self.invariant c.args.row c.args.count c.requires.row c.requires.inside)) c.copy_words.ensures.before c.copy_words.ensures.rest
+returns-clause-keeps c = row_written c.self.inside c.args.self.now c.self.view_is c.self.invariant c.loop-x.words.items c.args.row c.div_ceil-x-end.result (omega (arith, row_there c.self.inside c.args.self.now c.self.view_is c.self.invariant c.args.row c.requires.row)) c.loop-x.invariant.before (λ k high. c.loop-x.invariant.rest k (omega (arith, high)))
 
 pub returns-clause-same : goal.returns-clause-same
 returns-clause-same c k lt =
-    let words = c.copy_words.new.words.items in
+    let words = c.loop-x.words.items in
     new_bit c.self.inside c.args.self.now c.self.view_is c.self.invariant words c.args.row k c.requires.row (omega (arith, lt, c.requires.inside))
-    ∙ marked_same words c.other.inside.words.items (c.self.inside.width * c.args.row) (c.other.inside.width * c.args.other_row) k (c.copy_words.ensures.same (k / 64) (omega arith))
-    ∙ sym (row_bit c.other.inside c.args.other.now c.other.view_is c.other.invariant c.args.other_row k c.requires.other_row (omega (arith, lt, c.requires.there)))
+    ∙ marked_same words c.other.inside.words.items (c.self.inside.width * c.args.row) (c.other.inside.width * c.args.other_row) k (c.loop-x.invariant.copied (k / 64) (omega arith))
+    ∙ sym (row_bit c.other.inside c.args.other.now c.other.view_is c.other.invariant c.args.other_row c.args.count c.requires.other_row c.requires.there k lt)

@@ -1,26 +1,11 @@
 use Rattle.std.proofs.Common.{◌≡◌, ◌+◌, ◌-◌, ◌*◌, ◌/◌, ◌∙◌, sym, ap, arith}
 use Rattle.std.specs.Prelude.{slice_index_or}
-use Rattle.sedtext.proofs.WordLemmas.{marked_same, new_bit, row_bit, row_written, words_there}
+use Rattle.sedtext.proofs.WordLemmas.{marked_same, new_bit, row_bit, row_written, row_there}
 use Rattle.sedtext.proofs.counted.rows.Rows.copy_within.Goals as goal
-
-pub overflow_mul-start : goal.overflow_mul-start
-overflow_mul-start c = omega (arith, words_there c.self.inside c.args.self.now c.self.view_is c.self.invariant c.args.from c.args.count c.requires.from c.requires.there, c.self.inside.words.ok)
-
-pub overflow_add-end : goal.overflow_add-end
-overflow_add-end c = omega (arith, words_there c.self.inside c.args.self.now c.self.view_is c.self.invariant c.args.from c.args.count c.requires.from c.requires.there, c.self.inside.words.ok)
-
-pub overflow_mul-self-inside : goal.overflow_mul-self-inside
-overflow_mul-self-inside c = omega (arith, words_there c.self.inside c.args.self.now c.self.view_is c.self.invariant c.args.row c.args.count c.requires.row c.requires.inside, c.self.inside.words.ok)
-
-pub copy_within-requires-clause-in_bounds : goal.copy_within-requires-clause-in_bounds
-copy_within-requires-clause-in_bounds c = omega (arith, words_there c.self.inside c.args.self.now c.self.view_is c.self.invariant c.args.from c.args.count c.requires.from c.requires.there, c.self.inside.words.ok)
-
-pub copy_within-requires-clause-dest_in_bounds : goal.copy_within-requires-clause-dest_in_bounds
-copy_within-requires-clause-dest_in_bounds c = omega (arith, words_there c.self.inside c.args.self.now c.self.view_is c.self.invariant c.args.row c.args.count c.requires.row c.requires.inside, c.self.inside.words.ok)
 
 pub returns-clause-keeps : goal.returns-clause-keeps
 returns-clause-keeps c =
-    let there = words_there c.self.inside c.args.self.now c.self.view_is c.self.invariant c.args.row c.args.count c.requires.row c.requires.inside in
+    let there = row_there c.self.inside c.args.self.now c.self.view_is c.self.invariant c.args.row c.requires.row in
     row_written c.self.inside c.args.self.now c.self.view_is c.self.invariant c.copy_within.new.self.items c.args.row c.div_ceil.result (omega (arith, there))
     (λ k low. c.copy_within.ensures.by_index.1 k 0 low) (λ k high. c.copy_within.ensures.by_index.2 k 0 (omega (arith, high)))
 
@@ -32,4 +17,4 @@ returns-clause-same c k lt =
     let e : from + ((to + k / 64) - to) ≡ from + k / 64 = omega arith in
     new_bit c.self.inside c.args.self.now c.self.view_is c.self.invariant c.copy_within.new.self.items c.args.row k c.requires.row (omega (arith, lt, c.requires.inside))
     ∙ marked_same c.copy_within.new.self.items words to from k (c.copy_within.ensures.by_index.0 (to + k / 64) 0 (omega arith) (omega arith) ∙ ap (λ x. slice_index_or words x 0) e)
-    ∙ sym (row_bit c.self.inside c.args.self.now c.self.view_is c.self.invariant c.args.from k c.requires.from (omega (arith, lt, c.requires.there)))
+    ∙ sym (row_bit c.self.inside c.args.self.now c.self.view_is c.self.invariant c.args.from c.args.count c.requires.from c.requires.there k lt)

@@ -3,6 +3,4 @@ use Rattle.sedtext.specs.Sieve.{PassesSieve}
 use Rattle.sedtext.proofs.counted.sieve.Sieve.find_slowly.Given as goal
 
 abbrev pub invariant-loop-place : goal.invariant-loop-place
-invariant-loop-place l = record {
-  none : (i : ℕ) → l.from ≤ i → i < l.place → PassesSieve l.self l.bytes i → ⊥;
-}
+invariant-loop-place l = (i : ℕ) → l.from ≤ i → i < l.place → PassesSieve l.self l.bytes i → ⊥

@@ -1,0 +1,16 @@
+use Rattle.std.proofs.Common.{◌≡◌, ◌+◌, Some, ap, length, arith}
+use Rattle.sedtext.specs.Required.{FirstLiteral}
+use Rattle.sedmatch.proofs.direct.form_span.Goals as goal
+
+pub returns-in-None-find_literal-clause-span : goal.returns-in-None-find_literal-clause-span
+returns-in-None-find_literal-clause-span c = rw c.in-Literal.is (λ i j low within s. c.in-None-find_literal.ensures.first i low s.0)
+
+pub returns-in-Some-find_literal-clause-span : goal.returns-in-Some-find_literal-clause-span
+returns-in-Some-find_literal-clause-span c =
+    let literal = c.in-Literal.finder in
+    let start = c.in-Some-find_literal.start in
+    let end = c.after-in-Some-find_literal.result in
+    let long : end ≡ start + length literal = omega (arith, c.after-in-Some-find_literal.ensures, ap length c.needle.ensures) in
+    let here : FirstLiteral c.args.text.now literal c.args.from (Some start) = c.in-Some-find_literal.ensures.first in
+    let fits = here.1.fits in
+    rw c.in-Literal.is (here.0, (here.1, long), omega (arith, fits, long), (λ k h. omega (arith, h.1, long)), λ h k low lt s. here.2 h low lt s.0)

@@ -1,0 +1,10 @@
+use Rattle.std.proofs.Common.{◌≡◌, ℕ, ◌+◌, ◌<◌, ◌≤◌, length}
+use Rattle.std.specs.Prelude.{slice_index_or}
+use Rattle.sedtext.proofs.counted.rows.Rows.clear.Given as goal
+
+abbrev pub invariant-loop-x : goal.invariant-loop-x
+invariant-loop-x l =
+    (length l.words.items ≡ length l.initial.words.items)
+    × ((k : ℕ) → k < l.x → slice_index_or l.words.items (l.at + k) 0 ≡ 0)
+    × ((k : ℕ) → k < l.at → slice_index_or l.words.items k 0 ≡ slice_index_or l.initial.words.items k 0)
+    × ((k : ℕ) → l.at + l.x ≤ k → slice_index_or l.words.items k 0 ≡ slice_index_or l.initial.words.items k 0)

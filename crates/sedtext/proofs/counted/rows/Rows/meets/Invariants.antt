@@ -1,0 +1,7 @@
+use Rattle.std.proofs.Common.{ℕ, ◌*◌, ◌<◌}
+use Rattle.sedtext.specs.Words.{row_of}
+use Rattle.sedtext.proofs.BitLemmas.{Meet}
+use Rattle.sedtext.proofs.counted.rows.Rows.meets.Given as goal
+
+abbrev pub invariant-loop-x : goal.invariant-loop-x
+invariant-loop-x l = (c : ℕ) → c < 64 * l.x → Meet (row_of l.self l.row) (row_of l.other l.other_row) l.count c → ⊥

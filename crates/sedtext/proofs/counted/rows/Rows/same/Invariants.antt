@@ -1,0 +1,6 @@
+use Rattle.std.proofs.Common.{◌≡◌, ℕ, ◌+◌, ◌<◌}
+use Rattle.std.specs.Prelude.{slice_index_or}
+use Rattle.sedtext.proofs.counted.rows.Rows.same.Given as goal
+
+abbrev pub invariant-loop-x : goal.invariant-loop-x
+invariant-loop-x l = (k : ℕ) → k < l.x → slice_index_or l.self-inside.words.items (l.at + k) 0 ≡ slice_index_or l.self-inside.words.items (l.other + k) 0
