@@ -1,8 +1,7 @@
 -- What reporting the groups of the occurrences in a text takes together.
 use Rattle.std.proofs.Common.{◌≡◌, ℕ, zero, suc, ◌+◌, ◌-◌, ◌*◌, ◌≤◌, Option, Some, None, subst, arith, mul-le-mul_left}
 use Rattle.std.specs.Prelude.{IfSome}
-use Rattle.sedre.specs.Steps.{Takes}
-use Rattle.sedmatch.specs.Costs.{CostsWithin}
+use Rattle.sedre.specs.Steps.{Takes, CostsWithin}
 use Rattle.sedmatch.specs.Following.{LiesOn}
 use Rattle.sedacts.specs.SubstituteParts.{owed_groups, owed_groups_after, place_cost}
 

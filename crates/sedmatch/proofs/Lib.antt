@@ -1,11 +1,6 @@
 pub use Rattle.sedtext.proofs.MatchingLemmas
 pub use Rattle.sedtext.proofs.SpanLemmas
-pub mod CandidateLemmas
-pub mod DirectLemmas
 pub mod MatcherLemmas
 pub mod OccurrenceLemmas
-pub mod OnceLemmas
 pub mod RoomLemmas
-pub mod ShapeLemmas
 pub mod StretchLemmas
-pub mod PassLemmas

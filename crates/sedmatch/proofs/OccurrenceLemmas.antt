@@ -1,63 +1,40 @@
 -- The tables by which all occurrences are found, and what the searches cost.
-use Rattle.std.proofs.Common.{◌≡◌, [], ◌∷◌, ◌++◌, length-append, ℕ, zero, suc, ◌+◌, ◌-◌, ◌*◌, ◌<◌, ◌≤◌, ◌⊎◌, Bool, true, false, List, length, get_or, Option, Some, None, IfSome, IsTrue, refl, sym, ap, ◌∙◌, subst, true≢false, ⊎_elim, inl, inr, arith, mul-le-mul_left, length-set, get_or-set_same, get_or-set_other}
+use Rattle.std.proofs.Common.{◌≡◌, [], ◌∷◌, ◌++◌, length-append, ℕ, zero, suc, ◌+◌, ◌-◌, ◌*◌, ◌<◌, ◌≤◌, ◌⊎◌, Bool, true, false, List, length, get_or, Option, Some, None, IfSome, IsTrue, refl, sym, ap, ◌∙◌, subst, true≢false, ⊎_elim, inl, inr, arith, mul-le-mul_left}
 use Rattle.std.specs.Option.{unwrap_or}
 use Rattle.std.specs.Prelude.{slice_get, slice_set, if◌then◌else◌}
-use Rattle.std.specs.Vec.{with_item}
-use Rattle.std.proofs.lemmas.Bool.{cases_eq, cases_lt}
-use Rattle.std.proofs.lemmas.Grind.{get_or-set_at}
-use Rattle.std.proofs.lemmas.List.{get_or_append_left, get_or_push}
-use Rattle.std.proofs.lemmas.Option.{get_or_from_slice_get, slice_get-get_or, slice_get_read, slice_get_within}
+use Rattle.std.proofs.lemmas.Option.{IfSome_then, slice_get_read, slice_get_within}
 use Rattle.sedre.specs.Tree.{WrittenExpression, expression_tree, Tree}
-use Rattle.sedtext.specs.Costs.{CostsWithin}
-use Rattle.sedre.specs.Steps.{TakesAtLeast}
-use Rattle.sedtext.specs.Following.{LiesOn, OccursAfter, bytes_passed, next_span}
+use Rattle.sedre.specs.Steps.{CostsWithin, Takes, TakesAtLeast}
+use Rattle.sedtext.specs.Following.{OccursAfter, bytes_passed, next_span}
 use Rattle.sedtext.specs.Matching.{leftmost_longest}
 use Rattle.sedpass.specs.Kept.{KeptRoom, SameSpace}
-use Rattle.sedpass.specs.Search.{Searched, SearchServes, owed_after_search, search_cost, owed_behind}
+use Rattle.sedpass.specs.Search.{SearchServes, owed_after_search, search_cost, owed_behind}
 use Rattle.sedpass.specs.Table.{IsRoomy, IsTable, SameRoom}
 use Rattle.sedpass.specs.declared.search.Seeking.{Seeking}
 use Rattle.sedpass.specs.declared.kept.Kept.{Kept}
 use Rattle.sedpass.specs.declared.nodes.Prepared.{Prepared}
 use Rattle.sedpass.specs.declared.table.Table.{Table}
-use Rattle.sedpass.proofs.KeptLemmas.{space_same}
 use Rattle.sedpass.proofs.OccurrenceLemmas.{search_falls}
 use Rattle.sedpass.proofs.SearchLemmas.{search_long, serves_for, table_for}
 use Rattle.sedpass.proofs.TableLemmas.{roomy_still}
-use Rattle.sedmatch.proofs.PassLemmas.{few_looks}
 use Rattle.sedmatch.specs.declared.occurrences.Occurrences.{Occurrences}
 use Rattle.sedmatch.specs.Passes.{reverse_any_way}
-use Rattle.sedmatch.specs.Occurrences.{HasTable, HaveOwn, IsReverseAny, IsReady, RoomAt, ServesFrom, SearchTakes, ServesIn, ServesOn, AnswersNext, owed, owed_after, owed_search}
-use Rattle.sedtext.proofs.CountLemmas.{least_less, least_since}
+use Rattle.sedmatch.specs.Occurrences.{HasOwn, HasTable, IsReverseAny, IsReady, RoomAt, ServesFrom, ServesIn, AnswersNext, owed, owed_after, owed_direct, owed_search}
 
 -- Lists.
 
 module _ {A : Type 0} where
-  -- an element after one was set is an old one, or that
-  pub set_cases : (xs : List A) (k j : ℕ) (v y : A) → slice_get (slice_set xs k v) j ≡ Some y → (slice_get xs j ≡ Some y) ⊎ ((j ≡ k) × (y ≡ v))
-  set_cases xs k j v y is =
-      let inside = slice_get_within (slice_set xs k v) j y is in
-      let long = length-set xs k v in
-      let there : get_or (slice_set xs k v) j v ≡ y = get_or_from_slice_get (slice_set xs k v) j y v is in
-      ⊎_elim
-      (λ (same : j ≡ k). inr (same, sym there ∙ get_or-set_at xs k j v v same (omega (arith, inside, long, same))))
-      (λ (other : j ≡ k → ⊥). inl (slice_get-get_or xs j v (omega (arith, inside, long)) ∙ ap (λ z. Some z) (sym (get_or-set_other xs k j v v other) ∙ there)))
-      (cases_eq j k)
-
   pub set_there : (xs : List A) (k : ℕ) (v : A) → k < length xs → slice_get (slice_set xs k v) k ≡ Some v
-  set_there xs k v inside =
-      let long = length-set xs k v in
-      slice_get-get_or (slice_set xs k v) k v (omega (arith, inside, long)) ∙ ap (λ z. Some z) (get_or-set_same xs k v v inside)
+  set_there [] k v inside = absurd (omega (arith, inside))
+  set_there (x ∷ xs) zero v inside = refl
+  set_there (x ∷ xs) (suc k) v inside = set_there xs k v (omega (arith, inside))
 
-  -- and one after a push
-  pub push_cases : (xs : List A) (v y : A) (i : ℕ) → slice_get (xs ++ v ∷ []) i ≡ Some y → (slice_get xs i ≡ Some y) ⊎ ((i ≡ length xs) × (y ≡ v))
-  push_cases xs v y i is =
-      let inside = slice_get_within (xs ++ v ∷ []) i y is in
-      let long = length-append xs (v ∷ []) in
-      let there : get_or (xs ++ v ∷ []) i v ≡ y = get_or_from_slice_get (xs ++ v ∷ []) i y v is in
-      ⊎_elim
-      (λ (lt : i < length xs). inl (slice_get-get_or xs i v lt ∙ ap (λ z. Some z) (sym (get_or_append_left xs (v ∷ []) v i lt) ∙ there)))
-      (λ (ge : length xs ≤ i). let last : i ≡ length xs = omega (arith, ge, inside, long) in inr (last, sym there ∙ get_or_push xs v v i (sym last)))
-      (cases_lt i (length xs))
+  -- an element after a push is an old one, or that
+  push_cases : (xs : List A) (v y : A) (i : ℕ) → slice_get (xs ++ v ∷ []) i ≡ Some y → (slice_get xs i ≡ Some y) ⊎ ((i ≡ length xs) × (y ≡ v))
+  push_cases [] v y zero is = inr (refl, (cc))
+  push_cases [] v y (suc i) is = inl is
+  push_cases (x ∷ xs) v y zero is = inl is
+  push_cases (x ∷ xs) v y (suc i) is = elim (push_cases xs v y i is) [ inl old ↦ inl old | inr new ↦ inr (ap suc new.0, new.1) ]
 
   same_there : (x y : A) → Some x ≡ Some y → x ≡ y
   same_there x y h = cc
@@ -71,9 +48,6 @@ kept_still text nodes kept kept' t t' has room same = record {
   blocks = λ b low. let old = has.blocks b (subst (λ v. b * (v - 1) ≤ text) room.1 low) in let long = same.edges in omega (arith, old, long);
   marks = λ q low. let long = same.edges in let old = has.marks q (omega (arith, low, long)) in let is = same.marks q in omega (arith, old, is);
 }
-
-pub space_by : (k k' : Kept) → k' ≡ k → SameSpace k k'
-space_by k k' is = subst (SameSpace k) (sym is) (space_same k)
 
 -- a table for an expression is one however that was made ready
 pub reverse_any_made : (p : Prepared) (e : WrittenExpression) (t : Table) → p.arena.expr ≡ e → IsTable p t → t.way ≡ reverse_any_way → IsReverseAny e t
@@ -117,72 +91,53 @@ module _ (e : WrittenExpression) (old new : Occurrences) (keeps : KeepsTables e 
     table = has;
   }
 
--- Where a search begins: the table that is chosen.
+-- The table in use is ready, before a search and after it.
 
 module _ (p : Prepared) (w : List ℕ) (o : Occurrences) (at : RoomAt (length w) o.number p.arena.expr o) where
-  -- its own is ready for the text
-  pub own_ready : (s : Seeking) (t : Table) → slice_get o.own.items o.number ≡ Some (Some t) → s.kept ≡ o.seeking.kept → SearchServes p w t s →
-      IsReady p.arena.expr w o (record o { seeking = s; by_own = true; is_fresh = false })
-  own_ready s t there same serves =
-      let new : Occurrences = record o { seeking = s; by_own = true; is_fresh = false } in
+  -- its own
+  pub own_ready : (new : Occurrences) (t : Table) → new.number ≡ o.number → new.shared ≡ o.shared → IsTrue new.by_own → SameSpace o.seeking.kept new.seeking.kept → slice_get new.own.items new.number ≡ Some (Some t) →
+      ((x : ℕ) (u : Table) → slice_get new.own.items x ≡ Some (Some u) → (slice_get o.own.items x ≡ Some (Some u)) ⊎ ((x ≡ o.number) × IsReverseAny p.arena.expr u)) → SearchServes p w t new.seeking → IsReady p.arena.expr w o new
+  own_ready new t number shared by space there own serves =
       still_ready p.arena.expr o new (record {
-        number = refl;
-        space = space_by o.seeking.kept s.kept same;
-        room = (refl, refl, refl, refl);
-        roomy = λ nodes roomy. roomy;
-        own = λ x u is. inl is;
-      }) w at (record { own = λ h. (t, there, serves_each p w t s serves); shared = λ h. absurd (true≢false h) })
+        number = number;
+        space = space;
+        room = subst (SameRoom o.shared) (sym shared) (refl, refl, refl, refl);
+        roomy = λ nodes roomy. subst (IsRoomy nodes) (sym shared) roomy;
+        own = own;
+      }) w at (record { own = λ h. (t, there, serves_each p w t new.seeking serves); shared = λ h. absurd (true≢false (sym by ∙ h)) })
 
-  -- that of all is, fitted to the expression
-  pub shared_ready : (s : Seeking) (t : Table) → SameRoom o.shared t → IsTable p t → s.kept ≡ o.seeking.kept → SearchServes p w t s →
-      IsReady p.arena.expr w o (record o { seeking = s; shared = t; by_own = false; is_fresh = false })
-  shared_ready s t room table same serves =
-      let new : Occurrences = record o { seeking = s; shared = t; by_own = false; is_fresh = false } in
+  -- that of all
+  pub shared_ready : (new : Occurrences) → new.number ≡ o.number → new.own ≡ o.own → new.by_own ≡ false → SameSpace o.seeking.kept new.seeking.kept → SameRoom o.shared new.shared → SearchServes p w new.shared new.seeking →
+      IsReady p.arena.expr w o new
+  shared_ready new number own by space room serves =
       still_ready p.arena.expr o new (record {
-        number = refl;
-        space = space_by o.seeking.kept s.kept same;
+        number = number;
+        space = space;
         room = room;
-        roomy = λ nodes roomy. roomy_still nodes p o.shared t roomy room table;
-        own = λ x u is. inl is;
-      }) w at (record { own = λ h. absurd (true≢false (sym h)); shared = λ h. serves_each p w t s serves })
+        roomy = λ nodes roomy. roomy_still nodes p o.shared new.shared roomy room serves.table;
+        own = λ x u is. inl (ap (λ v. slice_get v.items x) (sym own) ∙ is);
+      }) w at (record { own = λ h. absurd (true≢false (sym h ∙ by)); shared = λ h. serves_each p w new.shared new.seeking serves })
 
 -- What the searches cost.
 
+pub owed_as : (m n q : ℕ) (o : Occurrences) (b : Bool) → o.is_fresh ≡ b → owed m n (Some q) o ≡ (if b then 372 * m * (n + 1) + owed_direct n (Some q) else owed_behind m n o.seeking q)
+owed_as m n q o b is = ap (λ (v : Bool). if v then 372 * m * (n + 1) + owed_direct n (Some q) else owed_behind m n o.seeking q) is
+
 after_used : (m n : ℕ) (r : Option (ℕ × ℕ)) (new : Occurrences) → new.is_fresh ≡ false → owed_after m n r new ≡ owed_after_search (owed_behind m n new.seeking) r
 after_used m n None new used = refl
-after_used m n (Some f) new used = ap (λ (b : Bool). if b then 372 * m * (n + 1) + 8 * (n + 1 - f.1) else owed_behind m n new.seeking f.1) used
-
-behind_falls : (m n q : ℕ) (s : Seeking) → owed_behind m n s q ≤ owed_behind m n s 0
-behind_falls m n q s =
-    let a = search_falls m n s 0 q (omega arith) in
-    let rest : n + 1 - q ≤ n + 1 - 0 = omega arith in
-    let b = mul-le-mul_left (86 * m) rest in
-    omega (arith, a, b)
+after_used m n (Some f) new used = owed_as m n f.1 new false used
 
 due_enough : (m n : ℕ) (last : Option ℕ) (old mid : Occurrences) → 1 ≤ m → (last ≡ None → IsTrue old.is_fresh) → (old.is_fresh ≡ false → mid ≡ old) →
     (IsTrue old.is_fresh → owed_behind m n mid.seeking 0 + 43 * m ≤ 308 * m * (n + 1)) → owed_search m n last mid.seeking ≤ owed m n last old
 due_enough m n None old mid some fresh same begun =
-    let least = begun (fresh refl) in
-    let looks = few_looks m n some in
-    omega (arith, least, looks)
+    omega (arith, begun (fresh refl), mul-le-mul_left (n + 1) some)
 due_enough m n (Some q) old mid some fresh same begun = by old.is_fresh refl
   where
     by : (b : Bool) → old.is_fresh ≡ b → owed_behind m n mid.seeking q ≤ owed m n (Some q) old
     by true is =
-        let least = begun is in
-        let falls = behind_falls m n q mid.seeking in
-        subst (λ (b : Bool). owed_behind m n mid.seeking q ≤ (if b then 372 * m * (n + 1) + 8 * (n + 1 - q) else owed_behind m n old.seeking q)) (sym is) (omega (arith, least, falls))
-    by false is =
-        subst (λ (b : Bool). owed_behind m n mid.seeking q ≤ (if b then 372 * m * (n + 1) + 8 * (n + 1 - q) else owed_behind m n old.seeking q)) (sym is)
-        (subst (λ (x : Occurrences). owed_behind m n x.seeking q ≤ owed_behind m n old.seeking q) (sym (same is)) (omega arith))
-
-paid : (m n : ℕ) (last : Option ℕ) (old mid new : Occurrences) (r : Option (ℕ × ℕ)) (s t : ℕ) → 1 ≤ m → (last ≡ None → IsTrue old.is_fresh) → (old.is_fresh ≡ false → mid ≡ old) →
-    (IsTrue old.is_fresh → owed_behind m n mid.seeking 0 + 43 * m ≤ 308 * m * (n + 1)) → new.is_fresh ≡ false →
-    CostsWithin s t (owed_search m n last mid.seeking) (owed_after_search (owed_behind m n new.seeking) r) → CostsWithin s t (owed m n last old) (owed_after m n r new)
-paid m n last old mid new r s t some fresh same begun used pays =
-    let due = due_enough m n last old mid some fresh same begun in
-    let after = after_used m n r new used in
-    (pays.0, (let h = pays.1 in omega (arith, h, due, after)))
+        let rest : n + 1 - q ≤ n + 1 - 0 = omega arith in
+        omega (arith, begun is, search_falls m n mid.seeking 0 q (omega arith), mul-le-mul_left (86 * m) rest, owed_as m n q old true is)
+    by false is = omega (arith, owed_as m n q old false is, ap (λ (x : Occurrences). owed_behind m n x.seeking q) (same is))
 
 -- its own table, where it is in use
 pub own_is : (e : WrittenExpression) (w : List ℕ) (o : Occurrences) → HasTable e w o → IsTrue o.by_own → (v u : Option Table) → v ≡ get_or o.own.items o.number v → v ≡ u → slice_get o.own.items o.number ≡ Some u
@@ -190,59 +145,21 @@ own_is e w o has by v u at is =
     let own = has.own by in
     slice_get_read o.own.items (length o.own.items) o.number v refl (slice_get_within o.own.items o.number (Some own.0) own.1) at ∙ ap (λ z. Some z) is
 
--- After a search.
-
-module _ (p : Prepared) (w : List ℕ) (a a' b b' : Table) (o : Occurrences) (s : Seeking) (at : RoomAt (length w) o.number p.arena.expr o) (done : Searched p w a a' b b' o.seeking s) where
-  pub shared_searched : o.by_own ≡ false → o.shared ≡ b → IsReady p.arena.expr w o (record o { seeking = s; shared = b' })
-  shared_searched by is =
-      let new : Occurrences = record o { seeking = s; shared = b' } in
-      let shape = done.tables.reverse_any_shape in
-      let room : SameRoom o.shared b' = subst (λ v. SameRoom v b') (sym is) (shape.0, shape.1, shape.3, shape.4) in
-      still_ready p.arena.expr o new (record {
-        number = refl;
-        space = done.tables.space;
-        room = room;
-        roomy = λ nodes roomy. roomy_still nodes p o.shared b' roomy room done.serves.table;
-        own = λ x u is. inl is;
-      }) w at (record { own = λ h. absurd (true≢false (sym h ∙ by)); shared = λ h. serves_each p w b' s done.serves })
-
-  pub own_searched : IsTrue o.by_own → slice_get o.own.items o.number ≡ Some (Some b) → IsReady p.arena.expr w o (record o { seeking = s; own = with_item o.own o.number (Some b') })
-  own_searched by is =
-      let new : Occurrences = record o { seeking = s; own = with_item o.own o.number (Some b') } in
-      let reverse_any = reverse_any_made p p.arena.expr b' refl done.serves.table (done.tables.reverse_any_shape.0 ∙ (at.own b is).0) in
-      still_ready p.arena.expr o new (record {
-        number = refl;
-        space = done.tables.space;
-        room = (refl, refl, refl, refl);
-        roomy = λ nodes roomy. roomy;
-        own = λ x u is'. ⊎_elim
-            (λ (was : slice_get o.own.items x ≡ Some (Some u)). inl was)
-            (λ (now : (x ≡ o.number) × (Some u ≡ Some b')). inr (now.0, subst (IsReverseAny p.arena.expr) (sym (same_there u b' now.1)) reverse_any))
-            (set_cases o.own.items o.number x (Some b') (Some u) is');
-      }) w at (record {
-        own = λ h. (b', set_there o.own.items o.number (Some b') (slice_get_within o.own.items o.number (Some b) is), serves_each p w b' s done.serves);
-        shared = λ h. absurd (true≢false (sym by ∙ h));
-      })
-
-serves_on : (e : WrittenExpression) (w : List ℕ) (old mid new : Occurrences) (r : Option (ℕ × ℕ)) → IsReady e w old mid → IsReady e w mid new → ServesOn e w r old new
-serves_on e w old mid new r first next = (
-  (
-    next.keeps.0 ∙ first.keeps.0,
-    λ text es sought room. next.keeps.1 text es (subst (λ x. slice_get es x ≡ Some e) (sym first.keeps.0) sought) (first.keeps.1 text es sought room),
-  ),
-  serves r,
-)
-  where
-    serves : (r : Option (ℕ × ℕ)) → IfSome r (λ f. ServesFrom e w (Some f.1) new)
-    serves None = tt
-    serves (Some f) = record { room = next.room; fresh = λ h. cc; used = λ h. next.table }
+-- a table of the list, after one was set for the expression, is an old one, or that
+pub own_set : (e : WrittenExpression) (own : List (Option Table)) (n : ℕ) (t : Table) → IsReverseAny e t → (x : ℕ) (u : Table) → slice_get (slice_set own n (Some t)) x ≡ Some (Some u) →
+    (slice_get own x ≡ Some (Some u)) ⊎ ((x ≡ n) × IsReverseAny e u)
+own_set e [] n t reverse_any x u is = inl is
+own_set e (o ∷ own) zero t reverse_any zero u is = inr (refl, subst (IsReverseAny e) (same_there t u (same_there (Some t) (Some u) is)) reverse_any)
+own_set e (o ∷ own) zero t reverse_any (suc x) u is = inl is
+own_set e (o ∷ own) (suc n) t reverse_any zero u is = inl is
+own_set e (o ∷ own) (suc n) t reverse_any (suc x) u is = elim (own_set e own n t reverse_any x u is) [ inl old ↦ inl old | inr new ↦ inr (ap suc new.0, new.1) ]
 
 -- Making the tables.
 
 -- those of the first n of these expressions
 pub record AreFirst (es : List WrittenExpression) (n : ℕ) (own : List (Option Table)) : Type 0 where
   pub long : length own ≡ n
-  pub each : HaveOwn es own
+  pub each : (x : ℕ) (e : WrittenExpression) → slice_get es x ≡ Some e → HasOwn x e own
 
 pub one_more : (es : List WrittenExpression) (n : ℕ) (own own' : List (Option Table)) (e : WrittenExpression) (o : Option Table) → AreFirst es n own → n < length es → e ≡ get_or es n e → IfSome o (IsReverseAny e) → own' ≡ own ++ o ∷ [] → AreFirst es (n + 1) own'
 one_more es n own own' e o are inside here reverse_any push = record {
@@ -278,39 +195,36 @@ first_square m n start s a t some looks each =
     let d = mul-le-mul_left (m * (64 * (n + 1) * (n + 1))) some in
     omega (arith, looks, each, long, less, c, d)
 
-pub lies_first : (n : ℕ) (r : Option (ℕ × ℕ)) → IfSome r (λ f. (0 ≤ f.0) × (f.0 ≤ f.1) × (f.1 ≤ n)) → IfSome r (LiesOn n None)
-lies_first n None lies = tt
-lies_first n (Some f) lies = (lies.1, lies.2, tt)
-
 -- What is looked at at least, where an occurrence is sought after the last one.
 
-looks_at_occurrence : (e : Tree) (w : List ℕ) (last : Option ℕ) (s t : ℕ) (r : Option (ℕ × ℕ)) → IfSome r (OccursAfter e w last) → IfSome r (λ f. TakesAtLeast s t (f.1 - unwrap_or last 0)) →
-    IfSome r (λ f. TakesAtLeast s t (f.1 - f.0))
-looks_at_occurrence e w last s t None occurs looks = tt
-looks_at_occurrence e w None s t (Some f) occurs looks = least_less s t (f.1 - 0) (f.1 - f.0) looks (omega arith)
-looks_at_occurrence e w (Some q) s t (Some f) occurs looks = least_less s t (f.1 - q) (f.1 - f.0) looks (omega (arith, occurs.1.2.0))
-
-pub looks_passed : (last : Option ℕ) (s t : ℕ) (r : Option (ℕ × ℕ)) → IfSome r (λ f. TakesAtLeast s t (f.1 - unwrap_or last 0)) → IfSome r (λ f. TakesAtLeast s t (bytes_passed last f))
-looks_passed last s t None looks = tt
-looks_passed None s t (Some f) looks = least_less s t (f.1 - 0) f.1 looks (omega arith)
-looks_passed (Some q) s t (Some f) looks = least_less s t (f.1 - q) (f.1 - (q + 1)) looks (omega arith)
-
-pub looks_since : (passed : ℕ × ℕ → ℕ) (s t u : ℕ) (r : Option (ℕ × ℕ)) → s ≤ t → IfSome r (λ f. TakesAtLeast t u (passed f)) → IfSome r (λ f. TakesAtLeast s u (passed f))
-looks_since passed s t u None grows looks = tt
-looks_since passed s t u (Some f) grows looks = least_since s t u (passed f) grows looks
+looks_on : (e : Tree) (w : List ℕ) (last : Option ℕ) (s t : ℕ) (r : Option (ℕ × ℕ)) → IfSome r (OccursAfter e w last) → IfSome r (λ f. TakesAtLeast s t (f.1 - unwrap_or last 0)) →
+    IfSome r (λ f. TakesAtLeast s t (f.1 - f.0)) × IfSome r (λ f. TakesAtLeast s t (bytes_passed last f))
+unfolding TakesAtLeast
+looks_on e w last s t None occurs looks = (tt, tt)
+looks_on e w None s t (Some f) occurs looks = (omega (arith, looks), omega (arith, looks))
+looks_on e w (Some q) s t (Some f) occurs looks = let low = occurs.1.2.0 in (omega (arith, looks, low), omega (arith, looks))
 
 -- what a search by passes answers
 pub shows : (e : WrittenExpression) (w : List ℕ) (last : Option ℕ) (old mid new : Occurrences) (r : Option (ℕ × ℕ)) (s t : ℕ) → 1 ≤ length e.nodes → ServesFrom e w last old → IsReady e w old mid → IsReady e w mid new →
     (old.is_fresh ≡ false → mid ≡ old) → (IsTrue old.is_fresh → owed_behind (length e.nodes) (length w) mid.seeking 0 + 43 * length e.nodes ≤ 308 * length e.nodes * (length w + 1)) → new.is_fresh ≡ false →
     r ≡ next_span (leftmost_longest (expression_tree e) w) (length w) last → IfSome r (OccursAfter (expression_tree e) w last) →
     CostsWithin s t (owed_search (length e.nodes) (length w) last mid.seeking) (owed_after_search (owed_behind (length e.nodes) (length w) new.seeking) r) →
-    SearchTakes (length e.nodes) (length w) (unwrap_or last 0) s t r → AnswersNext e w last old new s t r
-shows e w last old mid new r s t some serves ready searched same owed used next occurs cost looks = record {
+    Takes s t (64 * length e.nodes * length e.nodes * (length w + 1) * (length w + 1)) → IfSome r (λ f. TakesAtLeast s t (f.1 - unwrap_or last 0)) → AnswersNext e w last old new s t r
+shows e w last old mid new r s t some serves ready searched same owed used next occurs cost once counts = record {
   next = next;
   occurs = occurs;
-  serves = serves_on e w old mid new r ready searched;
-  cost = paid (length e.nodes) (length w) last old mid new r s t some serves.fresh same owed used cost;
-  once = looks.once;
-  counts = looks_at_occurrence (expression_tree e) w last s t r occurs looks.counts;
-  passes = λ early. looks_passed last s t r looks.counts;
+  serves = (
+    (
+      searched.keeps.0 ∙ ready.keeps.0,
+      λ text es sought room. searched.keeps.1 text es (subst (λ x. slice_get es x ≡ Some e) (sym ready.keeps.0) sought) (ready.keeps.1 text es sought room),
+    ),
+    IfSome_then r occurs (λ f here. record { room = searched.room; fresh = λ h. cc; used = λ h. searched.table }),
+  );
+  cost = (
+    cost.0,
+    omega (arith, cost.1, due_enough (length e.nodes) (length w) last old mid some serves.fresh same owed, after_used (length e.nodes) (length w) r new used),
+  );
+  once = once;
+  counts = (looks_on (expression_tree e) w last s t r occurs counts).0;
+  passes = λ early. (looks_on (expression_tree e) w last s t r occurs counts).1;
 }

@@ -1,11 +1,12 @@
 -- Private to the proofs: no contract that `sedmatch` makes public cites what is here.
 -- Expressions whose matches a look at the text finds.
-use Rattle.std.specs.Prelude.{◌≡◌, ℕ, ◌+◌, ◌-◌, ◌≤◌, ◌↔◌, List, length, Option}
+use Rattle.std.specs.Prelude.{◌≡◌, ℕ, ◌+◌, ◌-◌, ◌≤◌, ◌↔◌, List, length}
 use Rattle.memchr.specs.Find.{OccursAt}
+use Rattle.sedre.specs.Arena.{IsExpr}
 use Rattle.sedre.specs.Tree.{WrittenExpression, expression_tree, Tree}
 use Rattle.sedtext.specs.Spans.{Matches}
 use Rattle.sedtext.specs.FixedRuns.{IsFixedRun}
-use Rattle.sedmatch.specs.Stretches.{FirstOf, StretchSpans, bytes_sought}
+use Rattle.sedmatch.specs.Stretches.{StretchSpans, bytes_sought}
 use Rattle.sedmatch.specs.declared.direct.DirectForm.{DirectForm}
 use Rattle.sedmatch.specs.declared.direct.DirectForm.TheVariants.{Stretch, FixedRun, Literal}
 
@@ -24,10 +25,6 @@ abbrev pub bytes_looked_at : DirectForm → ℕ → ℕ × ℕ → ℕ
 bytes_looked_at (Stretch s) p f = bytes_sought s.ends p f
 bytes_looked_at other p f = f.1 - p
 
--- the expression is of this form: its spans are those of the form, it has no groups, and it has a node
+-- the expression is of this form: its spans are those of the form, and it has no groups
 abbrev pub IsDirect : WrittenExpression → DirectForm → Type 0
-IsDirect e form = SpannedAs (expression_tree e) form × (e.groups ≡ 0) × (1 ≤ length e.nodes)
-
--- the longest of the matches that begin first from p on, if there is one
-abbrev pub FirstSpan : DirectForm → List ℕ → ℕ → Option (ℕ × ℕ) → Type 0
-FirstSpan form w = FirstOf (FormSpans form w) (length w)
+IsDirect e form = SpannedAs (expression_tree e) form × (e.groups ≡ 0) × IsExpr e.nodes e.groups

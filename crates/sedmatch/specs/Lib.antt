@@ -4,7 +4,7 @@ pub use Rattle.sedtext.specs.Answer
 pub use Rattle.sedtext.specs.Groups
 pub use Rattle.sedtext.specs.Matching
 pub use Rattle.sedtext.specs.SearchRoom
-pub use Rattle.sedtext.specs.Costs
+pub use Rattle.sedre.specs.Steps
 pub use Rattle.sedtext.specs.Following
 pub mod Direct
 pub mod Stretches

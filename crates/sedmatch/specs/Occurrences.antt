@@ -1,9 +1,8 @@
 -- What the searches for all occurrences in one text keep, and what they may cost. `Occurrences::new` and `begin` give it, and callers
 -- hand it on from call to call, so that nobody has to read it.
 use Rattle.std.specs.Prelude.{◌≡◌, ℕ, ◌+◌, ◌-◌, ◌*◌, ◌≤◌, false, if◌then◌else◌, List, length, slice_get, Option, Some, None, IfSome, IsTrue}
-use Rattle.sedre.specs.Steps.{Takes, TakesAtLeast}
+use Rattle.sedre.specs.Steps.{Takes, TakesAtLeast, CostsWithin}
 use Rattle.sedre.specs.Tree.{WrittenExpression, expression_tree}
-use Rattle.sedtext.specs.Costs.{CostsWithin}
 use Rattle.sedtext.specs.Following.{CanEndEarly, OccursAfter, bytes_passed, next_span}
 use Rattle.sedtext.specs.Matching.{leftmost_longest}
 use Rattle.sedpass.specs.Kept.{KeptRoom}
@@ -22,10 +21,6 @@ IsReverseAny e t = (t.way ≡ reverse_any_way) × ((p : Prepared) → p.arena.ex
 -- the table in the list for the expression e, of number x, is for it, where there is one
 abbrev pub HasOwn : ℕ → WrittenExpression → List (Option Table) → Type 0
 HasOwn x e own = (t : Table) → slice_get own x ≡ Some (Some t) → IsReverseAny e t
-
--- so it is for each of these expressions
-abbrev pub HaveOwn : List WrittenExpression → List (Option Table) → Type 0
-HaveOwn es own = (x : ℕ) (e : WrittenExpression) → slice_get es x ≡ Some e → HasOwn x e own
 
 -- there is room for texts of `text` bytes and for the expression e, of number x: the table that serves all can be fitted to it, and
 -- where it has one of its own, that is for it
@@ -77,11 +72,6 @@ abbrev pub owed_direct : ℕ → Option ℕ → ℕ
 owed_direct n None = 8 * (n + 1) + 4
 owed_direct n (Some q) = 8 * (n + 1 - q)
 
--- none after an answer that there is no occurrence
-abbrev pub owed_direct_after : ℕ → Option (ℕ × ℕ) → ℕ
-owed_direct_after n None = 0
-owed_direct_after n (Some f) = owed_direct n (Some f.1)
-
 -- and those that either may
 abbrev pub owed : ℕ → ℕ → Option ℕ → Occurrences → ℕ
 owed m n None o = 416 * m * (n + 1)
@@ -90,12 +80,6 @@ owed m n (Some q) o = if o.is_fresh then 372 * m * (n + 1) + owed_direct n (Some
 abbrev pub owed_after : ℕ → ℕ → Option (ℕ × ℕ) → Occurrences → ℕ
 owed_after m n None o = 0
 owed_after m n (Some f) o = owed m n (Some f.1) o
-
--- the steps in which an occurrence is sought from a place on: in the square of the text's length at most, and one at least for each
--- byte from that place on up to its end
-pub record SearchTakes (m n from before after : ℕ) (r : Option (ℕ × ℕ)) : Type 0 where
-  pub once : Takes before after (64 * m * m * (n + 1) * (n + 1))
-  pub counts : IfSome r (λ f. TakesAtLeast before after (f.1 - from))
 
 -- what one call answers: the next occurrence after the last one; what is kept serves on, and pays for the steps
 pub record AnswersNext (e : WrittenExpression) (w : List ℕ) (last : Option ℕ) (old new : Occurrences) (before after : ℕ) (r : Option (ℕ × ℕ)) : Type 0 where

@@ -1,6 +1,6 @@
 -- Private to the proofs: no contract of a public item cites what is here.
 -- An expression that is searched by passes, with its tables, and the room for passes.
-use Rattle.std.specs.Prelude.{◌≡◌, ℕ, ◌+◌, ◌-◌, ◌*◌, ◌/◌, ◌≤◌, ◌↔◌, Bool, true, List, length, vec_capacity, IfSome, IsTrue}
+use Rattle.std.specs.Prelude.{◌≡◌, ℕ, ◌+◌, ◌-◌, ◌*◌, ◌/◌, ◌≤◌, ◌↔◌, Bool, true, List, length, IfSome, IsTrue}
 use Rattle.sedre.specs.Tree.{WrittenExpression, expression_tree}
 use Rattle.sedre.specs.Steps.{Takes, TakesAtLeast}
 use Rattle.sedtext.specs.Beginnings.{AllBegin}
@@ -14,7 +14,6 @@ use Rattle.sedpass.specs.Table.{IsRoomy}
 use Rattle.sedpass.specs.Walks.{EntersGroups}
 use Rattle.sedpass.specs.declared.nodes.Prepared.{Prepared}
 use Rattle.sedpass.specs.declared.rows.Way.{Way}
-use Rattle.sedpass.specs.declared.table.Table.{Table}
 use Rattle.sedmatch.specs.Direct.{IsDirect}
 use Rattle.sedmatch.specs.declared.passes.Passes.{Passes}
 use Rattle.sedmatch.specs.declared.scratch.Desk.{Desk}
@@ -30,10 +29,6 @@ pub record IsSought (e : WrittenExpression) (p : Prepared) : Type 0 where
   pub expr : p.arena.expr ≡ e
   pub begins : AllBegin (expression_tree e) p.begins
   pub required : IsRequired (expression_tree e) p.required
-
--- the table goes this way, and has room for expressions of at most m nodes
-abbrev pub IsRoomyWay : Way → ℕ → Table → Type 0
-IsRoomyWay way m t = IsRoomy m t × (t.way ≡ way)
 
 -- what was found out is right, and the tables are for the expression, where it has some of its own
 abbrev pub ArePasses : WrittenExpression → Passes → Type 0
@@ -56,7 +51,7 @@ IsEngine (ByPasses p) = ArePasses p.value.prepared.arena.expr p.value
 -- serve all.
 pub record IsDesk (d : Desk) : Type 0 where
   pub space : HasSpace d.max_text (d.max_text / (d.shared.reverse_one.room - 1) + 1) d.max_nodes d.room
-  pub reverse_any : IsRoomyWay reverse_any_way d.max_nodes d.reverse_any
+  pub reverse_any : IsRoomy d.max_nodes d.reverse_any × (d.reverse_any.way ≡ reverse_any_way)
   pub states : d.reverse_any.room ≡ d.shared.reverse_one.room
   pub shared : AreRoomy d.max_nodes d.shared
   pub few : length d.room.kept.edges ≤ 65536
@@ -68,10 +63,6 @@ IsDeskFor e w d = IsDesk d × (length w ≤ d.max_text) × (length e.nodes ≤ d
 -- they still can, for the same texts and expressions
 abbrev pub KeepsDesk : Desk → Desk → Type 0
 KeepsDesk old new = IsDesk new × (new.max_text ≡ old.max_text) × (new.max_nodes ≡ old.max_nodes)
-
--- an expression of at most m nodes can be made ready there
-abbrev pub Prepares : ℕ → Prepared → Type 0
-Prepares m p = (m ≤ p.arena.room) × (m ≤ vec_capacity p.facts)
 
 -- What one call shows of an expression in a text, in how many steps.
 

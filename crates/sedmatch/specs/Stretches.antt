@@ -3,7 +3,6 @@
 use Rattle.std.specs.Prelude.{◌≡◌, ℕ, ◌+◌, ◌-◌, ◌<◌, ◌≤◌, ◌⊎◌, Bool, List, length, Option, Some, None}
 use Rattle.sedtext.specs.Bytes.{MemberAt}
 use Rattle.sedtext.specs.Runs.{SetRepeats}
-use Rattle.sedmatch.specs.declared.shapes.Stem.{Stem}
 use Rattle.sedmatch.specs.declared.stretches.Anchoring.{Anchoring}
 use Rattle.sedmatch.specs.declared.stretches.Anchoring.TheVariants.{AtStart, AtEnd, Whole, AtEitherEnd}
 use Rattle.sedmatch.specs.declared.stretches.Stretch.{Stretch}
@@ -23,10 +22,6 @@ abbrev pub Follow : Option (List Bool) → List ℕ → ℕ → ℕ → Type 0
 Follow None w i j = j ≡ i
 Follow (Some members) w i j = SetRepeats members w i j
 
--- the bytes from i up to j are what comes first, and such as follow
-abbrev pub StretchBytes : Option (List Bool) → Option (List Bool) → List ℕ → ℕ → ℕ → Type 0
-StretchBytes first rest w i j = ComesFirst first w i × Follow rest w (behind_first first i) j
-
 -- a span from i to j is where it is anchored, if it is
 abbrev pub IsAnchored : Option Anchoring → List ℕ → ℕ → ℕ → Type 0
 IsAnchored None w i j = Unit {0}
@@ -35,23 +30,15 @@ IsAnchored (Some AtEnd) w i j = j ≡ length w
 IsAnchored (Some Whole) w i j = (i ≡ 0) × (j ≡ length w)
 IsAnchored (Some AtEitherEnd) w i j = (i ≡ 0) ⊎ (j ≡ length w)
 
--- the stem leads from i to j
-abbrev pub StemLeads : Stem → List ℕ → ℕ → ℕ → Type 0
-StemLeads stem w i j = StretchBytes stem.first stem.rest w i j × IsAnchored stem.ends w i j
-
--- the spans of a stretch that is anchored so
+-- the spans of a stretch that is anchored so: what comes first, and such bytes as follow
 abbrev pub StretchSpans : Stretch → Option Anchoring → List ℕ → ℕ → ℕ → Type 0
-StretchSpans s anchoring w i j = StretchBytes s.first s.rest w i j × IsAnchored anchoring w i j
+StretchSpans s anchoring w i j = (ComesFirst s.first w i × Follow s.rest w (behind_first s.first i) j) × IsAnchored anchoring w i j
 
 -- the longest of the spans that begin first from p on, in a text of n bytes, if there is one
 abbrev pub FirstOf : (ℕ → ℕ → Type 0) → ℕ → ℕ → Option (ℕ × ℕ) → Type 0
 FirstOf Spans n p None = (i j : ℕ) → p ≤ i → i ≤ n → Spans i j → ⊥
 FirstOf Spans n p (Some f) =
     (p ≤ f.0) × Spans f.0 f.1 × (f.1 ≤ n) × ((j : ℕ) → Spans f.0 j → j ≤ f.1) × ((i j : ℕ) → p ≤ i → i < f.0 → Spans i j → ⊥)
-
--- the same of the spans of a stretch that is anchored so
-abbrev pub FirstStretch : Stretch → Option Anchoring → List ℕ → ℕ → Option (ℕ × ℕ) → Type 0
-FirstStretch s anchoring w = FirstOf (StretchSpans s anchoring w) (length w)
 
 -- the bytes that follow from i on end at j at the farthest
 abbrev pub FollowTo : Option (List Bool) → List ℕ → ℕ → ℕ → Type 0

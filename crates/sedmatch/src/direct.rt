@@ -4,23 +4,18 @@
 //! Where such a match begins is decided by its bytes, and where the longest ends by those that follow, so that nothing
 //! has to be found out of the expression in a search. What a search costs falls with the place from which it starts: all
 //! matches of a text together cost no more than one pass over it.
-#![tactic(auto, unfolding(sedre::specs::Steps::TakesAtLeast, sedre::specs::Steps::TakesExactly))]
-
 ghost use Rattle.std.specs.Prelude.{◌+◌, ◌-◌, ◌*◌, ◌≤◌, length, IfOk, IfSome};
-ghost use Rattle.sedre.specs.Arena.{IsExpr};
 ghost use Rattle.sedre.specs.Tree.{WrittenExpression, expression_tree};
-ghost use Rattle.sedre.specs.Steps.{TakesAtLeast};
+ghost use Rattle.sedre.specs.Steps.{TakesAtLeast, CostsWithin};
 ghost use Rattle.sedtext.specs.Answer.{SpanAnswer};
-ghost use Rattle.sedtext.specs.Costs.{CostsWithin};
 ghost use Rattle.sedtext.specs.Following.{CanEndEarly};
 ghost use Rattle.sedtext.specs.Links.{IsChain};
-ghost use Rattle.sedmatch.specs.Direct.{FirstSpan, IsDirect, bytes_looked_at};
+ghost use Rattle.sedmatch.specs.Direct.{FormSpans, IsDirect, bytes_looked_at};
 ghost use Rattle.sedmatch.specs.Passes.{AnswersMatch};
-ghost use Rattle.sedmatch.specs.Stretches.{end_or};
+ghost use Rattle.sedmatch.specs.Stretches.{FirstOf, end_or};
 
 use crate::Span;
-use crate::shapes::{form_at_ends, form_of, stem_of};
-use crate::stretches::{Stretch, stretch_span};
+use crate::stretches::{Stretch, stretch_at_ends, stretch_of, stretch_span};
 use memchr::memmem::Finder;
 use sedre::{ByteSet, Expr, Steps};
 use sedtext::counted::Text;
@@ -41,15 +36,6 @@ pub enum DirectForm {
     Literal(Finder<'static>),
 }
 
-/// For proofs: what was read is an expression, with no more nodes than one may have.
-#[inline(always)]
-pub(crate) fn is_expression(expr: &Expr)
-    ensures expr { IsExpr expr.now.nodes expr.now.groups }
-    ensures few { length expr.now.nodes ≤ 65536 }
-{
-    let (_groups, _nodes) = (expr.groups(), expr.nodes());
-}
-
 /// The direct form of the expression whose chain this is, if it has one. It fails only where a request for memory was refused.
 pub fn direct_form_of(
     alloc: Global,
@@ -60,13 +46,12 @@ pub fn direct_form_of(
     requires chain { IsChain expr.now.nodes (expression_tree expr.now) chain.now }
     ensures form { IfOk result (λ r. IfSome r (IsDirect expr.now)) }
 {
-    is_expression(expr);
     if expr.groups() > 0 {
         return Ok(None);
     }
     // A single byte is sought faster as a stretch than as a literal.
-    if let Some(stem) = stem_of(chain) {
-        return Ok(Some(form_of(stem)));
+    if let Some(stretch) = stretch_of(chain) {
+        return Ok(Some(DirectForm::Stretch(stretch)));
     }
     let bytes = literal_at(alloc, chain, 0)?;
     if bytes.len() == chain.len() {
@@ -79,8 +64,11 @@ pub fn direct_form_of(
     if chain.len() != 1 {
         return Ok(None);
     }
-    match alternatives_at(alloc, expr, chain, 0, steps)? {
-        Some((left, right)) => Ok(form_at_ends(&left, &right)),
+    let Some((left, right)) = alternatives_at(alloc, expr, chain, 0, steps)? else {
+        return Ok(None);
+    };
+    match stretch_at_ends(&left, &right) {
+        Some(stretch) => Ok(Some(DirectForm::Stretch(stretch))),
         None => Ok(None),
     }
 }
@@ -90,7 +78,7 @@ pub fn direct_form_of(
 #[inline(always)]
 fn form_span(form: &DirectForm, text: &Text, from: usize, steps: &mut Steps) -> Option<Span>
     requires from { from ≤ length text.now }
-    ensures span { FirstSpan form.now text.now from result }
+    ensures span { FirstOf (FormSpans form.now text.now) (length text.now) from result }
     ensures cost { CostsWithin steps.old steps.new (4 * (end_or (length text.now) result + 1)) (4 * from) }
     ensures counts { IfSome result (λ f. TakesAtLeast steps.old steps.new (bytes_looked_at form.now from f)) }
 {

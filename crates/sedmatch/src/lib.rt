@@ -11,13 +11,12 @@
 //! [`find`] seeks an expression that is used once, with its groups. It makes it ready for passes in the room of the scratch.
 //!
 //! All of them work in the room of a [`Scratch`], and take no memory.
-#![tactic(auto)]
+#![tactic(auto, unfolding(sedre::specs::Steps::TakesAtLeast, sedre::specs::Steps::IsCounted))]
 
 mod direct;
 mod occurrences;
 mod passes;
 mod scratch;
-mod shapes;
 mod stretches;
 mod table_matcher;
 mod table_room;

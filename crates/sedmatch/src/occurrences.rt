@@ -1,14 +1,14 @@
 //! All occurrences in one text, one after another.
-ghost use Rattle.std.specs.Prelude.{◌≡◌, ℕ, List, Option, false, if◌then◌else◌, ◌+◌, ◌*◌, ◌^◌, ◌<◌, ◌≤◌, length, IfOk, IfSome, IsTrue, slice_get, Some};
+ghost use Rattle.std.specs.Prelude.{◌≡◌, ℕ, List, Option, false, if◌then◌else◌, ◌+◌, ◌-◌, ◌*◌, ◌^◌, ◌<◌, ◌≤◌, length, IfOk, IfSome, IsTrue, nat_lt, slice_get, None, Some};
 ghost use Rattle.std.specs.Option.{unwrap_or};
 ghost use Rattle.sedre.specs.Tree.{WrittenExpression, expression_tree};
-ghost use Rattle.sedtext.specs.Costs.{CostsWithin};
+ghost use Rattle.sedre.specs.Steps.{Takes, TakesAtLeast, CostsWithin};
 ghost use Rattle.sedtext.specs.Following.{EndsWithin, OccursAfter, next_span};
-ghost use Rattle.sedtext.specs.Matching.{leftmost_longest, unless_null_at};
+ghost use Rattle.sedtext.specs.Matching.{leftmost_longest};
 ghost use Rattle.sedpass.specs.Search.{MaySearch, Searched, owed_after_search, owed_behind};
 ghost use Rattle.sedpass.specs.Table.{IsForwardOne, SameShape};
 ghost use Rattle.sedpass.specs.declared.table.Table.{Table};
-ghost use Rattle.sedmatch.specs.Occurrences.{HasTable, HaveOwn, IsReady, RoomAt, RoomFor, SearchTakes, ServesFrom, AnswersNext, owed_search};
+ghost use Rattle.sedmatch.specs.Occurrences.{HasTable, IsReady, RoomAt, RoomFor, ServesFrom, AnswersNext, owed_search};
 ghost use Rattle.sedmatch.specs.Passes.{IsSought};
 
 use crate::Span;
@@ -26,9 +26,6 @@ use std::alloc::{AllocError, Global};
 
 /// How many expressions have a table of their own at most.
 const MOST_OWN: usize = 256;
-
-/// How many states such a table has.
-const OWN_STATES: usize = 513;
 
 /// How the searches for all occurrences in one text go on.
 ///
@@ -54,24 +51,6 @@ pub struct Occurrences {
     is_fresh: bool,
 }
 
-/// Tables for passes from the text's end for the first of the expressions, those of them that have tables.
-fn own_tables(alloc: Global, matchers: &[TableMatcher]) -> Result<Vec<Option<Table>>, AllocError>
-    ensures { IfOk result (λ own. HaveOwn matchers.now own.items) }
-{
-    let count = matchers.len().min(MOST_OWN);
-    let mut own = Vec::with_capacity(alloc, count)?;
-    for x in 0..count {
-        let Some(prepared) = matchers[x].prepared() else {
-            own.push_reserved(None);
-            continue;
-        };
-        let mut table = Table::with_room(alloc, REVERSE_ANY, OWN_STATES, prepared.nodes())?;
-        table.fit(prepared);
-        own.push_reserved(Some(table));
-    }
-    Ok(own)
-}
-
 impl Occurrences {
     /// Room for texts of at most `max_text` bytes, which is 2^30 or less, and for these expressions, each by its number among them,
     /// of at most `max_nodes` nodes each, 1 to 65,536. Fails only where a request for memory was refused.
@@ -88,7 +67,11 @@ impl Occurrences {
         ensures { IfOk result (RoomFor max_text matchers.now) }
     {
         let width = width_for(max_text);
-        let own = own_tables(alloc, matchers)?;
+        let count = matchers.len().min(MOST_OWN);
+        let mut own = Vec::with_capacity(alloc, count)?;
+        for x in 0..count {
+            own.push_reserved(matchers[x].reverse_table(alloc)?);
+        }
         let kept = Kept::new(alloc, max_text, max_text / width + 1, max_nodes)?;
         let shared = Table::with_room(alloc, REVERSE_ANY, width + 1, max_nodes)?;
         Ok(Occurrences {
@@ -153,7 +136,8 @@ impl Occurrences {
 
 /// Whether a match is that of the null string at a place.
 pub fn is_null_at(span: Option<Span>, at: usize) -> bool
-    ensures passed { (other : Option (ℕ × ℕ)) → unless_null_at (λ (f : ℕ × ℕ). f) at span other ≡ if result then other else span }
+    ensures next { (search : ℕ → Option (ℕ × ℕ)) (n : ℕ) → span ≡ search at →
+        next_span search n (Some at) ≡ if result then (if nat_lt at n then search (at + 1) else None) else span }
     ensures null { IsTrue result → span ≡ Some (at, at) }
     ensures after { result ≡ false → IfSome span (λ f. at ≤ f.0 → f.0 ≤ f.1 → at < f.1) }
 {
@@ -182,7 +166,9 @@ fn next_with(
     ensures occurs { IfSome result (OccursAfter (expression_tree prepared.now.arena.expr) text.now last) }
     ensures cost { let m = length prepared.now.arena.expr.nodes in let n = length text.now in
         CostsWithin steps.old steps.new (owed_search m n last seeking.old) (owed_after_search (owed_behind m n seeking.new) result) }
-    ensures looks { SearchTakes (length prepared.now.arena.expr.nodes) (length text.now) (unwrap_or last 0) steps.old steps.new result }
+    ensures once { let m = length prepared.now.arena.expr.nodes in let n = length text.now in
+        Takes steps.old steps.new (64 * m * m * (n + 1) * (n + 1)) }
+    ensures counts { IfSome result (λ f. TakesAtLeast steps.old steps.new (f.1 - unwrap_or last 0)) }
 {
     let subject = Subject { prepared, text };
     let Some(at) = last else {

@@ -14,7 +14,7 @@ ghost use Rattle.sedmatch.specs.Passes.{ArePasses, IsDeskFor, KeepsDesk, KeepsPa
 use crate::Span;
 use crate::scratch::Desk;
 use crate::table_room::TableRoom;
-use sedpass::groups::{GroupRoom, GroupSpans, Tables, all_groups, decide};
+use sedpass::groups::{GroupRoom, GroupSpans, Tables, decide};
 use sedpass::kept::{Kept, Subject};
 use sedpass::nodes::Prepared;
 use sedpass::rows::Way;
@@ -39,6 +39,9 @@ pub const REVERSE_ANY: Way = Way {
     mirrored: true,
     all_starts: true,
 };
+
+/// How many states such a table has, where it serves one expression.
+pub const OWN_STATES: usize = 513;
 
 /// How many tables an expression has: three in [`Tables`], and `reverse_any` for all occurrences in a text.
 const TABLES: usize = 4;
@@ -168,8 +171,7 @@ fn groups_with(
     if subject.prepared.arena.groups() == 0 {
         return whole_alone(span);
     }
-    let due = all_groups(subject.prepared);
-    decide(subject, tables, room, due, span.0, span.1, steps)
+    decide(subject, tables, room, span.0, span.1, steps)
 }
 
 /// The same by the tables that serve all.

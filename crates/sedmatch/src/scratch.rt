@@ -34,15 +34,16 @@ pub struct Scratch {
 }
 
 impl Model for Scratch {
+    ghost use Rattle.std.specs.Prelude.{◌≤◌, vec_capacity};
     ghost use Rattle.sedtext.specs.SearchRoom.{SearchRoom};
 
     ghost Value = { SearchRoom };
 
-    ghost use Rattle.sedmatch.specs.Passes.{IsDesk, Prepares};
+    ghost use Rattle.sedmatch.specs.Passes.{IsDesk};
 
     ghost view = { λ s. record { text = s.desk.max_text; nodes = s.desk.max_nodes } };
 
-    ghost invariant = { λ s. IsDesk s.desk × Prepares s.desk.max_nodes s.prepared };
+    ghost invariant = { λ s. IsDesk s.desk × (s.desk.max_nodes ≤ s.prepared.arena.room) × (s.desk.max_nodes ≤ vec_capacity s.prepared.facts) };
 }
 
 impl Scratch {

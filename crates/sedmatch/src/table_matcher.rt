@@ -1,8 +1,7 @@
 //! An expression that is sought many times.
-ghost use Rattle.std.specs.Prelude.{◌≡◌, ℕ, ◌+◌, ◌-◌, ◌*◌, ◌≤◌, ◌↔◌, length, IfOk, IfSome, IsTrue, is_some};
+ghost use Rattle.std.specs.Prelude.{◌≡◌, ℕ, ◌+◌, ◌-◌, ◌*◌, ◌≤◌, ◌↔◌, length, IfOk, IfSome, IsTrue, Some, is_some};
 ghost use Rattle.sedre.specs.Tree.{WrittenExpression, expression_tree};
-ghost use Rattle.sedre.specs.Steps.{Takes, TakesAtLeast};
-ghost use Rattle.sedtext.specs.Costs.{CostsWithin};
+ghost use Rattle.sedre.specs.Steps.{Takes, TakesAtLeast, CostsWithin};
 ghost use Rattle.sedtext.specs.Following.{CanEndEarly, EndsWithin, LiesOn, OccursAfter, LooksPast, bytes_passed, next_span};
 ghost use Rattle.sedtext.specs.Matching.{leftmost_longest, reported_groups};
 ghost use Rattle.sedtext.specs.Answer.{SpanIn};
@@ -11,19 +10,22 @@ ghost use Rattle.sedtext.specs.SearchRoom.{FitInto};
 ghost use Rattle.sedtext.specs.Spans.{SomeFound, Matches};
 ghost use Rattle.sedmatch.specs.Candidates.{NoMatchBefore};
 ghost use Rattle.sedpass.specs.Decide.{spans_in};
+ghost use Rattle.sedpass.specs.Search.{owed_after_search};
 ghost use Rattle.sedpass.specs.Walks.{EntersGroups};
 ghost use Rattle.sedmatch.specs.Direct.{IsDirect};
-ghost use Rattle.sedmatch.specs.Occurrences.{ServesFrom, ServesOn, AnswersNext, owed, owed_after, owed_direct, owed_direct_after};
+ghost use Rattle.sedmatch.specs.Occurrences.{IsReverseAny, ServesFrom, ServesOn, AnswersNext, owed, owed_after, owed_direct};
 ghost use Rattle.sedmatch.specs.Passes.{ArePasses, IsDeskFor, KeepsDesk, KeepsPasses};
 
 use crate::Span;
-use crate::direct::{DirectForm, direct_form_of, direct_matches, direct_span, is_expression};
+use crate::direct::{DirectForm, direct_form_of, direct_matches, direct_span};
 use crate::occurrences::{Occurrences, is_null_at, next_by};
-use crate::passes::{Passes, groups_by, matches_by, new_passes, size_of, whole_alone};
+use crate::passes::{
+    OWN_STATES, Passes, REVERSE_ANY, groups_by, matches_by, new_passes, size_of, whole_alone,
+};
 use crate::scratch::{Desk, Scratch};
 use crate::stretches::find_first;
 use crate::table_room::TableRoom;
-use sedpass::nodes::Prepared;
+use sedpass::table::Table;
 use sedre::{Expr, Steps};
 use sedtext::beginnings::Begins;
 use sedtext::counted::Text;
@@ -74,7 +76,7 @@ fn next_direct(
     requires last { EndsWithin (length text.now) last }
     ensures next { (e : WrittenExpression) → IsDirect e form.now → result ≡ next_span (leftmost_longest (expression_tree e) text.now) (length text.now) last }
     ensures lies { IfSome result (LiesOn (length text.now) last) }
-    ensures cost { CostsWithin steps.old steps.new (owed_direct (length text.now) last) (owed_direct_after (length text.now) result) }
+    ensures cost { CostsWithin steps.old steps.new (owed_direct (length text.now) last) (owed_after_search (λ q. owed_direct (length text.now) (Some q)) result) }
     ensures counts { IfSome result (λ f. TakesAtLeast steps.old steps.new (f.1 - f.0)) }
     ensures passes { (e : WrittenExpression) → IsDirect e form.now → CanEndEarly (expression_tree e) → IfSome result (λ f. TakesAtLeast steps.old steps.new (bytes_passed last f)) }
 {
@@ -126,15 +128,14 @@ impl TableMatcher {
         ensures { IfOk result (λ m. m ≡ expr.now) }
     {
         let chain = chain_of(alloc, expr, steps)?;
-        let Some(form) = direct_form_of(alloc, expr, &chain, steps)? else {
-            let passes = Box::new(alloc, new_passes(alloc, expr, &chain, room, steps)?)?;
-            return Ok(TableMatcher {
-                engine: SearchMethod::Passes(passes),
-            });
+        let engine = match direct_form_of(alloc, expr, &chain, steps)? {
+            Some(form) => SearchMethod::Direct(expr.copy(alloc)?, form),
+            None => {
+                let passes = new_passes(alloc, expr, &chain, room, steps)?;
+                SearchMethod::Passes(Box::new(alloc, passes)?)
+            }
         };
-        Ok(TableMatcher {
-            engine: SearchMethod::Direct(expr.copy(alloc)?, form),
-        })
+        Ok(TableMatcher { engine })
     }
 
     /// Lets it go. By this call what it holds is proved to be let go of once, and not in each crate above.
@@ -158,16 +159,18 @@ impl TableMatcher {
         }
     }
 
-    /// The expression made ready for passes, if it has tables of its own.
-    pub(crate) fn prepared(&self) -> Option<&Prepared>
-        ensures { IfSome result (λ p. p.now.arena.expr ≡ self.now) }
+    /// A table of passes from the text's end, if it has tables of its own.
+    pub(crate) fn reverse_table(&self, alloc: Global) -> Result<Option<Table>, AllocError>
+        ensures { IfOk result (λ t. IfSome t (IsReverseAny self.now)) }
     {
         match &self.engine {
-            SearchMethod::Direct(_, _) => None,
-            SearchMethod::Passes(passes) => match &passes.own {
-                None => None,
-                Some(_) => Some(&passes.prepared),
-            },
+            SearchMethod::Passes(passes) if passes.own.is_some() => {
+                let prepared = &passes.prepared;
+                let mut table = Table::with_room(alloc, REVERSE_ANY, OWN_STATES, prepared.nodes())?;
+                table.fit(prepared);
+                Ok(Some(table))
+            }
+            _ => Ok(None),
         }
     }
 
@@ -184,7 +187,6 @@ impl TableMatcher {
     /// A place of a text of many lines before which no line has a match, each line taken as a text of its own; None where no
     /// line has one. It is found by what every match contains, a literal mostly. Where nothing of the kind is known, it is the
     /// first place.
-    #[tactic(auto, unfolding(sedre::specs::Steps::TakesAtLeast, sedre::specs::Steps::TakesExactly))]
     pub fn candidate(&self, text: &Text, steps: &mut Steps) -> Option<usize>
         ensures before { NoMatchBefore (expression_tree self.now) text.now result }
         ensures cost { Takes steps.old steps.new (25 * (length text.now + 1)) }
@@ -296,10 +298,7 @@ impl TableMatcher {
     {
         let span = (start, end);
         match &mut self.engine {
-            SearchMethod::Direct(expr, _) => {
-                is_expression(expr);
-                whole_alone(span)
-            }
+            SearchMethod::Direct(_, _) => whole_alone(span),
             SearchMethod::Passes(passes) => groups_by(passes, text, span, &mut scratch.desk, steps),
         }
     }

@@ -18,6 +18,7 @@ use sedtext::{Found, Text};
 /// It takes no memory, and its steps are bounded whatever the expression: where there is no match, and without groups, they are in
 /// proportion to the text. Conditions: `from` is at most the text's length, and the scratch has room for the text and the
 /// expression.
+#[tactic(auto)]
 pub fn find(
     expr: &Expr,
     text: &Text,

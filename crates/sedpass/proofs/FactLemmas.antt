@@ -1,6 +1,6 @@
 -- What is found out of each node once, and what it means for passes.
-use Rattle.std.proofs.Common.{◌≡◌, ℕ, zero, suc, ◌+◌, ◌*◌, ◌<◌, ◌≤◌, ◌⊎◌, ◌↔◌, Bool, true, false, ◌&&◌, List, [], ◌∷◌, ◌++◌, length, Option, Some, None, IsTrue, refl, sym, ap, ◌∙◌, subst, inl, inr, ⊎_elim, true≢false, arith, min, max, bit_and, bit_or, ◌||◌, slice_get, eqb}
-use Rattle.sedpass.proofs.Words.{bit_at, from_bool, option_eq, bit_at_and, bit_at_or, bit_at-lt, cases_lt, same_Some, none-some, size, IsArena, IsExpr, IsPart, FollowsParts, HasTwoParts, GroupsWithin, mirror, seen, Node, NodeId, Seq, Alt, Group, Star, Opt, Empty, Set, tree_at-node, tree_at-mirror, seen-length, Matches, no_copy, IsPlace, Matches-forward, node_at, Facts, PlaceKind, either-iff, both-iff}
+use Rattle.std.proofs.Common.{rules, ◌≡◌, ℕ, zero, suc, ◌+◌, ◌<◌, ◌≤◌, ◌⊎◌, ◌↔◌, Bool, true, false, ◌&&◌, List, [], ◌∷◌, ◌++◌, length, Option, Some, None, IsTrue, refl, sym, ap, ◌∙◌, subst, inl, inr, ⊎_elim, true≢false, arith, bit_and, bit_or, ◌||◌, slice_get, eqb}
+use Rattle.sedpass.proofs.Words.{option_eq, bit_at_and, bit_at_or, bit_at-lt, cases_lt, same_Some, none-some, size, IsArena, IsExpr, IsPart, FollowsParts, GroupsWithin, mirror, seen, Node, NodeId, Seq, Alt, Group, Star, Opt, Empty, Set, tree_at-node, tree_at-mirror, seen-length, Matches, no_copy, IsPlace, Matches-forward, node_at, Facts, PlaceKind, either-iff, both-iff}
 use Rattle.sedre.specs.Tree.{Tree, null_string, byte_of, text_begin, text_end, sequence, either_of, grouped, any_copies, one_or_none, WrittenExpression, tree_of, tree_at, tree_within}
 use Rattle.sedre.proofs.Written.{size_positive}
 use Rattle.sedpass.specs.Classes.{AreClasses, HaveSets}
@@ -34,14 +34,10 @@ module _ (w : List ℕ) (p : ℕ) (first last : Bool) (there : IsPlace w p first
 
 -- kinds by bits: those of both sets, and those of either
 pub null_both : (a b : ℕ) (first last : Bool) → null_at (bit_and a b) first last ≡ (null_at a first last && null_at b first last)
-null_both a b first last =
-    let k = from_bool first + 2 * from_bool last in
-    ap (λ x. eqb x 1) (bit_at_and a b k) ∙ two_bits (λ x y. eqb (min x y) 1 ≡ (eqb x 1 && eqb y 1)) refl refl refl refl (bit_at a k) (bit_at b k) (bit_at-lt a k) (bit_at-lt b k)
+null_both a b first last = search (rules, bit_at_and, two_bits, bit_at-lt)
 
 pub null_either : (a b : ℕ) (first last : Bool) → null_at (bit_or a b) first last ≡ (null_at a first last || null_at b first last)
-null_either a b first last =
-    let k = from_bool first + 2 * from_bool last in
-    ap (λ x. eqb x 1) (bit_at_or a b k) ∙ two_bits (λ x y. eqb (max x y) 1 ≡ (eqb x 1 || eqb y 1)) refl refl refl refl (bit_at a k) (bit_at b k) (bit_at-lt a k) (bit_at-lt b k)
+null_either a b first last = search (rules, bit_at_or, two_bits, bit_at-lt)
 
 and_swap : (a b : Bool) → (a && b) ≡ (b && a)
 and_swap true true = refl
@@ -60,10 +56,7 @@ nullable_mirror first last other = refl
 pub null_shows : (mirrored : Bool) (e : WrittenExpression) (kind : PlaceKind) (w : List ℕ) (p : ℕ) → IsPlace w p (at_begin mirrored kind) (at_edge mirrored kind) →
     AreNull (seen mirrored e).nodes w p (null_in e.nodes kind)
 null_shows false e kind w p there c low = nullable_is w p kind.begin kind.end there (tree_at e.nodes c)
-null_shows true e kind w p there c low =
-    let same : nullable kind.end kind.begin (tree_at (seen true e).nodes c) ≡ null_in e.nodes kind c =
-    ap (nullable kind.end kind.begin) (tree_at-mirror e.nodes c) ∙ nullable_mirror kind.end kind.begin (tree_at e.nodes c) in
-    rw (← same) (nullable_is w p kind.end kind.begin there (tree_at (seen true e).nodes c))
+null_shows true e kind w p there c low = search (rules, tree_at-mirror, nullable_mirror, nullable_is)
 
 -- trees are ranges
 
@@ -181,18 +174,6 @@ only : (x : ℕ) (node : Node) → slice_get empty_nodes x ≡ Some node → (0 
 only zero node is = (refl, same_Some Empty node is)
 only (suc x) node is = absurd (none-some node is)
 
-no_parts : (x : ℕ) (node : Node) (c : ℕ) → slice_get empty_nodes x ≡ Some node → IsPart node c → ⊥
-no_parts x node c is part = subst (λ n. IsPart n c) (sym (only x node is).1) part
-
-empty_arena : IsArena empty_nodes
-empty_arena = record {
-  nonempty = omega arith;
-  below = λ x c node is part. absurd (no_parts x node c is part);
-  distinct = λ x node is. subst HasTwoParts (only x node is).1 tt;
-  once = λ x y c node other is there part also. absurd (no_parts x node c is part);
-  each = λ c less. absurd (omega (arith, less));
-}
-
 one_tree : tree_at empty_nodes 0 ≡ null_string
 unfolding tree_at tree_within
 one_tree = refl
@@ -208,14 +189,7 @@ numbers : GroupsWithin empty_nodes 0
 numbers x k a is = let same = (only x (Group k a) is).1 in absurd cc
 
 pub empty_expr : IsExpr empty_nodes 0
-empty_expr = record {
-  arena = empty_arena;
-  sizes = sizes;
-  ranges = λ x node is. subst (FollowsParts empty_nodes x) (only x node is).1 tt;
-  numbers = numbers;
-  whole = one_node;
-  few = omega arith;
-}
+empty_expr = search (rules, sizes, only, numbers, one_node)
 
 facts_only : (shown : Facts) → IsFacts null_string 0 shown → AreFacts empty_nodes (shown ∷ [])
 facts_only shown facts zero here is = rw (← same_Some shown here is, one_tree) facts
@@ -226,9 +200,4 @@ no_sets x members is = let same = (only x (Set members) is).1 in absurd cc
 
 pub empty_prepared : (shown : Facts) (of : List ℕ) (count : ℕ) → IsFacts null_string 0 shown → ((nodes : List Node) → HaveSets nodes [] → AreClasses nodes of count) →
     IsPrepared (record { nodes = empty_nodes; groups = 0 }) 0 (shown ∷ []) of count
-empty_prepared shown of count facts classes = record {
-  last = refl;
-  all = refl;
-  facts = facts_only shown facts;
-  classes = classes empty_nodes no_sets;
-}
+empty_prepared shown of count facts classes = search (rules, facts_only, no_sets)

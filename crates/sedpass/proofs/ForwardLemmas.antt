@@ -1,9 +1,10 @@
 -- Passes for the whole expression.
-use Rattle.std.proofs.Common.{inl, inr, ◌≡◌, ℕ, ◌+◌, ◌-◌, ◌*◌, ◌/◌, ◌^◌, ◌<◌, ◌≤◌, ◌⊎◌, ◌↔◌, Bool, true, false, cond, List, length, Option, Some, None, IsTrue, refl, sym, ap, ◌∙◌, subst, ⊎_elim, true≢false, arith, mul-le-mul_left, min, slice_get, is_some, IfSome}
+use Rattle.std.proofs.Common.{rules, inl, inr, ◌≡◌, ℕ, ◌+◌, ◌-◌, ◌*◌, ◌/◌, ◌^◌, ◌<◌, ◌≤◌, ◌⊎◌, ◌↔◌, Bool, true, false, List, length, Option, Some, None, IsTrue, refl, sym, ap, ◌∙◌, subst, ⊎_elim, true≢false, arith, mul-le-mul_left, min, slice_get, is_some, IfSome}
+use Rattle.std.proofs.lemmas.Grind.{common_steps}
 use Rattle.std.specs.Bool.{then_some}
-use Rattle.sedpass.proofs.Words.{option_or, cases_lt, cases_Bool, both_ways, slice_get_within, IsArena, expression_tree, tree_at, Tree, seen, Node, Starts, TakesAtLeast, LooksPast, byte_is_in, HasSpan, IsStart, SomeSpan, IsLongestFrom, Matches, SomeFound, Matches-forward, Matches-within, IsPlace, StateFlags, PlaceKind, Prepared, Way, Table, Passed, seen-arena, seen-length, least_less, least_since, least_both}
+use Rattle.sedpass.proofs.Words.{option_or, cases_lt, cases_Bool, both_ways, slice_get_within, IsArena, expression_tree, Tree, Node, Starts, TakesAtLeast, LooksPast, HasSpan, IsStart, SomeSpan, IsLongestFrom, Matches, SomeFound, Matches-forward, Matches-within, IsPlace, StateFlags, PlaceKind, Prepared, Way, Table, Passed, seen-arena, seen-length, least_less, least_since, least_both}
 use Rattle.sedpass.specs.Rows.{nodes_of, at_begin, at_edge, RowOfPlace}
-use Rattle.sedpass.specs.Table.{PassState, state_of, FlagsShow, StateAt, LeadsOn, BeginsIn, NamesState, IsTable, IsForwardOne, SameShape, code_of}
+use Rattle.sedpass.specs.Table.{PassState, state_of, FlagsShow, LeadsOn, BeginsIn, NamesState, IsTable, IsForwardOne, SameShape, code_of}
 use Rattle.sedpass.specs.Forwards.{starts_of, LastBelow, IsPassEnd, Arrives, EndsBelow, PassIs, is_over}
 use Rattle.sedpass.proofs.RowLemmas.{dead, row_root, row_empty}
 use Rattle.sedpass.proofs.TableLemmas.{names_state, names_flags, names_shown, names_map}
@@ -46,16 +47,9 @@ end_below nodes w r s n (Some j) last = let low = last.0 in omega arith
 
 -- nothing ends before a start
 pub none_before : (p : Prepared) (way : Way) (w : List ℕ) (from : ℕ) → EndsBelow p way w from from None
-none_before p way w from k low some =
-    let after = some.1.0 in
-    let on = Matches-forward (tree_at (nodes_of way p.arena.expr) p.root) w some.0 k some.2 in
-    omega arith
+none_before p way w from k low some = search (rules, Matches-forward)
 
 -- At a place: a code of its state.
-
-over_why : (all_starts ends dead : Bool) → IsTrue (cond all_starts ends dead) → (IsTrue all_starts × IsTrue ends) ⊎ ((all_starts ≡ false) × IsTrue dead)
-over_why true ends dead h = inl (refl, h)
-over_why false ends dead h = inr (refl, h)
 
 not_over : (all_starts : Bool) (flags : StateFlags) → flags.ends ≡ false → flags.dead ≡ false → is_over all_starts flags ≡ false
 not_over true flags ends dead = ends
@@ -83,11 +77,7 @@ module _ (p : Prepared) (t : Table) (w : List ℕ) (start place code o : ℕ) (e
   is_shown = names_flags p t table (Arrives p t.way w start place) code o n shows flags shown
 
   ends_here : IsTrue flags.ends ↔ SomeSpan N w p.root S place
-  ends_here =
-      let law = row_root N w here.root place S t.way.mirrored here.entered here.ended arena arrived.1 in (
-        λ h. subst (λ r. SomeSpan N w r S place) arrived.0 (law.0 (sym is_shown.0 ∙ h)),
-        λ h. is_shown.0 ∙ law.1 (subst (λ r. SomeSpan N w r S place) (sym arrived.0) h),
-      )
+  ends_here = grind (arith, row_root, arena, arrived, is_shown)
 
   -- where no leaf is entered no match goes on
   dead_end : (noted : Option ℕ) → t.way.all_starts ≡ false → IsTrue flags.dead → EndsBelow p t.way w start (place + 1) noted → IsPassEnd t.way.all_starts N w p.root S noted
@@ -110,16 +100,7 @@ module _ (p : Prepared) (t : Table) (w : List ℕ) (start place code o : ℕ) (e
       (λ (is : flags.ends ≡ false). subst (EndsBelow p t.way w start (place + 1)) (sym (is_noted ∙ ap (λ b. option_or (then_some b place) end) is))
       (last_step N w p.root S place end (λ some. both_ways flags.ends is (ends_here.1 some)) last))
       (cases_Bool flags.ends) in
-      record {
-        after = after;
-        within = within;
-        arrived = arrived;
-        last = all;
-        over = λ h. ⊎_elim
-            (λ (swept : IsTrue t.way.all_starts × IsTrue flags.ends). subst (IsPassEnd t.way.all_starts N w p.root S) (ends swept.1) (ends_here.0 swept.1, λ single. absurd (both_ways t.way.all_starts single swept.0)))
-            (λ (d : (t.way.all_starts ≡ false) × IsTrue flags.dead). dead_end noted d.0 d.1 all)
-            (over_why t.way.all_starts flags.ends flags.dead h);
-      }
+      search (rules, arrived, ends_here, both_ways, dead, dead_end)
 
   -- where the state shows nothing the pass goes on
   pub arrive_plain : ((f : StateFlags) (u : ℕ) → u < 536870912 → code ≡ code_of f u → (f.ends ≡ false) × (f.dead ≡ false)) → PassIs p t w start (record { offset = o; place = place; end = end; over = false })
@@ -132,11 +113,7 @@ module _ (p : Prepared) (t : Table) (w : List ℕ) (start place code o : ℕ) (e
 
 pub arrives_next : (p : Prepared) (way : Way) (w : List ℕ) (start place byte : ℕ) (edge : Bool) (a b : PassState) → start ≤ place → slice_get w place ≡ Some byte → place < length w → (IsTrue edge ↔ (place + 1 ≡ length w)) →
     Arrives p way w start place a → LeadsOn (nodes_of way p.arena.expr) way a byte edge b → Arrives p way w start (place + 1) b
-arrives_next p way w start place byte edge a b after is inside edges here leads = (
-  leads.0 ∙ here.0,
-  subst (λ r. StateAt (nodes_of way p.arena.expr) w (starts_of way.all_starts start w) way.mirrored (place + 1) (record { root = r; entered = b.entered; ended = b.ended })) (sym leads.0)
-      (leads.1 w (starts_of way.all_starts start w) place (λ x m set. ap (λ o. byte_is_in o m) is) edges (next_start way.all_starts start w place after inside) here.1),
-)
+arrives_next p way w start place byte edge a b after is inside edges here leads = search rules
 
 -- a pass goes on, in the table as it was or in one that was added to
 pub goes_on : (p : Prepared) (t u : Table) (w : List ℕ) (start byte code : ℕ) (edge : Bool) (mid next : Passed) → u.way ≡ t.way → PassIs p t w start mid → slice_get w mid.place ≡ Some byte → (IsTrue edge ↔ (mid.place + 1 ≡ length w)) →
@@ -180,23 +157,11 @@ arrives_first p way w from kind a mirrored low begin end begins =
 
 pub pass_end : (p : Prepared) (t : Table) (w : List ℕ) (start : ℕ) (at : Passed) → start ≤ length w → PassIs p t w start at → (at.over ≡ true) ⊎ (length w ≤ at.place) →
     IsPassEnd t.way.all_starts (nodes_of t.way p.arena.expr) w p.root (starts_of t.way.all_starts start w) at.end
-pass_end p t w start at low pass done =
-    ⊎_elim
-    (λ (over : at.over ≡ true). pass.over over)
-    (λ (last : length w ≤ at.place).
-    let nodes = nodes_of t.way p.arena.expr in
-    all_below nodes w p.root (starts_of t.way.all_starts start w) t.way.all_starts (at.place + 1) at.end
-    (λ k late some.
-    let within = Matches-within (tree_at nodes p.root) w some.0 k (last_start t.way.all_starts start w some.0 low some.1) some.2 in
-    omega arith)
-    pass.last)
-    done
+pass_end p t w start at low pass done = search (rules, arena, all_below, Matches-within, last_start)
 
 -- the last node matches what the expression does
 pub root_spans : (p : Prepared) (w : List ℕ) (i k : ℕ) → HasSpan p.arena.expr.nodes w p.root i k ↔ Matches (expression_tree p.arena.expr) w i k
-root_spans p w i k =
-    let last : length p.arena.expr.nodes - 1 ≡ p.root = (let all = p.is_prepared.last in omega arith) in
-    (subst (λ x. Matches (tree_at p.arena.expr.nodes x) w i k) (sym last), subst (λ x. Matches (tree_at p.arena.expr.nodes x) w i k) last)
+root_spans p w i k = search rules
 
 module _ (p : Prepared) (w : List ℕ) (from : ℕ) where
   pub end_longest : (end : Option ℕ) → IsPassEnd false p.arena.expr.nodes w p.root (starts_of false from w) end → IsLongestFrom (expression_tree p.arena.expr) w from end
@@ -217,25 +182,13 @@ module _ (p : Prepared) (w : List ℕ) (from : ℕ) where
   pub end_passes : (all_starts : Bool) (s t place : ℕ) → from ≤ length w → (end : Option ℕ) → IsPassEnd all_starts p.arena.expr.nodes w p.root (starts_of all_starts from w) end → IfSome end (λ j. j ≤ place) →
       TakesAtLeast s t (2 * (place - from) + 1) → IfSome end (λ j. LooksPast (expression_tree p.arena.expr) w from s t)
   end_passes all_starts s t place low None is ended looks = tt
-  end_passes all_starts s t place low (Some j) is ended looks =
-      let some = is.0 in
-      let after = some.1.0 in
-      record {
-        start = some.0;
-        end = j;
-        later = after;
-        within = Matches-within (tree_at p.arena.expr.nodes p.root) w some.0 j (last_start all_starts from w some.0 low some.1) some.2;
-        spans = (root_spans p w some.0 j).0 some.2;
-        bytes = least_less s t (2 * (place - from) + 1) (j - some.0) looks (omega (arith, ended, after));
-        passed = λ early. least_less s t (2 * (place - from) + 1) (j - from) looks (omega (arith, ended));
-      }
+  end_passes all_starts s t place low (Some j) is ended looks = grind (arith, common_steps, Matches-within, arena, last_start, root_spans, least_less)
 
 -- of a pass forwards that is over, or came to the text's end
 module _ (p : Prepared) (way : Way) (t : Table) (w : List ℕ) (from : ℕ) (at : Passed) (same : t.way ≡ way) (mirrored : way.mirrored ≡ false) (low : from ≤ length w) (pass : PassIs p t w from at)
     (done : (at.over ≡ true) ⊎ (length w ≤ at.place)) where
   seen_end : IsPassEnd way.all_starts p.arena.expr.nodes w p.root (starts_of way.all_starts from w) at.end
-  seen_end = subst (λ b. IsPassEnd way.all_starts (seen b p.arena.expr).nodes w p.root (starts_of way.all_starts from w) at.end) mirrored
-      (subst (λ (x : Way). IsPassEnd x.all_starts (nodes_of x p.arena.expr) w p.root (starts_of x.all_starts from w) at.end) same (pass_end p t w from at low pass done))
+  seen_end = search (rules, arena, pass_end)
 
   pub run_longest : way.all_starts ≡ false → IsLongestFrom (expression_tree p.arena.expr) w from at.end
   run_longest single = end_longest p w from at.end (subst (λ b. IsPassEnd b p.arena.expr.nodes w p.root (starts_of b from w) at.end) single seen_end)
@@ -248,25 +201,13 @@ module _ (p : Prepared) (way : Way) (t : Table) (w : List ℕ) (from : ℕ) (at 
 
 -- a table of passes forwards from one start is one still
 pub forward_one_still : (p : Prepared) (a b : Table) → IsForwardOne p a → IsTable p b → SameShape a b → IsForwardOne p b
-forward_one_still p a b is table shape = record {
-  table = table;
-  forwards = ap (λ v. v.mirrored) shape.0 ∙ is.forwards;
-  single = ap (λ v. v.all_starts) shape.0 ∙ is.single;
-}
+forward_one_still p a b is table shape = search rules
 
 -- What is passed over.
 
 -- what passes over a match from a later place on does so from an earlier one, where the looks before went as far
 pub passes_later : (e : Tree) (w : List ℕ) (p q s t u : ℕ) → p ≤ q → s ≤ t → TakesAtLeast s t (q - p) → LooksPast e w q t u → LooksPast e w p s u
-passes_later e w p q s t u low grows looks over = record {
-  start = over.start;
-  end = over.end;
-  later = (let later = over.later in omega (arith, low, later));
-  within = over.within;
-  spans = over.spans;
-  bytes = least_since s t u (over.end - over.start) grows over.bytes;
-  passed = λ early. least_both s t u (q - p) (over.end - q) (over.end - p) looks (over.passed early) (omega (arith, low));
-}
+passes_later e w p q s t u low grows looks over = search (rules, least_since, least_both)
 
 -- where a pass finds an end, it passed over a match
 pub passes_shown : (e : Tree) (w : List ℕ) (p s t : ℕ) (end : Option ℕ) (shown : Bool) → shown ≡ is_some end → IfSome end (λ j. LooksPast e w p s t) → IsTrue shown → LooksPast e w p s t

@@ -1,5 +1,6 @@
 -- The bits of a set of groups.
-use Rattle.std.proofs.Common.{◌≡◌, ℕ, zero, suc, ◌-◌, ◌*◌, ◌%◌, ◌^◌, ◌<◌, ◌≤◌, Bool, true, false, ◌&&◌, ◌||◌, not, IsTrue, refl, sym, ap, ◌∙◌, ⊎_elim, true≢false, max, min, arith, bit_and, bit_or, w16, eqb, nat_lt}
+use Rattle.std.proofs.Common.{rules, ◌≡◌, ℕ, zero, suc, ◌-◌, ◌*◌, ◌%◌, ◌^◌, ◌<◌, ◌≤◌, Bool, true, false, ◌&&◌, ◌||◌, not, IsTrue, refl, ap, ◌∙◌, ⊎_elim, min, arith, bit_and, bit_or, w16, eqb, nat_lt}
+use Rattle.std.proofs.lemmas.Grind.{common_steps}
 use Rattle.sedpass.proofs.Words.{bit_at, trailing_zeros, and-false, mod-eq_of_lt, bit_at_or, bit_at_and, bit_at_not, bit_at-lt, bit_at-zero, bit_at-pow_same, bit_at-pow_other, bit_at_above, bit_at_ones, bit_at-trailing_zeros, and_le_r, ne_eqb, and_parts, and_from, cases_lt, cases_eq, eqb-true, eq-eqb, lt-ltb, ltb-true, GroupSet}
 use Rattle.std.proofs.Math.Pow.{pow_mono}
 use Rattle.sedpass.specs.Prepared.{reported, holds}
@@ -16,10 +17,6 @@ two_bits P p q r s (suc zero) (suc zero) small small' = s
 two_bits P p q r s (suc (suc a)) b small small' = absurd (omega (arith, small))
 two_bits P p q r s a (suc (suc b)) small small' = absurd (omega (arith, small'))
 
-both_or : (l x y : Bool) → (l && (x || y)) ≡ ((l && x) || (l && y))
-both_or true x y = refl
-both_or false x y = refl
-
 both_not : (l x y : Bool) → (l && (x && not y)) ≡ ((l && x) && not (l && y))
 both_not true x y = refl
 both_not false x y = refl
@@ -29,9 +26,7 @@ under true x y same = same refl
 under false x y same = refl
 
 pub holds_union : (a b k : ℕ) → holds (of_bits (bit_or a b)) k ≡ (holds (of_bits a) k || holds (of_bits b) k)
-holds_union a b k =
-    ap (λ x. nat_lt k 10 && eqb x 1) (bit_at_or a b k) ∙ ap (λ x. nat_lt k 10 && x) (two_bits (λ x y. eqb (max x y) 1 ≡ (eqb x 1 || eqb y 1)) refl refl refl refl (bit_at a k) (bit_at b k) (bit_at-lt a k) (bit_at-lt b k))
-    ∙ both_or (nat_lt k 10) (eqb (bit_at a k) 1) (eqb (bit_at b k) 1)
+holds_union a b k = search (rules, bit_at_or, two_bits, bit_at-lt)
 
 pub holds_without : (a b k : ℕ) → b < 65536 → holds (of_bits (bit_and a (65535 - b))) k ≡ (holds (of_bits a) k && not (holds (of_bits b) k))
 holds_without a b k small =
@@ -43,22 +38,7 @@ holds_without a b k small =
     ∙ both_not (nat_lt k 10) (eqb (bit_at a k) 1) (eqb (bit_at b k) 1)
 
 pub holds_one : (k n : ℕ) → 1 ≤ k → k ≤ 9 → holds (of_bits (1 * 2 ^ k % 65536)) n ≡ (reported n && eqb k n)
-holds_one k n low high =
-    let most : 2 ^ k ≤ 2 ^ 9 = pow_mono high in
-    let whole : 1 * 2 ^ k % 65536 ≡ 2 ^ k = mod-eq_of_lt (let h : 1 * 2 ^ k < 65536 = omega (arith, most) in h) ∙ (let h : 1 * 2 ^ k ≡ 2 ^ k = omega arith in h) in
-    ap (λ x. nat_lt n 10 && eqb (bit_at x n) 1) whole
-    ∙ ⊎_elim
-    (λ (e : n ≡ k).
-    let bit : bit_at (2 ^ k) n ≡ 1 = ap (bit_at (2 ^ k)) e ∙ bit_at-pow_same k in
-    let below : nat_lt n 10 ≡ true = lt-ltb n 10 (omega arith) in
-    let some : nat_lt 0 n ≡ true = lt-ltb 0 n (omega arith) in
-    let same : eqb k n ≡ true = eq-eqb k n (sym e) in
-    rw (bit, below, some, same) refl)
-    (λ (ne : n ≡ k → ⊥).
-    let bit : bit_at (2 ^ k) n ≡ 0 = bit_at-pow_other k n ne in
-    let other : eqb k n ≡ false = ne_eqb k n (λ e. ne (sym e)) in
-    ap (λ x. nat_lt n 10 && eqb x 1) bit ∙ and-false (nat_lt n 10) ∙ sym (ap (λ x. reported n && x) other ∙ and-false (reported n)))
-    (cases_eq n k)
+holds_one k n low high = grind (arith, common_steps, pow_mono, mod-eq_of_lt, bit_at-pow_same, lt-ltb, eq-eqb, bit_at-pow_other, ne_eqb, and-false, cases_eq)
 
 bit_true : (n k : ℕ) → eqb (bit_at n k) 1 ≡ true → bit_at n k ≡ 1
 bit_true n k h = eqb-true (bit_at n k) 1 h
@@ -84,9 +64,3 @@ in_both a b k one other none =
     let y = bit_true b k (and_parts (nat_lt k 10) (eqb (bit_at b k) 1) other).1 in
     let ones : bit_at 1023 k ≡ 1 = bit_at_ones 10 k low in
     omega (arith, x, y, ones, bit_at_and (bit_and a b) 1023 k, bit_at_and a b k, ap (λ n. bit_at n k) none, bit_at-zero k)
-
-pub not_none : (n : ℕ) → IsTrue (not (eqb n 0)) → n ≡ 0 → ⊥
-not_none n h e = true≢false (sym h ∙ ap not (eq-eqb n 0 e))
-
-pub some_left : (n : ℕ) → (n ≡ 0 → ⊥) → IsTrue (not (eqb n 0))
-some_left n ne = ap not (ne_eqb n 0 ne)

@@ -1,6 +1,6 @@
 -- How a part is left, by what follows it in its node, and what a node is left to that nothing follows.
 use Rattle.std.proofs.Common.{◌≡◌, ℕ, ◌+◌, ◌-◌, ◌<◌, ◌≤◌, ◌⊎◌, ◌↔◌, true, List, length, reverse, Some, refl, sym, ap, ◌∙◌, subst, inl, inr, ⊎_elim, arith, slice_get}
-use Rattle.sedpass.proofs.Words.{cases_lt, IsArena, IsPart, HasTwoParts, WrittenExpression, tree_at, mirror_node, seen, seen-node, old_node, Node, Seq, Alt, Group, Star, Opt, Starts, no_copy, HasSpan, BeginsWith, IsStart, one_start, Enters, at_root, with_whole, after_left, again, CanEnd, Matches-forward, close_at, same_node, HasSpan-mirror}
+use Rattle.sedpass.proofs.Words.{cases_lt, IsArena, IsPart, HasTwoParts, WrittenExpression, tree_at, mirror_node, seen, seen-node, old_node, Node, Seq, Alt, Group, Star, Opt, Starts, no_copy, HasSpan, BeginsWith, IsStart, Enters, at_root, with_whole, after_left, again, CanEnd, Matches-forward, close_at, same_node, HasSpan-mirror}
 use Rattle.sedpass.specs.Regions.{EndsWith, CanLeave, at_end, with_end, before_right, before_copies, ReachesEnd, EndsPastIn, Opposite, IsLastPart, IsLastIn, all_of, last_of}
 
 -- how the part c of the node at y is left at i
@@ -102,17 +102,6 @@ module _ (nodes : List Node) (w : List ℕ) (r : ℕ) (t : Starts) (arena : IsAr
 pub reaches_ends : (nodes : List Node) (w : List ℕ) (r x p : ℕ) (t : Starts) → IsArena nodes → IsLastIn nodes r x → ReachesEnd nodes w r t x p ↔ ((k : ℕ) × IsStart t k × HasSpan nodes w x p k)
 reaches_ends nodes w r x p t arena last = (λ h. (h.0, last-leaves nodes w r t arena x h.0 last h.2, h.1), λ h. (h.0, h.2, CanLeave-last nodes w r t arena x h.0 last h.1))
 
-pub reaches_last : (nodes : List Node) (w : List ℕ) (r j x p : ℕ) → IsArena nodes → IsLastIn nodes r x → ReachesEnd nodes w r (one_start j) x p ↔ HasSpan nodes w x p j
-reaches_last nodes w r j x p arena last =
-    let both = reaches_ends nodes w r x p (one_start j) arena last in (
-      λ h.
-          let g = both.0 h in
-          let stop = g.1 in
-          let same : g.0 ≡ j = omega arith in
-          subst (λ v. HasSpan nodes w x p v) same g.2,
-      λ at. both.1 (j, (omega arith, omega arith), at),
-    )
-
 -- a node ends with a byte or without
 pub ends_at : (nodes : List Node) (w : List ℕ) (r x q : ℕ) (s : Starts) → EndsPastIn nodes w r s x q ↔ (CanEnd nodes w r s x q ⊎ (Enters nodes w r s x q × HasSpan nodes w x q q))
 ends_at nodes w r x q s = (
@@ -127,14 +116,10 @@ ends_at nodes w r x q s = (
   λ h. elim h [ inl ends ↦ (ends.0, ends.2, ends.3) | inr null ↦ (q, null.0, null.1) ],
 )
 
--- a part that begins where the mirrored node does ends where the node does
-begins-ends : (node : Node) (c : ℕ) → BeginsWith node c → EndsWith (mirror_node node) c
-begins-ends (Seq a b) c h = h
-begins-ends other c h = h
-
-ends-begins : (node : Node) (c : ℕ) → EndsWith node c → BeginsWith (mirror_node node) c
-ends-begins (Seq a b) c h = h
-ends-begins other c h = h
+-- a part that begins where the node does ends where the mirrored one does, and the other way about
+sides : (node : Node) (c : ℕ) → (BeginsWith node c → EndsWith (mirror_node node) c) × (EndsWith node c → BeginsWith (mirror_node node) c)
+sides (Seq a b) c = (λ h. h, λ h. h)
+sides other c = (λ h. h, λ h. h)
 
 pub twice : (node : Node) → mirror_node (mirror_node node) ≡ node
 twice (Seq a b) = refl
@@ -152,7 +137,7 @@ module _ (e : WrittenExpression) (w : List ℕ) (r : ℕ) (s t : Starts) (arena 
   pub CanLeave-mirror : (x i d : ℕ) → i + d ≡ length w → CanLeave e.nodes w r t x i → Enters (seen true e).nodes (reverse w) r s x d
   CanLeave-mirror x i d sum (at_end _ _ last stop) = at_root x d last ((opposite i d sum).1 stop)
   CanLeave-mirror x i d sum (with_end y _ _ node is ends l) =
-      with_whole y x d (mirror_node node) (seen-node true e y node is) (ends-begins node x ends) (CanLeave-mirror y i d sum l)
+      with_whole y x d (mirror_node node) (seen-node true e y node is) ((sides node x).1 ends) (CanLeave-mirror y i d sum l)
   CanLeave-mirror x i d sum (before_right y _ _ k a b is left l at) =
       let top = CanLeave-to e.nodes w r t arena y k l in
       let g = length w - k in
@@ -169,7 +154,7 @@ module _ (e : WrittenExpression) (w : List ℕ) (r : ℕ) (s t : Starts) (arena 
   pub CanLeave-unmirror : (x d i : ℕ) → i + d ≡ length w → Enters (seen true e).nodes (reverse w) r s x d → CanLeave e.nodes w r t x i
   CanLeave-unmirror x d i sum (at_root _ _ last start) = at_end x i last ((opposite i d sum).0 start)
   CanLeave-unmirror x d i sum (with_whole y _ _ node is begins enters) =
-      with_end y x i (mirror_node node) (unmirrored y node is) (begins-ends node x begins) (CanLeave-unmirror y d i sum enters)
+      with_end y x i (mirror_node node) (unmirrored y node is) ((sides node x).0 begins) (CanLeave-unmirror y d i sum enters)
   CanLeave-unmirror x d i sum (after_left y _ g _ a b is right enters at) =
       let on = Matches-forward (tree_at (seen true e).nodes a.index) (reverse w) g d at in
       let k = length w - g in

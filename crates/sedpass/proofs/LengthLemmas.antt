@@ -1,5 +1,5 @@
 -- Spans of one length, and the cuts and copies that it decides.
-use Rattle.std.proofs.Common.{◌≡◌, ℕ, ◌+◌, ◌-◌, ◌<◌, ◌≤◌, List, Option, Some, None, eqb, refl, sym, ap, ◌∙◌, subst, ⊎_elim, arith}
+use Rattle.std.proofs.Common.{rules, ◌≡◌, ℕ, ◌+◌, ◌-◌, ◌<◌, ◌≤◌, List, Option, Some, None, eqb, refl, sym, ap, ◌∙◌, subst, ⊎_elim, arith}
 use Rattle.sedpass.proofs.Words.{cases_lt, eqb-true, cond_some, Tree, byte_of, sequence, either_of, grouped, any_copies, one_or_none, CopiesLead, no_copy, one_more, Matches, LastCut, LastCopy, only, then_copy, CopiesLead-forward}
 use Rattle.sedpass.specs.Prepared.{sum_of, same_of, length_of, AllLong}
 
@@ -34,23 +34,10 @@ all_long other w n is i j s = let zero_long : 0 ≡ n = cc in omega arith
 
 module _ (A B : ℕ → ℕ → Type 0) (i j n : ℕ) (some : (k : ℕ) × A i k × B k j) where
   pub left_long : AllLong A n → LastCut A B i j (i + n)
-  left_long long =
-      let here : some.0 ≡ i + n = long i some.0 some.1 in
-      record {
-        left = subst (λ v. A i v) here some.1;
-        right = subst (λ v. B v j) here some.2;
-        greatest = λ l left right. let same = long i l left in omega arith;
-      }
+  left_long long = search rules
 
   pub right_long : AllLong B n → LastCut A B i j (j - n)
-  right_long long =
-      let end : j ≡ some.0 + n = long some.0 j some.2 in
-      let here : some.0 ≡ j - n = omega arith in
-      record {
-        left = subst (λ v. A i v) here some.1;
-        right = subst (λ v. B v j) here some.2;
-        greatest = λ l left right. let same : j ≡ l + n = long l j right in omega arith;
-      }
+  right_long long = search rules
 
 -- of copies of one length the last one begins that much before the end
 pub copies_long : (R : ℕ → ℕ → Type 0) (j n : ℕ) → AllLong R n → (i : ℕ) → i < j → CopiesLead R j i → LastCopy R j i (j - n)

@@ -1,7 +1,7 @@
 -- Where a pass forwards over a part and a pass backwards over what holds the part meet, a match of the part goes on and
 -- the end is reached.
 use Rattle.std.proofs.Common.{◌≡◌, ℕ, zero, suc, ◌+◌, ◌-◌, ◌<◌, ◌≤◌, ◌⊎◌, ◌↔◌, Bool, List, length, Some, refl, sym, ◌∙◌, subst, inl, inr, ⊎_elim, arith, slice_get}
-use Rattle.sedpass.proofs.Words.{cases_lt, slice_get_within, IsArena, tree_at, Node, NodeId, Empty, Set, Begin, End, Seq, Alt, Group, Star, Opt, Starts, CopiesLead, no_copy, one_more, LastCut, LastCopy, only, then_copy, IsRepetitionOf, HasSpan, BeginsWith, IsStart, one_start, Enters, at_root, with_whole, after_left, again, Matches-forward, CopiesLead-forward, CopiesLead-append, open_at, close_at, Enters-inside, star_copies, BeginsWith-part, node_at}
+use Rattle.sedpass.proofs.Words.{cases_lt, slice_get_within, IsArena, IsPart, tree_at, Node, NodeId, Empty, Set, Begin, End, Seq, Alt, Group, Star, Opt, Starts, CopiesLead, no_copy, one_more, LastCut, LastCopy, only, then_copy, IsRepetitionOf, HasSpan, BeginsWith, IsStart, one_start, Enters, at_root, with_whole, after_left, again, Matches-forward, CopiesLead-forward, CopiesLead-append, open_at, close_at, Enters-inside, star_copies, BeginsWith-part, node_at}
 use Rattle.sedpass.specs.Regions.{CanLeave, with_end, before_right, before_copies, ReachesEnd, IsLastIn, all_of, MeetsAt, CeasesAt, NextCopy, IsRunOf, repeated, in_group}
 use Rattle.sedtext.proofs.FixedRunLemmas.{CopiesLead-join}
 use Rattle.sedpass.proofs.LeaveLemmas.{OutOf, CanLeave-part, CanLeave-to, last_inside, last-leaves, CanLeave-last}
@@ -56,6 +56,9 @@ module _ (nodes : List Node) (w : List ℕ) (r : ℕ) (t : Starts) (a : ℕ) (s 
   abbrev Onwards : ℕ → ℕ → Type 0
   Onwards p q = (i : ℕ) × (k : ℕ) × IsStart s i × (i ≤ p) × (q ≤ k) × HasSpan nodes w a i k × CanLeave nodes w r t a k
 
+  onto : (p p' q q' : ℕ) → p' ≤ p → q ≤ q' → Onwards p' q' → Onwards p q
+  onto p p' q q' low high all = (all.0, all.1, all.2, omega (arith, low, all.3), omega (arith, high, all.4), all.5, all.6)
+
   -- sound: a node in a that is entered at p, spans p to q and is left at q is in a match of a, at whose end a is left
   pub meets_on : (x p : ℕ) → Enters nodes w a s x p → (q : ℕ) → HasSpan nodes w x p q → CanLeave nodes w r t x q → Onwards p q
   meets_on x p (at_root _ _ last begin) q at leaves =
@@ -64,21 +67,14 @@ module _ (nodes : List Node) (w : List ℕ) (r : ℕ) (t : Starts) (a : ℕ) (s 
       let up = Enters-inside nodes w a s arena y p enters in
       let out = CanLeave-part nodes w r t arena y (omega arith) x q node is (BeginsWith-part node x begins) leaves in
       let wide = wider y x node is begins p q at out in
-      let on = wide.1 in
-      let all = meets_on y p enters wide.0 wide.2 wide.3 in
-      let low = all.3 in
-      let high = all.4 in
-      (all.0, all.1, all.2, low, omega arith, all.5, all.6)
+      onto p p q wide.0 (omega arith) wide.1 (meets_on y p enters wide.0 wide.2 wide.3)
   meets_on x p (after_left y _ i _ b c is right enters left) q at leaves =
       let up = Enters-inside nodes w a s arena y i enters in
       let before = Matches-forward (tree_at nodes b.index) w i p left in
       ⊎_elim
       (λ (last : (c.index ≡ x) × CanLeave nodes w r t y q).
       let whole = close_at nodes w y (Seq b c) arena is i q (p, left, subst (λ v. HasSpan nodes w v p q) (sym right) at) in
-      let all = meets_on y i enters q whole last.1 in
-      let low = all.3 in
-      let high = all.4 in
-      (all.0, all.1, all.2, omega arith, high, all.5, all.6))
+      onto p i q q before (omega arith) (meets_on y i enters q whole last.1))
       (λ (first : (b.index ≡ x) × ((k : ℕ) × CanLeave nodes w r t y k × HasSpan nodes w c.index q k)).
       absurd (arena.distinct y (Seq b c) is (first.0 ∙ sym right)))
       (CanLeave-part nodes w r t arena y (omega arith) x q (Seq b c) is (inr right) leaves)
@@ -92,76 +88,49 @@ module _ (nodes : List Node) (w : List ℕ) (r : ℕ) (t : Starts) (a : ℕ) (s 
       let copy = subst (λ v. HasSpan nodes w v p q) (sym inner) at in
       let from_p = CopiesLead-before (HasSpan nodes w b.index) out.0 q p (Matches-forward (tree_at nodes x) w p q at) copy tail in
       let whole = close_at nodes w y (Star b first) arena is i out.0 (CopiesLead-join (HasSpan nodes w b.index) out.0 p i head from_p) in
-      let all = meets_on y i enters out.0 whole out.1 in
-      let low = all.3 in
-      let high = all.4 in
-      (all.0, all.1, all.2, omega arith, omega arith, all.5, all.6)
+      onto p i q out.0 before behind (meets_on y i enters out.0 whole out.1)
 
   -- complete: a span that passes p, at whose end its node is left, has a set at p that is marked
   module _ (p : ℕ) where
-    passes : (n x : ℕ) (node : Node) → slice_get nodes x ≡ Some node → x < n → (i k : ℕ) → Enters nodes w a s x i → CanLeave nodes w r t x k → HasSpan nodes w x i k → i ≤ p → p < k → MeetsAt nodes w r t a s p
-    passes zero x node is less i k enters leaves at low high = absurd (omega arith)
-    passes (suc n) x Empty is less i k enters leaves at low high =
-        let f = open_at nodes w x Empty arena is i k at in absurd (omega arith)
-    passes (suc n) x (Set members) is less i k enters leaves at low high =
-        let f = open_at nodes w x (Set members) arena is i k at in
-        let same : i ≡ p = (let end = f.3 in omega arith) in
-        (x, members, is, subst (λ v. Enters nodes w a s x v) same enters, (k, subst (λ v. HasSpan nodes w x v k) same at, leaves))
-    passes (suc n) x Begin is less i k enters leaves at low high =
-        let f = open_at nodes w x Begin arena is i k at in absurd (omega arith)
-    passes (suc n) x End is less i k enters leaves at low high =
-        let f = open_at nodes w x End arena is i k at in absurd (omega arith)
-    passes (suc n) x (Seq b c) is less i k enters leaves at low high =
-        let f = open_at nodes w x (Seq b c) arena is i k at in
-        let top = slice_get_within nodes x (Seq b c) is in
-        let below = arena.below x b.index (Seq b c) is (inl refl) in
-        let below' = arena.below x c.index (Seq b c) is (inr refl) in
-        let left = node_at nodes b.index (omega arith) in
-        let right = node_at nodes c.index (omega arith) in
-        ⊎_elim
-        (λ (here : p < f.0). passes n b.index left.0 left.1 (omega arith) i f.0 (with_whole x b.index i (Seq b c) is refl enters)
-        (before_right x b.index f.0 k b c is refl leaves f.2) f.1 low here)
-        (λ (later : f.0 ≤ p). passes n c.index right.0 right.1 (omega arith) f.0 k (after_left x c.index i f.0 b c is refl enters f.1)
-        (with_end x c.index k (Seq b c) is refl leaves) f.2 later high)
-        (cases_lt p f.0)
-    passes (suc n) x (Alt b c) is less i k enters leaves at low high =
-        let top = slice_get_within nodes x (Alt b c) is in
-        let below = arena.below x b.index (Alt b c) is (inl refl) in
-        let below' = arena.below x c.index (Alt b c) is (inr refl) in
-        let left = node_at nodes b.index (omega arith) in
-        let right = node_at nodes c.index (omega arith) in
-        ⊎_elim
-        (λ (l : HasSpan nodes w b.index i k). passes n b.index left.0 left.1 (omega arith) i k (with_whole x b.index i (Alt b c) is (inl refl) enters)
-        (with_end x b.index k (Alt b c) is (inl refl) leaves) l low high)
-        (λ (m : HasSpan nodes w c.index i k). passes n c.index right.0 right.1 (omega arith) i k (with_whole x c.index i (Alt b c) is (inr refl) enters)
-        (with_end x c.index k (Alt b c) is (inr refl) leaves) m low high)
-        (open_at nodes w x (Alt b c) arena is i k at)
-    passes (suc n) x (Group g b) is less i k enters leaves at low high =
-        let top = slice_get_within nodes x (Group g b) is in
-        let below = arena.below x b.index (Group g b) is refl in
-        let inner = node_at nodes b.index (omega arith) in
-        passes n b.index inner.0 inner.1 (omega arith) i k (with_whole x b.index i (Group g b) is refl enters)
-        (with_end x b.index k (Group g b) is refl leaves) (open_at nodes w x (Group g b) arena is i k at) low high
-    passes (suc n) x (Star b first) is less i k enters leaves at low high =
-        let top = slice_get_within nodes x (Star b first) is in
-        let below = arena.below x b.index (Star b first) is refl in
-        let inner = node_at nodes b.index (omega arith) in
-        CopiesLead-cross (HasSpan nodes w b.index) (λ u. Enters nodes w a s b.index u × CopiesLead (HasSpan nodes w b.index) u i) (MeetsAt nodes w r t a s p) p k
-        (λ u v from copy rest up on. passes n b.index inner.0 inner.1 (omega arith) u v from.0
-        (before_copies x b.index v k b first is refl leaves (close_at nodes w x (Star b first) arena is v k rest)) copy up on)
-        (λ u v lt from copy.
-        let copies = CopiesLead-append (HasSpan nodes w b.index) u i v from.1 lt copy in
-        (again x b.index i v b first is refl enters (close_at nodes w x (Star b first) arena is i v copies), copies))
-        i (open_at nodes w x (Star b first) arena is i k at) (with_whole x b.index i (Star b first) is refl enters, no_copy) low high
-    passes (suc n) x (Opt b first) is less i k enters leaves at low high =
-        let top = slice_get_within nodes x (Opt b first) is in
-        let below = arena.below x b.index (Opt b first) is refl in
-        let inner = node_at nodes b.index (omega arith) in
-        ⊎_elim
-        (λ (same : i ≡ k). absurd (omega arith))
-        (λ (m : HasSpan nodes w b.index i k). passes n b.index inner.0 inner.1 (omega arith) i k (with_whole x b.index i (Opt b first) is refl enters)
-        (with_end x b.index k (Opt b first) is refl leaves) m low high)
-        (open_at nodes w x (Opt b first) arena is i k at)
+    abbrev Passed : ℕ → Type 0
+    Passed x = (i k : ℕ) → Enters nodes w a s x i → CanLeave nodes w r t x k → HasSpan nodes w x i k → i ≤ p → p < k → MeetsAt nodes w r t a s p
+
+    passes : (n x : ℕ) → x < n → x < length nodes → Passed x
+    passes zero x less inside = absurd (omega arith)
+    passes (suc n) x less inside = let there = node_at nodes x inside in by (λ c below. passes n c (omega arith) (omega arith)) there.0 there.1
+      where
+        by : ((c : ℕ) → c < x → Passed c) → (node : Node) → slice_get nodes x ≡ Some node → Passed x
+        by on Empty is i k enters leaves at low high = let f = open_at nodes w x Empty arena is i k at in absurd (omega arith)
+        by on (Set members) is i k enters leaves at low high =
+            let f = open_at nodes w x (Set members) arena is i k at in
+            let same : i ≡ p = (let end = f.3 in omega arith) in
+            (x, members, is, subst (λ v. Enters nodes w a s x v) same enters, (k, subst (λ v. HasSpan nodes w x v k) same at, leaves))
+        by on Begin is i k enters leaves at low high = let f = open_at nodes w x Begin arena is i k at in absurd (omega arith)
+        by on End is i k enters leaves at low high = let f = open_at nodes w x End arena is i k at in absurd (omega arith)
+        by on (Seq b c) is i k enters leaves at low high =
+            let f = open_at nodes w x (Seq b c) arena is i k at in
+            elim (cases_lt p f.0) [
+              | inl here ↦ on b.index (arena.below x b.index (Seq b c) is (inl refl)) i f.0 (with_whole x b.index i (Seq b c) is refl enters) (before_right x b.index f.0 k b c is refl leaves f.2) f.1 low here
+              | inr later ↦ on c.index (arena.below x c.index (Seq b c) is (inr refl)) f.0 k (after_left x c.index i f.0 b c is refl enters f.1) (with_end x c.index k (Seq b c) is refl leaves) f.2 later high
+            ]
+        by on (Alt b c) is i k enters leaves at low high = elim (open_at nodes w x (Alt b c) arena is i k at) [
+          | inl l ↦ on b.index (arena.below x b.index (Alt b c) is (inl refl)) i k (with_whole x b.index i (Alt b c) is (inl refl) enters) (with_end x b.index k (Alt b c) is (inl refl) leaves) l low high
+          | inr m ↦ on c.index (arena.below x c.index (Alt b c) is (inr refl)) i k (with_whole x c.index i (Alt b c) is (inr refl) enters) (with_end x c.index k (Alt b c) is (inr refl) leaves) m low high
+        ]
+        by on (Group g b) is i k enters leaves at low high =
+            on b.index (arena.below x b.index (Group g b) is refl) i k (with_whole x b.index i (Group g b) is refl enters) (with_end x b.index k (Group g b) is refl leaves) (open_at nodes w x (Group g b) arena is i k at) low high
+        by on (Star b first) is i k enters leaves at low high =
+            CopiesLead-cross (HasSpan nodes w b.index) (λ u. Enters nodes w a s b.index u × CopiesLead (HasSpan nodes w b.index) u i) (MeetsAt nodes w r t a s p) p k
+            (λ u v from copy rest up later. on b.index (arena.below x b.index (Star b first) is refl) u v from.0
+            (before_copies x b.index v k b first is refl leaves (close_at nodes w x (Star b first) arena is v k rest)) copy up later)
+            (λ u v lt from copy.
+            let copies = CopiesLead-append (HasSpan nodes w b.index) u i v from.1 lt copy in
+            (again x b.index i v b first is refl enters (close_at nodes w x (Star b first) arena is i v copies), copies))
+            i (open_at nodes w x (Star b first) arena is i k at) (with_whole x b.index i (Star b first) is refl enters, no_copy) low high
+        by on (Opt b first) is i k enters leaves at low high = elim (open_at nodes w x (Opt b first) arena is i k at) [
+          | inl same ↦ absurd (omega arith)
+          | inr m ↦ on b.index (arena.below x b.index (Opt b first) is refl) i k (with_whole x b.index i (Opt b first) is refl enters) (with_end x b.index k (Opt b first) is refl leaves) m low high
+        ]
 
 -- the two passes meet exactly where a match of a goes on from which the end is reached
 pub meets-goes_on : (nodes : List Node) (w : List ℕ) (r a p : ℕ) (s t : Starts) → IsArena nodes → a < length nodes → a ≤ r → MeetsAt nodes w r t a s p
@@ -173,9 +142,7 @@ meets-goes_on nodes w r a p s t arena inside within = (
       let all = meets_on nodes w r t a s arena within h.0 p h.3 q h.4.1 h.4.2 in
       let high = all.4 in
       (all.0, all.1, all.2, all.3, omega arith, all.5, all.6),
-  λ h.
-      let node = node_at nodes a inside in
-      passes nodes w r t a s arena within p (suc a) a node.0 node.1 (omega arith) h.0 h.1 (at_root a h.0 refl h.2) h.6 h.5 h.3 h.4,
+  λ h. passes nodes w r t a s arena within p (suc a) a (omega arith) inside h.0 h.1 (at_root a h.0 refl h.2) h.6 h.5 h.3 h.4,
 )
 
 -- of the whole node r: exactly where a match of it goes on
@@ -197,10 +164,6 @@ set_early nodes w r c p t members arena is h =
     let late = CanLeave-to nodes w r t arena c h.0 h.2 in
     omega arith
 
--- and they don't meet there
-pub meets_early : (nodes : List Node) (w : List ℕ) (r a p : ℕ) (s t : Starts) → IsArena nodes → MeetsAt nodes w r t a s p → p < t.last
-meets_early nodes w r a p s t arena h = set_early nodes w r h.0 p t h.1 arena h.2 h.4
-
 -- the first place from i on after which A and B hold of none is the greatest of which they do
 first_stop : (A B M : ℕ → Type 0) (i p k : ℕ) → i ≤ k → A k → B k → i ≤ p → ((q : ℕ) → i ≤ q → q ≤ p → M q ↔ ((l : ℕ) × (q < l) × A l × B l)) →
     ((q : ℕ) → i ≤ q → q < p → M q) → (M p → ⊥) → A p × B p × ((l : ℕ) → A l → B l → l ≤ p)
@@ -219,6 +182,31 @@ first_stop A B M i p k low left right on shows more over =
     (subst A same left, subst B same right, most))
     (cases_lt i p)
 
+-- a pass over the node c, which is left exactly where Q, that goes on while the passes meet
+module _ (nodes : List Node) (w : List ℕ) (r c : ℕ) (t : Starts) (arena : IsArena nodes) (inside : c < length nodes) (within : c ≤ r) (Q : ℕ → Type 0) (leaves : (k : ℕ) → CanLeave nodes w r t c k ↔ Q k) where
+  pub meets_from : (i p : ℕ) → i ≤ p → MeetsAt nodes w r t c (one_start i) p ↔ ((k : ℕ) × (p < k) × HasSpan nodes w c i k × Q k)
+  meets_from i p low =
+      let both = meets-goes_on nodes w r c p (one_start i) t arena inside within in (
+        λ h.
+            let g = both.0 h in
+            let start = g.2 in
+            let same : g.0 ≡ i = omega arith in
+            (g.1, g.4, subst (λ v. HasSpan nodes w c v g.1) same g.5, (leaves g.1).0 g.6),
+        λ h. both.1 (i, h.0, (omega arith, omega arith), low, h.1, h.2, (leaves h.0).1 h.3),
+      )
+
+  -- it stops at the greatest end of a match from there
+  pub stops_at : (i p k : ℕ) → i ≤ k → HasSpan nodes w c i k → Q k → CeasesAt nodes w r t c i p → HasSpan nodes w c i p × Q p × ((l : ℕ) → HasSpan nodes w c i l → Q l → l ≤ p)
+  stops_at i p k low at left stops = first_stop (HasSpan nodes w c i) Q (MeetsAt nodes w r t c (one_start i)) i p k low at left stops.0 (λ q on up. meets_from i q on) stops.1 stops.2
+
+-- a part of a node that nothing follows is in the arena, and no later than r
+pub part_within : (nodes : List Node) (w : List ℕ) (r x c : ℕ) (node : Node) → IsArena nodes → IsLastIn nodes r x → slice_get nodes x ≡ Some node → IsPart node c → (c < length nodes) × (c ≤ r)
+part_within nodes w r x c node arena last is part =
+    let top = slice_get_within nodes x node is in
+    let up = last_inside nodes w r (one_start 0) arena x last in
+    let below = arena.below x c node is part in
+    (omega arith, omega arith)
+
 module _ (nodes : List Node) (w : List ℕ) (r j x : ℕ) (a b : NodeId) (arena : IsArena nodes) (last : IsLastIn nodes r x) (is : slice_get nodes x ≡ Some (Seq a b)) where
   -- the left part is left exactly where the right one leads on to the end
   pub left_leaves : (k : ℕ) → CanLeave nodes w r (one_start j) a.index k ↔ HasSpan nodes w b.index k j
@@ -233,19 +221,11 @@ module _ (nodes : List Node) (w : List ℕ) (r j x : ℕ) (a b : NodeId) (arena 
     λ at. before_right x a.index k j a b is refl (CanLeave-last nodes w r (one_start j) arena x j last (omega arith, omega arith)) at,
   )
 
+  inside : (a.index < length nodes) × (a.index ≤ r)
+  inside = part_within nodes w r x a.index (Seq a b) arena last is (inl refl)
+
   pub meets-cut : (i p : ℕ) → i ≤ p → MeetsAt nodes w r (one_start j) a.index (one_start i) p ↔ ((k : ℕ) × (p < k) × HasSpan nodes w a.index i k × HasSpan nodes w b.index k j)
-  meets-cut i p low =
-      let top = slice_get_within nodes x (Seq a b) is in
-      let up = last_inside nodes w r (one_start j) arena x last in
-      let below = arena.below x a.index (Seq a b) is (inl refl) in
-      let both = meets-goes_on nodes w r a.index p (one_start i) (one_start j) arena (omega arith) (omega arith) in (
-        λ h.
-            let g = both.0 h in
-            let start = g.2 in
-            let same : g.0 ≡ i = omega arith in
-            (g.1, g.4, subst (λ v. HasSpan nodes w a.index v g.1) same g.5, (left_leaves g.1).0 g.6),
-        λ h. both.1 (i, h.0, (omega arith, omega arith), low, h.1, h.2, (left_leaves h.0).1 h.3),
-      )
+  meets-cut = meets_from nodes w r a.index (one_start j) arena inside.0 inside.1 (λ k. HasSpan nodes w b.index k j) left_leaves
 
   -- what is decided of the places up to p where a cut is
   cut_at : (i p : ℕ) (M : ℕ → Type 0) → HasSpan nodes w x i j → i ≤ p → ((q : ℕ) → i ≤ q → q ≤ p → M q ↔ ((l : ℕ) × (q < l) × HasSpan nodes w a.index i l × HasSpan nodes w b.index l j)) →
@@ -272,28 +252,14 @@ module _ (nodes : List Node) (w : List ℕ) (r j x : ℕ) (a : NodeId) (first : 
     λ copies. before_copies x a.index k j a first is refl (CanLeave-last nodes w r (one_start j) arena x j last (omega arith, omega arith)) (close_at nodes w x (Star a first) arena is k j copies),
   )
 
-  pub meets-copy : (i p : ℕ) → i ≤ p → MeetsAt nodes w r (one_start j) a.index (one_start i) p ↔ ((k : ℕ) × (p < k) × HasSpan nodes w a.index i k × CopiesLead (HasSpan nodes w a.index) j k)
-  meets-copy i p low =
-      let top = slice_get_within nodes x (Star a first) is in
-      let up = last_inside nodes w r (one_start j) arena x last in
-      let below = arena.below x a.index (Star a first) is refl in
-      let both = meets-goes_on nodes w r a.index p (one_start i) (one_start j) arena (omega arith) (omega arith) in (
-        λ h.
-            let g = both.0 h in
-            let start = g.2 in
-            let same : g.0 ≡ i = omega arith in
-            (g.1, g.4, subst (λ v. HasSpan nodes w a.index v g.1) same g.5, (copy_leaves g.1).0 g.6),
-        λ h. both.1 (i, h.0, (omega arith, omega arith), low, h.1, h.2, (copy_leaves h.0).1 h.3),
-      )
-
   -- a pass over a copy stops at the greatest end from which copies lead on
   pub stops_at_copy : (i p : ℕ) → HasSpan nodes w x i j → i < j → CeasesAt nodes w r (one_start j) a.index i p → NextCopy (HasSpan nodes w a.index) i j p
   stops_at_copy i p at some stops =
       let R = HasSpan nodes w a.index in
       let one = first_copy R j i (open_at nodes w x (Star a first) arena is i j at) some in
       let lt = one.1 in
-      let stop = first_stop (R i) (CopiesLead R j) (MeetsAt nodes w r (one_start j) a.index (one_start i)) i p one.0 (omega arith) one.2 one.3 stops.0
-      (λ q low up. meets-copy i q low) stops.1 stops.2 in
+      let inside = part_within nodes w r x a.index (Star a first) arena last is refl in
+      let stop = stops_at nodes w r a.index (one_start j) arena inside.0 inside.1 (CopiesLead R j) copy_leaves i p one.0 (omega arith) one.2 one.3 stops in
       let most = stop.2 one.0 one.2 one.3 in
       record { after = omega arith; within = CopiesLead-forward R j p stop.1; copy = stop.0; rest = stop.1; greatest = stop.2 }
 

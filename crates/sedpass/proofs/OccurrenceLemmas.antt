@@ -1,10 +1,10 @@
 -- What the searches for all occurrences in one text find, and what they cost together.
-use Rattle.std.proofs.Common.{◌≡◌, ℕ, zero, suc, ◌+◌, ◌-◌, ◌*◌, ◌<◌, ◌≤◌, Bool, true, false, List, length, Option, Some, None, IfSome, sym, ap, ◌∙◌, subst, arith, mul-le-mul_left, nat_lt, if◌then◌else◌}
+use Rattle.std.proofs.Common.{◌≡◌, ℕ, zero, suc, ◌+◌, ◌-◌, ◌*◌, ◌<◌, ◌≤◌, Bool, true, false, List, length, Option, Some, None, IfSome, sym, ◌∙◌, subst, arith, mul-le-mul_left, nat_lt, if◌then◌else◌}
 use Rattle.std.proofs.lemmas.Bool.Decides.{nat_tests}
 use Rattle.sedpass.proofs.Words.{Tree, SpanAnswer, LiesOn, leftmost_longest, unless_null_at, found-iff, not_found-iff, Seeking}
-use Rattle.sedpass.specs.Search.{owed_behind, owed_after_search, owed_kept, owed_seeking, search_cost}
+use Rattle.sedpass.specs.Search.{owed_after_search, owed_kept, owed_seeking, search_cost}
 use Rattle.sedpass.proofs.OwedLemmas.{owed_falls}
-use Rattle.sedpass.proofs.SearchLemmas.{alone_square, search_long, unbegun}
+use Rattle.sedpass.proofs.SearchLemmas.{search_long, square}
 
 -- What is found.
 
@@ -55,20 +55,7 @@ search_falls m n s i k up =
     by true kept tried = kept
     by false kept tried = tried
 
--- before the first search
-pub begun_owed : (m n : ℕ) (s : Seeking) → s.begun ≡ false → owed_behind m n s 0 + 43 * m ≤ 308 * m * (n + 1)
-begun_owed m n s is =
-    let few : 2 * n + 1 - s.tried ≤ 2 * n + 1 = omega arith in
-    let a1 : 142 * m * (n - 0) ≡ 142 * m * n = ap (λ v. 142 * m * v) (omega arith) in
-    let a2 : 86 * m * (n + 1 - 0) ≡ 86 * m * (n + 1) = ap (λ v. 86 * m * v) (omega arith) in
-    omega (arith, unbegun m n s 0 is, mul-le-mul_left (40 * m) few, a1, a2)
-
 -- what is left is paid where the match ends behind the place
-rest_paid : (m n at end : ℕ) → at < end → end ≤ n → 86 * m * (n + 1 - end) + 86 * m ≤ 86 * m * (n + 1 - at)
-rest_paid m n at end high within =
-    let more : (n + 1 - end) + 1 ≤ n + 1 - at = omega arith in
-    omega (arith, mul-le-mul_left (86 * m) more)
-
 pub behind_paid : (m n at o s t : ℕ) (due : ℕ → ℕ) (r : Option (ℕ × ℕ)) → at ≤ n → IfSome r (LiesOn n (Some at)) → t + owed_after_search due r ≤ s + (o + 86 * m) →
     t + owed_after_search (λ q. due q + 86 * m * (n + 1 - q)) r ≤ s + (o + 86 * m * (n + 1 - at))
 behind_paid m n at o s t due None low lies pays =
@@ -76,8 +63,8 @@ behind_paid m n at o s t due None low lies pays =
     let all = mul-le-mul_left (86 * m) more in
     omega (arith, all, pays)
 behind_paid m n at o s t due (Some f) low lies pays =
-    let all = rest_paid m n at f.1 (let h = lies.2.1 in omega (arith, h)) lies.1 in
-    omega (arith, all, pays)
+    let more : (n + 1 - f.1) + 1 ≤ n + 1 - at = (let h = lies.2.1 in let g = lies.1 in omega (arith, h, g)) in
+    omega (arith, mul-le-mul_left (86 * m) more, pays)
 
 -- two searches, of which the first one found the null string at the place
 pub both_paid : (m at o a s u t : ℕ) (due due' : ℕ → ℕ) (first r : Option (ℕ × ℕ)) → first ≡ Some (at, at) → a ≤ due at → u + owed_after_search due first ≤ s + (o + 43 * m) → t + owed_after_search due' r ≤ u + (a + 43 * m) →
@@ -90,8 +77,9 @@ both_paid m at o a s u t due due' first r is falls one two =
 
 pub one_square : (m n at : ℕ) → 1 ≤ m → search_cost m n at ≤ 64 * m * m * (n + 1) * (n + 1)
 one_square m n at some =
-    let a = search_long m n at in
-    omega (arith, a, alone_square m n some)
+    let inner : 192 * n + 48 ≤ 64 * (n + 1) * (n + 1) = omega (arith, square n) in
+    let more = mul-le-mul_left (m * (64 * (n + 1) * (n + 1))) some in
+    omega (arith, search_long m n at, mul-le-mul_left m inner, more)
 
 twice : (k : ℕ) → 2 * k ≤ k * k + 1
 twice zero = omega arith

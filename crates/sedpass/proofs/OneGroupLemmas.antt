@@ -65,12 +65,6 @@ over-gone : (x y : Bool) → option_or (deed x None) (deed y None) ≡ deed (x |
 over-gone true y = refl
 over-gone false y = refl
 
-gone-over : (x y : Bool) → option_or (deed y None) (deed x None) ≡ deed (x || y) None
-gone-over true true = refl
-gone-over true false = refl
-gone-over false true = refl
-gone-over false false = refl
-
 -- this becomes of group k from one state to the other
 pub record Takes (k : ℕ) (d : Option Span) (old new : GroupState) : Type 0 where
   pub due : is_due new k ≡ left (is_due old k) d
@@ -146,13 +140,11 @@ settle_takes n k v s = elim (cases_Bool (is_due s n)) [
     as_not : is_due s n ≡ false → Takes k (deed (eqb n k) v) s s
     as_not off = elim (eqb_tells n k) [ inl same ↦ takes-not k _ s (ap (is_due s) (sym same.1) ∙ off) | inr other ↦ rw other.0 (takes-none k s) ]
 
-pub index_as : (xs ys : SpansOfGroups) (k : ℕ) → slice_get xs k ≡ slice_get ys k → slice_index_or xs k None ≡ slice_index_or ys k None
-index_as xs ys k same = sym (unwrap_or-slice_get xs k None) ∙ ap (λ x. unwrap_or x None) same ∙ unwrap_or-slice_get ys k None
-
 -- what is due has no span: so it is after this
 pub takes_blank : (k : ℕ) (d : Option Span) (old new : GroupState) → Takes k d old new → (is_due old k ≡ true → slice_index_or old.spans k None ≡ None) → is_due new k ≡ true →
     slice_index_or new.spans k None ≡ None
-takes_blank k None old new one blank due = index_as new.spans old.spans k (one.span ∙ put-none (is_due old k) (slice_get old.spans k)) ∙ blank (sym one.due ∙ due)
+takes_blank k None old new one blank due =
+    sym (unwrap_or-slice_get new.spans k None) ∙ ap (λ x. unwrap_or x None) (one.span ∙ put-none (is_due old k) (slice_get old.spans k)) ∙ unwrap_or-slice_get old.spans k None ∙ blank (sym one.due ∙ due)
 takes_blank k (Some u) old new one blank due = absurd (true≢false (sym due ∙ one.due))
 
 blank_put : (b : Bool) (x : Option Span) (has : Bool) → (b ≡ true → unwrap_or x None ≡ None) → put b x (deed has None) ≡ x
@@ -174,7 +166,10 @@ drop_takes (one_or_none a first) k s = drop_takes a k s
 drop_takes other k s = takes-none k s
 
 forget_two : (x : Option Span) (p q : Bool) → lay (lay x (deed p None)) (deed q None) ≡ lay x (deed (p || q) None)
-forget_two x p q = sym (lay-over x (deed q None) (deed p None)) ∙ ap (lay x) (gone-over p q)
+forget_two None p q = refl
+forget_two (Some v) true true = refl
+forget_two (Some v) true false = refl
+forget_two (Some v) false q = refl
 
 forget_at : (t : Tree) (k : ℕ) (g : SpansOfGroups) → slice_get (forget t g) k ≡ lay (slice_get g k) (deed (has_group t k) None)
 forget_at (sequence a b) k g =
@@ -346,22 +341,7 @@ later : (span : Span) (k : ℕ) (inner : SpansOfGroups) → slice_get (slice_set
 later span k [] = refl
 later span k (x ∷ inner) = refl
 
--- from a state with the match's span alone, an entry that is due is that of the report
-due_entry : (e : Tree) (w : List ℕ) (i j n k : ℕ) (old new : GroupState) (inner : SpansOfGroups) → old.spans ≡ Some (i, j) ∷ replicate 9 None → Matches e w i j → WalkEnters e w i j old new n →
-    Captures e w i j no_groups inner → is_due old (suc k) ≡ true → slice_get new.spans (suc k) ≡ slice_get inner (suc k)
-due_entry e w i j n k old new inner start spans walk captures due =
-    let one = walked (suc k) e w i j n old new spans walk no_groups in
-    let d = taken (suc k) e w i j no_groups one.0 one.1 in
-    one.2.span ∙ ap (λ b. put b (slice_get old.spans (suc k)) d) due ∙ ap (λ l. lay (slice_get l (suc k)) d) start ∙ sym (captured (suc k) e w i j no_groups one.0 one.1).at
-    ∙ ap (λ g. slice_get g (suc k)) (Captures-unique e w i j no_groups one.0 inner one.1 captures)
-
-pub wanted : (e : Tree) (w : List ℕ) (i j n k : ℕ) (old new : GroupState) (groups : SpansOfGroups) → old.spans ≡ Some (i, j) ∷ replicate 9 None → Matches e w i j → WalkEnters e w i j old new n →
-    IsReport e w i j groups → is_due old (suc k) ≡ true → slice_index_or new.spans (suc k) None ≡ slice_index_or groups (suc k) None
-wanted e w i j n k old new groups start spans walk report due =
-    index_as new.spans groups (suc k)
-    (due_entry e w i j n k old new report.0 start spans walk report.1 due ∙ sym (ap (λ g. slice_get g (suc k)) report.2 ∙ later (Some (i, j)) k report.0))
-
--- and if all groups of the expression are due, all entries are
+-- from a state with the match's span alone, in which all groups of the expression are due, all entries are those of the report
 pub walk_report : (e : Tree) (w : List ℕ) (i j n : ℕ) (old new : GroupState) → IsFirstState e i j old → Matches e w i j → WalkEnters e w i j old new n → IsReport e w i j new.spans
 walk_report e w i j n old new start spans walk =
     let inner = groups_after e w i j no_groups in
@@ -384,7 +364,11 @@ walk_report e w i j n old new start spans walk =
         lay_some None = refl
         lay_some (Some u) = refl
     each inner captures (suc k) = elim (cases_Bool (is_due old (suc k))) [
-      | inl due ↦ due_entry e w i j n k old new inner start.none spans walk captures due ∙ sym (later (Some (i, j)) k inner)
+      | inl due ↦
+          let one = walked (suc k) e w i j n old new spans walk no_groups in
+          let d = taken (suc k) e w i j no_groups one.0 one.1 in
+          one.2.span ∙ ap (λ b. put b (slice_get old.spans (suc k)) d) due ∙ ap (λ l. lay (slice_get l (suc k)) d) start.none ∙ sym (captured (suc k) e w i j no_groups one.0 one.1).at
+          ∙ ap (λ g. slice_get g (suc k)) (Captures-unique e w i j no_groups one.0 inner one.1 captures) ∙ sym (later (Some (i, j)) k inner)
       | inr not ↦ before (suc k) not ∙ sym (later (Some (i, j)) k inner ∙ kept k not)
     ]
       where

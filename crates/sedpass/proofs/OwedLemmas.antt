@@ -1,15 +1,9 @@
 -- What looks into a kept pass may still cost.
-use Rattle.std.proofs.Common.{◌≡◌, ℕ, zero, suc, ◌+◌, ◌-◌, ◌*◌, ◌<◌, ◌≤◌, ◌⊎◌, ⊎_elim, ◌&&◌, refl, sym, ap, ◌∙◌, subst, arith, mul-le-mul_left, cond}
-use Rattle.sedpass.proofs.Words.{cases_lt, CostsWithin, Kept, Region}
+use Rattle.std.proofs.Common.{inl, inr, ◌≡◌, ℕ, zero, suc, ◌+◌, ◌-◌, ◌*◌, ◌<◌, ◌≤◌, ◌⊎◌, ⊎_elim, ◌&&◌, refl, sym, ap, ◌∙◌, subst, arith, mul-le-mul_left, cond}
+use Rattle.sedpass.proofs.Words.{cases_lt, le-ltb, lt-ltb, CostsWithin, Kept, Region}
 use Rattle.std.proofs.lemmas.Bool.Decides.{nat_tests}
 use Rattle.std.proofs.Math.Dec.{leb, ltb}
 use Rattle.sedpass.specs.Kept.{again, due_place, owed_region}
-
-lt_then : (a b u v : ℕ) → a < b → cond (ltb a b) u v ≡ u
-lt_then a b u v h = grind (arith, nat_tests)
-
-lt_else : (a b u v : ℕ) → b ≤ a → cond (ltb a b) u v ≡ v
-lt_else a b u v h = grind (arith, nat_tests)
 
 -- The place that may be due.
 
@@ -45,49 +39,33 @@ again_some m zero some = absurd (omega arith)
 again_some m (suc d) some = refl
 
 -- a block up to another one, or up to the region's end
-again_inside : (m d e s t a : ℕ) → 1 ≤ d → 1 ≤ e → a ≤ s + 20 * m → t ≤ a + 35 * m * d → t + again m e ≤ s + again m (d + e)
-again_inside m d e s t a some more first pass = omega (arith, first, pass, again_some m e more, again_some m (d + e) (omega arith), mul-le-mul_left (24 * m) some)
-
-again_last : (m d s t a : ℕ) → 1 ≤ d → a ≤ s + 33 * m → t ≤ a + 35 * m * d → t ≤ s + again m d
-again_last m d s t a some first pass = omega (arith, first, pass, again_some m d some, mul-le-mul_left (24 * m) some)
+again_paid : (m d e s t a : ℕ) → 1 ≤ d → a ≤ s + 33 * m → (1 ≤ e → a ≤ s + 20 * m) → t ≤ a + 35 * m * d → t + again m e ≤ s + again m (d + e)
+again_paid m d zero s t a some first inside pass = omega (arith, first, pass, again_some m (d + zero) (omega arith), mul-le-mul_left (24 * m) some)
+again_paid m d (suc e) s t a some first inside pass = omega (arith, inside (omega arith), pass, again_some m (d + suc e) (omega arith), mul-le-mul_left (24 * m) some)
 
 pub again_cost : (m low to end s a t : ℕ) → low < to → to ≤ end → a ≤ s + 33 * m → (to < end → a ≤ s + 20 * m) → t + 35 * m * low ≤ a + 35 * m * to → t + again m (end - to) ≤ s + again m (end - low)
 again_cost m low to end s a t some within first inside pass =
-    let d = to - low in
-    let long : low + d ≡ to = omega arith in
-    let passed : t + 35 * m * low ≤ a + 35 * m * (low + d) = subst (λ v. t + 35 * m * low ≤ a + 35 * m * v) (sym long) pass in
-    let each : t ≤ a + 35 * m * d = omega (arith, passed) in
-    ⊎_elim
-    (λ (lt : to < end).
-    let all : d + (end - to) ≡ end - low = omega arith in
-    subst (λ v. t + again m (end - to) ≤ s + again m v) all (again_inside m d (end - to) s t a (omega arith) (omega arith) (inside lt) each))
-    (λ (ge : end ≤ to).
-    let none : 0 ≡ end - to = omega arith in
-    let all : d ≡ end - low = omega arith in
-    subst (λ v. t + again m v ≤ s + again m (end - low)) none (subst (λ v. t + 0 ≤ s + again m v) all (let h = again_last m d s t a (omega arith) first each in omega (arith, h))))
-    (cases_lt to end)
+    let all : (to - low) + (end - to) ≡ end - low = omega arith in
+    let passed : 35 * m * to ≡ 35 * m * (low + (to - low)) = ap (λ v. 35 * m * v) (omega arith) in
+    subst (λ v. t + again m (end - to) ≤ s + again m v) all (again_paid m (to - low) (end - to) s t a (omega arith) first (λ more. inside (omega arith)) (omega (arith, pass, passed)))
 
 -- What is owed.
 
 owed_below : (m : ℕ) (r : Region) (i : ℕ) → i < r.low → owed_region m r i ≡ 100 * m * (r.end - i)
-owed_below m r i low = lt_then i r.low (100 * m * (r.end - i)) (again m (r.end - due_place r i)) low
+owed_below m r i low = rw (lt-ltb i r.low low) refl
 
 owed_above : (m : ℕ) (r : Region) (i : ℕ) → r.low ≤ i → owed_region m r i ≡ again m (r.end - due_place r i)
-owed_above m r i low = lt_else i r.low (100 * m * (r.end - i)) (again m (r.end - due_place r i)) low
+owed_above m r i low = rw (le-ltb i r.low low) refl
 
 -- never more than for the whole rest of the region
 pub owed_small : (m : ℕ) (r : Region) (i : ℕ) → owed_region m r i ≤ 100 * m * (r.end - i)
-owed_small m r i =
-    ⊎_elim
-    (λ (il : i < r.low). let a = owed_below m r i il in omega (arith, a))
-    (λ (il : r.low ≤ i).
-    let up : i ≤ due_place r i = live_above r.from r.to i in
-    let g = mul-le-mul_left (100 * m) (rest_falls r.end i (due_place r i) up) in
-    omega (arith, owed_above m r i il, again_small m (r.end - due_place r i), g))
-    (cases_lt i r.low)
-  where
-    rest_falls : (end d k : ℕ) → d ≤ k → end - k ≤ end - d
-    rest_falls end d k up = omega arith
+owed_small m r i = elim (cases_lt i r.low) [
+  | inl il ↦ let a = owed_below m r i il in omega (arith, a)
+  | inr il ↦
+      let up : i ≤ due_place r i = live_above r.from r.to i in
+      let less : r.end - due_place r i ≤ r.end - i = omega (arith, up) in
+      omega (arith, owed_above m r i il, again_small m (r.end - due_place r i), mul-le-mul_left (100 * m) less)
+]
 
 pub owed_falls : (m : ℕ) (r : Region) (i k : ℕ) → i ≤ k → owed_region m r k ≤ owed_region m r i
 owed_falls m r i k up =
@@ -104,17 +82,13 @@ owed_falls m r i k up =
     (cases_lt i r.low)
 
 -- the region is made down to the place, which is in the table
-made_cost : (m c d s t : ℕ) → c + 1 ≤ d → t ≤ s + (33 * m + 39 * m * d) → t + again m c ≤ s + 100 * m * d
-made_cost m c d s t less cost = let h = again_few m c in let g = mul-le-mul_left (59 * m) less in omega (arith, h, g, cost)
-
 pub owed_made : (m : ℕ) (old new : Region) (place s t : ℕ) → place < old.low → place < old.end → new.low ≡ place → new.from ≡ place → place < new.to → new.end ≡ old.end → s ≤ t →
     t ≤ s + (33 * m + 39 * m * (old.end - place)) → CostsWithin s t (owed_region m old place) (owed_region m new place)
 owed_made m old new place s t below before low from to end grows cost =
     let b = owed_above m new place (omega (arith, low)) in
     let due : due_place new place ≡ new.to = live_place new.from new.to place (omega (arith, from)) to in
     let less : (new.end - due_place new place) + 1 ≤ old.end - place = omega (arith, due, end, to, before) in
-    let h = made_cost m (new.end - due_place new place) (old.end - place) s t less cost in
-    (grows, omega (arith, owed_below m old place below, b, h))
+    (grows, omega (arith, owed_below m old place below, b, again_few m (new.end - due_place new place), mul-le-mul_left (59 * m) less, cost))
 
 -- the rest of the place's block is made again
 pub owed_again : (m : ℕ) (old new : Region) (place s t : ℕ) → old.low ≤ place → (place < old.from) ⊎ (old.to ≤ place) → new.low ≡ old.low → new.end ≡ old.end → new.from ≡ place → place < new.to →
@@ -131,15 +105,3 @@ owed_again m old new place s t above out low end from to paid =
 pub owed_left : (m : ℕ) (old : Region) (place s t u : ℕ) (k other : Kept) → other ≡ k → u ≡ t → CostsWithin s t (owed_region m old place) (owed_region m k.region place) → CostsWithin s u (owed_region m old place) (owed_region m other.region place)
 owed_left m old place s t u k other same count paid =
     subst (λ x. CostsWithin s x (owed_region m old place) (owed_region m other.region place)) (sym count) (subst (λ x. CostsWithin s t (owed_region m old place) (owed_region m x.region place)) (sym same) paid)
-
--- places are passed, or the search ends at one
-pub seek_on : (o a b e s s0 s1 s2 from place found : ℕ) → s + (a + 2 * from) ≤ s0 + (o + 2 * place) → s1 + b ≤ s + a → s2 + place ≤ s1 + (found + 1) → e ≤ b → place < found → s2 + (e + 2 * from) ≤ s0 + (o + 2 * found)
-seek_on o a b e s s0 s1 s2 from place found before ready seek falls up = omega arith
-
--- the same of a pass forwards
-pub cut_on : (m o a b e s s0 s1 s2 from place found : ℕ) → s + (a + 36 * m * from) ≤ s0 + (o + 36 * m * place) → s1 + b ≤ s + a → s2 + 36 * m * place ≤ s1 + 36 * m * found → e ≤ b → s2 + (e + 36 * m * from) ≤ s0 + (o + 36 * m * found)
-cut_on m o a b e s s0 s1 s2 from place found before ready meet falls = omega (arith, before, ready, meet, falls)
-
-pub cut_at : (m o a b e s s0 first s1 s2 from place found : ℕ) → first ≤ s0 + 33 * m → s + (a + 36 * m * from) ≤ first + (o + 36 * m * place) → s1 + b ≤ s + a → s2 + 36 * m * place ≤ s1 + (36 * m * found + m) → e ≤ b →
-    s2 + (e + 36 * m * from) ≤ s0 + (o + 36 * m * (found + 1))
-cut_at m o a b e s s0 first s1 s2 from place found begun before ready meet falls = omega (arith, begun, before, ready, meet, falls)

@@ -1,10 +1,8 @@
 -- How the marks at a place follow from what the leaves took, and what a row shows.
-use Rattle.std.proofs.Common.{length-set, ◌≡◌, ◌≢◌, ℕ, ◌+◌, ◌-◌, ◌*◌, ◌<◌, ◌≤◌, ◌⊎◌, ◌↔◌, Bool, List, length, Option, Some, None, IsTrue, refl, sym, ap, ◌∙◌, subst, inl, inr, ⊎_elim, true≢false, true, false, ◌&&◌, ◌||◌, arith, slice_get, slice_index_or, slice_set, eqb, nat_lt, reverse}
-use Rattle.std.proofs.Math.Path.{fun_ext}
-use Rattle.sedpass.proofs.Words.{slice_get_within, get_or-set_same, get_or-set_other, and_parts, and_from, cases_lt, cases_eq, eqb-true, eq-eqb, lt-ltb, le-ltb, IsArena, IsPart, WrittenExpression, tree_at, mirror_node, seen, seen-node, old_node, Node, NodeId, Empty, Set, Begin, End, Seq, Alt, Group, Star, Opt, Starts, CopiesLead, byte_is_in, enter_parts, takes_any, AgreeBelow, KeepsRows, row_of, HasSpan, IsStart, one_start, SomeSpan, BeginsWith, Marked, Enters, at_root, with_whole, after_left, again, CanEnd, Matches-forward, CopiesLead-append, CopiesLead-last, open_at, close_at, takes_some, FromNode, Enters-from, Enters-part, Enters-inside, Enters-root, BeginsWith-part, both-iff, either-iff}
-use Rattle.sedre.specs.Packed.{PartsBelow}
+use Rattle.std.proofs.Common.{rules, length-set, ◌≡◌, ◌≢◌, ℕ, ◌+◌, ◌<◌, ◌≤◌, ◌⊎◌, ◌↔◌, Bool, List, length, Option, Some, None, IsTrue, refl, sym, ap, ◌∙◌, subst, inl, inr, ⊎_elim, true≢false, true, false, ◌&&◌, ◌||◌, arith, slice_get, slice_index_or, slice_set, eqb, nat_lt, reverse}
+use Rattle.sedpass.proofs.Words.{slice_get_within, get_or-set_same, get_or-set_other, and_parts, and_from, cases_lt, cases_eq, eqb-true, eq-eqb, lt-ltb, IsArena, IsPart, WrittenExpression, tree_at, mirror_node, seen, seen-node, old_node, Node, NodeId, Empty, Set, Begin, End, Seq, Alt, Group, Star, Opt, Starts, CopiesLead, byte_is_in, enter_parts, takes_any, AgreeBelow, KeepsRows, row_of, HasSpan, IsStart, one_start, SomeSpan, BeginsWith, Marked, Enters, at_root, with_whole, after_left, again, CanEnd, Matches-forward, CopiesLead-append, CopiesLead-last, open_at, close_at, takes_some, FromNode, Enters-from, Enters-part, Enters-inside, Enters-root, BeginsWith-part, both-iff, either-iff}
 use Rattle.sedpass.specs.Regions.{EndsPastIn, Opposite, ReachesEnd, MeetsAt}
-use Rattle.sedpass.specs.Rows.{Took, SameBytes, NoneEntered, InTree, is_tree, part_of, IsNodeRange, TreeBelow, TreeFrom, AreNull, ended_by, enter_looks, AreWide, bits, ShowTook, RowOfPlace, LeafAt, EndKept, ShowFrom, RowFrom, RowLeadsTo}
+use Rattle.sedpass.specs.Rows.{Took, SameBytes, NoneEntered, InTree, is_tree, part_of, IsNodeRange, TreeBelow, TreeFrom, AreNull, ended_by, AreWide, bits, ShowTook, RowOfPlace, LeafAt, EndKept, ShowFrom, RowFrom, RowLeadsTo}
 use Rattle.sedpass.proofs.LeaveLemmas.{ends_at, reaches_mirror}
 use Rattle.sedpass.proofs.MeetingLemmas.{meets_whole}
 
@@ -169,17 +167,7 @@ tree_shown nodes arena r x (part_of y _ node is part up) =
     (part_of y x node is part up, inr (y, node, omega arith, (InTree-inside nodes arena r y up), is, part))
 
 tree_step : (nodes : List Node) (r x : ℕ) (node : Node) → slice_get nodes x ≡ Some node → (c : ℕ) → TreeFrom nodes r x c → TreeFrom nodes r (x + 1) c ⊎ IsPart node c
-tree_step nodes r x node is c shown = elim shown.1 [
-  | inl e ↦ inl (shown.0, inl e)
-  | inr h ↦ let low = h.2 in
-      elim (cases_eq h.0 x) [
-        | inl e ↦
-            let at : slice_get nodes x ≡ Some h.1 = ap (slice_get nodes) (sym e) ∙ h.4 in
-            let here : h.1 ≡ node = cc in
-            inr (subst (λ n. IsPart n c) here h.5)
-        | inr ne ↦ inl (shown.0, inr (h.0, h.1, omega arith, h.3, h.4, h.5))
-      ]
-]
+tree_step nodes r x node is c shown = search rules
 
 pub set_other : (marks after : List Bool) (x c : ℕ) (v : Bool) → (c ≡ x → ⊥) → after ≡ slice_set marks x v → slice_index_or after c false ≡ slice_index_or marks c false
 set_other marks after x c v ne is = ap (λ l. slice_index_or l c false) is ∙ get_or-set_other marks x c v false ne
@@ -187,15 +175,9 @@ set_other marks after x c v ne is = ap (λ l. slice_index_or l c false) is ∙ g
 pub set_same : (marks after : List Bool) (x : ℕ) (v : Bool) → x < length marks → after ≡ slice_set marks x v → slice_index_or after x false ≡ v
 set_same marks after x v inside is = ap (λ l. slice_index_or l x false) is ∙ get_or-set_same marks x v false inside
 
--- one more bit that is true exactly where P is
-one_shown : (bits after : ℕ → Bool) (P : ℕ → Type 0) (x : ℕ) (v : Bool) → after x ≡ v → (IsTrue v ↔ P x) → ((c : ℕ) → (c ≡ x → ⊥) → after c ≡ bits c) → (c : ℕ) → ((c ≡ x → ⊥) → IsTrue (bits c) ↔ P c) → IsTrue (after c) ↔ P c
-one_shown bits after P x v is truth others c old = ⊎_elim (λ (e : c ≡ x). rw (e, is) truth) (λ (ne : c ≡ x → ⊥). rw (others c ne) (old ne)) (cases_eq c x)
-
 mark_one : (marks after : List Bool) (x : ℕ) (v : Bool) (S R P : ℕ → Type 0) → after ≡ slice_set marks x v → x < length marks → (IsTrue v ↔ P x) → ((c : ℕ) → R c → S c ⊎ (c ≡ x)) →
     Marked marks S P → Marked after R P
-mark_one marks after x v S R P is inside truth more marked c shown =
-    one_shown (λ n. slice_index_or marks n false) (λ n. slice_index_or after n false) P x v (set_same marks after x v inside is) truth (λ n ne. set_other marks after x n v ne is) c
-    (λ ne. elim (more c shown) [ inl h ↦ marked c h | inr e ↦ absurd (ne e) ])
+mark_one marks after x v S R P is inside truth more marked c shown = search rules
 
 module _ (nodes : List Node) (w : List ℕ) (r x p : ℕ) (s : Starts) (node : Node) (arena : IsArena nodes) (inside : r < length nodes) (there : InTree nodes r x) (is : slice_get nodes x ≡ Some node)
     (null : ℕ → Bool) (nulls : AreNull nodes w p null) where
@@ -211,9 +193,7 @@ module _ (nodes : List Node) (w : List ℕ) (r x p : ℕ) (s : Starts) (node : N
       Marked marks (TreeBelow nodes r x) (λ c. CanEnd nodes w r s c p) → Marked after (TreeBelow nodes r (x + 1)) (λ c. CanEnd nodes w r s c p)
   up took v marks after takes_it long value is_after marked =
       let law = ended_is nodes w r s arena took null (λ c. slice_index_or marks c false) x p in_tree node is takes_it null_part (λ c part. marked c (part_of x c node is part there, arena.below x c node is part)) in
-      mark_one marks after x v (TreeBelow nodes r x) (TreeBelow nodes r (x + 1)) (λ c. CanEnd nodes w r s c p) is_after long (λ h. law.0 (sym value ∙ h), λ h. value ∙ law.1 h)
-      (λ c shown. ⊎_elim (λ (e : c ≡ x). inr e) (λ (ne : c ≡ x → ⊥). inl (shown.0, let less = shown.1 in omega arith)) (cases_eq c x))
-      marked
+      search (rules, mark_one, cases_eq)
 
 -- the scan downwards begins at the root
 pub down_root : (nodes : List Node) (w : List ℕ) (r p y : ℕ) (s : Starts) (first : Bool) (marks after : List Bool) → IsArena nodes → r < y → r < length marks → after ≡ slice_set marks r first → (IsTrue first ↔ IsStart s p) →
@@ -290,16 +270,8 @@ is_set (Set m) h = (m, refl)
 is_set other h = absurd (true≢false (sym h))
 
 -- the bits from y on decide P, by one after another
-show_none : (bits : ℕ → Bool) (P : ℕ → Type 0) (y : ℕ) → ((c : ℕ) → bits c ≡ false) → ((c : ℕ) → P c → c < y) → ShowFrom y bits P
-show_none bits P y none all c = (λ h. absurd (false_bit (bits c) (none c) h), λ h. let low = h.0 in let less = all c h.1 in absurd (omega arith))
-
 show_more : (bits after : ℕ → Bool) (P : ℕ → Type 0) (x : ℕ) (v : Bool) → after x ≡ v → (IsTrue v ↔ P x) → ((c : ℕ) → (c ≡ x → ⊥) → after c ≡ bits c) → ShowFrom (x + 1) bits P → ShowFrom x after P
-show_more bits after P x v is truth others shown c =
-    one_shown bits after (λ n. (x ≤ n) × P n) x v is (λ h. (omega arith, truth.0 h), λ h. truth.1 h.1) others c
-    (λ ne. (λ h. let old = (shown c).0 h in let low = old.0 in (omega arith, old.1), λ h. let low = h.0 in (shown c).1 (omega arith, h.1)))
-
-show_all : (bits : ℕ → Bool) (P : ℕ → Type 0) (low : ℕ) → ((c : ℕ) → P c → low ≤ c) → ShowFrom low bits P → (c : ℕ) → IsTrue (bits c) ↔ P c
-show_all bits P low all shown c = (λ h. ((shown c).0 h).1, λ h. (shown c).1 (all c h, h))
+show_more bits after P x v is truth others shown c = search rules
 
 module _ (nodes : List Node) (w : List ℕ) (r p : ℕ) (s : Starts) (keeps : Bool) where
   abbrev Leaf : ℕ → Type 0
@@ -309,10 +281,7 @@ module _ (nodes : List Node) (w : List ℕ) (r p : ℕ) (s : Starts) (keeps : Bo
   Kept c = EndKept nodes w r s keeps p c
 
   pub row_none : (y : ℕ) (entered ended : ℕ → Bool) → IsArena nodes → r < y → ((c : ℕ) → entered c ≡ false) → ((c : ℕ) → ended c ≡ false) → RowFrom nodes w r s keeps p y entered ended
-  row_none y entered ended arena past no_leaf no_end = (
-    show_none entered Leaf y no_leaf (λ c h. let up = Enters-inside nodes w r s arena c p h.2 in omega arith),
-    show_none ended Kept y no_end (λ c h. let up = Enters-inside nodes w r s arena c h.1.0 h.1.1 in omega arith),
-  )
+  row_none y entered ended arena past no_leaf no_end = search (rules, up, Enters-inside)
 
   pub row_step : (x : ℕ) (node : Node) (here end null : Bool) (entered ended after after_ended : ℕ → Bool) → slice_get nodes x ≡ Some node →
       (IsTrue here ↔ Enters nodes w r s x p) → (IsTrue end ↔ CanEnd nodes w r s x p) → (IsTrue null ↔ HasSpan nodes w x p p) →
@@ -337,22 +306,7 @@ module _ (nodes : List Node) (w : List ℕ) (r p : ℕ) (s : Starts) (keeps : Bo
       )
 
   pub row_done : (low : ℕ) (entered ended : ℕ → Bool) → ((c : ℕ) → InTree nodes r c → low ≤ c) → RowFrom nodes w r s keeps p low entered ended → RowOfPlace nodes w r s keeps p entered ended
-  row_done low entered ended all row =
-      record {
-        leaves = show_all entered Leaf low (λ c h. all c (enters_tree nodes w r s c p h.2)) row.0;
-        ends = show_all ended Kept low (λ c h. all c (enters_tree nodes w r s c h.1.0 h.1.1)) row.1;
-      }
-
--- a row shows which leaves take the byte that comes
-pub row_took : (nodes : List Node) (w : List ℕ) (r x p : ℕ) (s : Starts) (keeps : Bool) (entered ended : ℕ → Bool) (byte : Option ℕ) (m : List Bool) → RowOfPlace nodes w r s keeps p entered ended →
-    SameBytes nodes (slice_get w p) byte → slice_get nodes x ≡ Some (Set m) → IsTrue (entered x && byte_is_in byte m) ↔ Took nodes w r s (p + 1) x m
-row_took nodes w r x p s keeps entered ended byte m row same is = (
-  λ h. let both = and_parts (entered x) (byte_is_in byte m) h in
-      (p, refl, ((row.leaves x).0 both.0).2, same x m is ∙ both.1),
-  λ h. let at : h.0 ≡ p = (let next = h.1 in omega arith) in
-      and_from (entered x) (byte_is_in byte m) ((row.leaves x).1 (m, is, subst (λ i. Enters nodes w r s x i) at h.2))
-      (sym (same x m is) ∙ subst (λ i. IsTrue (byte_is_in (slice_get w i) m)) at h.3),
-)
+  row_done low entered ended all row = search (rules, enters_tree)
 
 pub class_row : (nodes : List Node) (r : ℕ) (keeps end start : Bool) (entered ended after after_ended : ℕ → Bool) (byte other : Option ℕ) → SameBytes nodes other byte →
     RowLeadsTo nodes r keeps entered ended byte end start after after_ended → RowLeadsTo nodes r keeps entered ended other end start after after_ended
@@ -445,47 +399,25 @@ pub bits_other : (m : ℕ) (marks after : List Bool) (x : ℕ) (v : Bool) → af
 bits_other m marks after x v is c ne = ap (λ b. nat_lt c m && b) (set_other marks after x c v ne is)
 
 pub bits_clear : (m : ℕ) (marks : List Bool) → ((c : ℕ) → c < m → slice_index_or marks c false ≡ false) → (c : ℕ) → bits m marks c ≡ false
-bits_clear m marks clear c =
-    elim (cases_lt c m) [ inl lt ↦ bits_here m marks c lt ∙ clear c lt | inr ge ↦ rw (le-ltb c m ge) refl ]
+bits_clear m marks clear c = search rules
 
 -- marks that agree are the same bits
 pub bits_agree : (m : ℕ) (marks other : List Bool) → AgreeBelow m marks other → bits m marks ≡ bits m other
-bits_agree m marks other agree = fun_ext (λ c. elim (cases_lt c m) [
-  | inl lt ↦ bits_here m marks c lt ∙ agree c lt ∙ sym (bits_here m other c lt)
-  | inr ge ↦ rw (le-ltb c m ge) refl
-])
-
--- the node of least index is a leaf: it has no part to enter
-pub enters_few : (x : ℕ) (node : Node) → PartsBelow x node → 6 + enter_looks node + (10 * x - 4) ≤ 10 * (x + 1) - 4
-enters_few x (Seq a b) below = let low = below.0 in omega (arith, low)
-enters_few x (Alt a b) below = let low = below.0 in omega (arith, low)
-enters_few x (Group k a) below = let low = below in omega (arith, low)
-enters_few x (Star a first) below = let low = below in omega (arith, low)
-enters_few x (Opt a first) below = let low = below in omega (arith, low)
-enters_few x other below = omega arith
+bits_agree m marks other agree = search rules
 
 -- a row shows, with the byte that came, which leaves took it
 pub took_bits : (nodes : List Node) (w : List ℕ) (r p : ℕ) (s : Starts) (keeps : Bool) (m : ℕ) (leaves : List Bool) (before : ℕ → Bool) (byte : Option ℕ) → length nodes ≡ m → SameBytes nodes (slice_get w p) byte →
     RowOfPlace nodes w r s keeps p (bits m leaves) before → ShowTook nodes w r s (p + 1) byte leaves
-took_bits nodes w r p s keeps m leaves before byte long bytes row c members inside is =
-    let low = slice_get_within nodes c (Set members) is in
-    rw (← bits_here m leaves c (omega arith)) (row_took nodes w r c p s keeps (bits m leaves) before byte members row bytes is)
+took_bits nodes w r p s keeps m leaves before byte long bytes row c members inside is = search (rules, slice_get_within, bits_here)
 
 -- none did before the first start
 pub first_bits : (nodes : List Node) (w : List ℕ) (r : ℕ) (s : Starts) (leaves : List Bool) → ShowTook nodes w r s s.first None leaves
-first_bits nodes w r s leaves c members inside is = (
-  λ h. absurd (true≢false (sym (and_parts (slice_index_or leaves c false) false h).1)),
-  λ h. let up = Enters-from nodes w r s c h.0 h.2 in let next = h.1 in absurd (omega arith),
-)
+first_bits nodes w r s leaves c members inside is = search (rules, and_parts, up, Enters-from)
 
 -- Rows of marks.
 
-pub keeps_none : (P : ℕ → Type 0) (rows : List (List Bool)) → KeepsRows P rows rows
-keeps_none P rows = record { len = refl; lens = λ q. refl; same = λ q is. refl }
-
 pub keeps_then : (P Q R : ℕ → Type 0) (a b c : List (List Bool)) → ((q : ℕ) → R q → P q × Q q) → KeepsRows P a b → KeepsRows Q b c → KeepsRows R a c
-keeps_then P Q R a b c less one two =
-    record { len = two.len ∙ one.len; lens = λ q. two.lens q ∙ one.lens q; same = λ q is. two.same q (less q is).1 ∙ one.same q (less q is).0 }
+keeps_then P Q R a b c less one two = search rules
 
 -- there are still rows enough
 pub still_wide : (P : ℕ → Type 0) (m state : ℕ) (old new : List (List Bool)) → KeepsRows P old new → AreWide m state old → AreWide m state new
@@ -494,10 +426,7 @@ still_wide P m state old new keeps wide = (wide.0, omega (arith, wide.1, keeps.l
 -- two rows were copied, one after the other
 pub copied_rows : (m n to last_to : ℕ) (mid new : List (List Bool)) (leaf last : List Bool) → n ≡ m → to ≢ last_to → AgreeBelow n (row_of mid to) leaf → KeepsRows (λ q. q ≢ last_to) mid new → AgreeBelow n (row_of new last_to) last →
     (bits m (row_of new to) ≡ bits m leaf) × (bits m (row_of new last_to) ≡ bits m last)
-copied_rows m n to last_to mid new leaf last count apart one keeps two = (
-  ap (bits m) (keeps.same to apart) ∙ bits_agree m (row_of mid to) leaf (subst (λ x. AgreeBelow x (row_of mid to) leaf) count one),
-  bits_agree m (row_of new last_to) last (subst (λ x. AgreeBelow x (row_of new last_to) last) count two),
-)
+copied_rows m n to last_to mid new leaf last count apart one keeps two = search rules
 
 -- the rows but the first and two more
 abbrev pub Others : ℕ → ℕ → ℕ → Type 0
@@ -507,10 +436,4 @@ Others leaves ends q = (1 ≤ q) × (q ≢ leaves) × (q ≢ ends)
 pub rows_written : (leaves ends x : ℕ) (leaf kept : Bool) (old mid one two : List (List Bool)) → 1 ≤ leaves → leaves < ends → KeepsRows (λ q. q ≢ 0) old mid → KeepsRows (λ q. q ≢ leaves) mid one → row_of one leaves ≡ slice_set (row_of mid leaves) x leaf →
     KeepsRows (λ q. q ≢ ends) one two → row_of two ends ≡ slice_set (row_of one ends) x kept →
     KeepsRows (Others leaves ends) old two × (row_of two 0 ≡ row_of mid 0) × (row_of two leaves ≡ slice_set (row_of old leaves) x leaf) × (row_of two ends ≡ slice_set (row_of old ends) x kept)
-rows_written leaves ends x leaf kept old mid one two some apart a b leaf_is c kept_is = (
-  keeps_then (λ q. (q ≢ 0) × (q ≢ leaves)) (λ q. q ≢ ends) (Others leaves ends) old one two (λ q is. ((λ e. omega (arith, e, is.0), is.1), is.2))
-      (keeps_then (λ q. q ≢ 0) (λ q. q ≢ leaves) (λ q. (q ≢ 0) × (q ≢ leaves)) old mid one (λ q is. is) a b) c,
-  c.same 0 (λ e. omega (arith, e, some, apart)) ∙ b.same 0 (λ e. omega (arith, e, some)),
-  c.same leaves (λ e. omega (arith, e, apart)) ∙ leaf_is ∙ ap (λ l. slice_set l x leaf) (a.same leaves (λ e. omega (arith, e, some))),
-  kept_is ∙ ap (λ l. slice_set l x kept) (b.same ends (λ e. omega (arith, e, apart)) ∙ a.same ends (λ e. omega (arith, e, some, apart))),
-)
+rows_written leaves ends x leaf kept old mid one two some apart a b leaf_is c kept_is = search rules

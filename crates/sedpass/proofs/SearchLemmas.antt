@@ -1,32 +1,27 @@
 -- What the pass from the text's end says of matches of the whole expression, and what searches cost.
-use Rattle.std.proofs.Common.{inl, inr, ◌≡◌, ℕ, zero, suc, ◌+◌, ◌-◌, ◌*◌, ◌/◌, ◌<◌, ◌≤◌, ◌↔◌, Bool, true, false, max, List, length, Option, Some, None, IsTrue, refl, sym, ap, ◌∙◌, subst, ⊎_elim, true≢false, arith, mul-le-mul_left, IfSome, if◌then◌else◌}
-use Rattle.sedpass.proofs.Words.{cases_lt, IsArena, WrittenExpression, expression_tree, Tree, TakesAtLeast, SpanAnswer, Starts, HasSpan, one_start, IsLongestFrom, starts_to, AllBegin, NextStart, NoneIn, Table, Matches, IsLeftmostLongest, NotFound, SomeFound, Matches-forward, Matches-within, Region, Seeking, Prepared, least_less, least_none, least_both, least_since, Kept, Way}
+use Rattle.std.proofs.Common.{inl, inr, ◌≡◌, ℕ, zero, suc, ◌+◌, ◌-◌, ◌*◌, ◌/◌, ◌<◌, ◌≤◌, ◌↔◌, Bool, true, false, max, List, length, Option, Some, None, IsTrue, refl, sym, ap, ◌∙◌, subst, true≢false, arith, mul-le-mul_left, IfSome, if◌then◌else◌}
+use Rattle.sedpass.proofs.Words.{cases_lt, IsArena, WrittenExpression, expression_tree, Tree, TakesAtLeast, SpanAnswer, Starts, HasSpan, IsStart, IsLongestFrom, starts_to, AllBegin, NextStart, NoneIn, Table, Matches, NotFound, SomeFound, Matches-forward, Matches-within, Region, Seeking, Prepared, least_less, least_none, least_both, least_since, Kept, Way}
 use Rattle.sedtext.specs.declared.beginnings.Begins.{Begins}
 use Rattle.sedpass.specs.Table.{IsTable, SameShape, PassState, state_of, LeadsOn, NamesState, cell_of, MayBegin, IsColumn}
-use Rattle.sedpass.specs.Kept.{AllMarked, SameSpace, ends_shown, IsKept, IsRegion}
+use Rattle.sedpass.specs.Kept.{AllMarked, SameSpace, ends_shown, IsKept}
 use Rattle.sedpass.specs.Regions.{CeasesAt, all_of, ReachesEnd}
 use Rattle.sedpass.specs.Search.{LooksFrom, TrialsMade, owed_after_search, owed_kept, owed_seeking, search_cost, SearchServes, Searched}
 use Rattle.sedpass.proofs.KeptLemmas.{space_same, same_shape, space_then}
 use Rattle.sedpass.proofs.OwedLemmas.{owed_small}
 use Rattle.sedpass.specs.declared.search.Trials.TheVariants.{Tired}
-use Rattle.sedpass.proofs.LeaveLemmas.{reaches_ends}
-use Rattle.sedpass.proofs.MeetingLemmas.{meets_whole}
+use Rattle.sedpass.proofs.LeaveLemmas.{CanLeave-last, last-leaves, reaches_ends}
+use Rattle.sedpass.proofs.MeetingLemmas.{stops_at}
 use Rattle.sedpass.proofs.ForwardLemmas.{root_spans}
 use Rattle.sedpass.specs.Rows.{nodes_of}
 
--- where no place before begins a match, the longest one from there is the one sought
-pub found_at : (e : WrittenExpression) (w : List ℕ) (from i j : ℕ) → from ≤ i → NoneIn (expression_tree e) w from i → IsLongestFrom (expression_tree e) w i (Some j) → IsLeftmostLongest (expression_tree e) w from i j
-found_at e w from i j after none longest = record { after = after; spans = longest.0; longest = longest.1; leftmost = λ h k low high. none h k low high }
-
 -- where one place more begins none
-pub none_more : (e : WrittenExpression) (w : List ℕ) (from i : ℕ) → NoneIn (expression_tree e) w from i → IsLongestFrom (expression_tree e) w i None → NoneIn (expression_tree e) w from (i + 1)
-none_more e w from i none longest = λ h k low high span.
-    elim (cases_lt h i) [ inl before ↦ none h k low before span | inr at ↦ let same : h ≡ i = omega arith in longest k (subst (λ v. Matches (expression_tree e) w v k) same span) ]
+pub none_more : (e : Tree) (w : List ℕ) (from i : ℕ) → NoneIn e w from i → IsLongestFrom e w i None → NoneIn e w from (i + 1)
+none_more e w from i none longest h k low high span =
+    elim (cases_lt h i) [ inl before ↦ none h k low before span | inr at ↦ let same : h ≡ i = omega arith in longest k (subst (λ v. Matches e w v k) same span) ]
 
 -- and places after those that begin none
-pub none_on : (e : WrittenExpression) (w : List ℕ) (from k i : ℕ) → NoneIn (expression_tree e) w from k → NoneIn (expression_tree e) w k i → NoneIn (expression_tree e) w from i
-none_on e w from k i none more = λ h l low high span.
-    elim (cases_lt h k) [ inl before ↦ none h l low before span | inr at ↦ more h l at high span ]
+pub none_on : (e : Tree) (w : List ℕ) (from k i : ℕ) → NoneIn e w from k → NoneIn e w k i → NoneIn e w from i
+none_on e w from k i none more h l low high span = elim (cases_lt h k) [ inl before ↦ none h l low before span | inr at ↦ more h l at high span ]
 
 module _ (p : Prepared) (w : List ℕ) (arena : IsArena p.arena.expr.nodes) where
   abbrev pub all : Starts
@@ -45,77 +40,41 @@ module _ (p : Prepared) (w : List ℕ) (arena : IsArena p.arena.expr.nodes) wher
   none_marked from start low none = λ i k after before span. absurd (true≢false (sym ((none i after before).1 ((begins_at i (omega arith)).1 (k, span)))))
 
   -- nor at the end, where it doesn't match the null string
-  pub none_kept : (from : ℕ) → NoneIn (expression_tree p.arena.expr) w from (length w) → (HasSpan p.arena.expr.nodes w p.root (length w) (length w) → ⊥) → NotFound (expression_tree p.arena.expr) w from
-  none_kept from none null = λ i k after within span.
-      ⊎_elim
-      (λ (before : i < length w). none i k after before span)
-      (λ (at : length w ≤ i).
-      let on = Matches-forward (expression_tree p.arena.expr) w i k span in
-      let in_text = Matches-within (expression_tree p.arena.expr) w i k within span in
-      let same : i ≡ length w = omega arith in
-      let end : k ≡ length w = omega arith in
-      null (subst (λ v. HasSpan p.arena.expr.nodes w p.root v (length w)) same (subst (λ v. HasSpan p.arena.expr.nodes w p.root i v) end ((root_spans p w i k).1 span))))
-      (cases_lt i (length w))
+  pub none_kept : (from start : ℕ) → start ≡ length w → AllMarked p.arena.expr.nodes w p.root all p.root false from start → (HasSpan p.arena.expr.nodes w p.root start start → ⊥) → NotFound (expression_tree p.arena.expr) w from
+  none_kept from start end none null = λ i k after within span. elim (cases_lt i start) [
+    | inl before ↦ none_marked from start (omega arith) none i k after before span
+    | inr at ↦
+        let on = Matches-forward (expression_tree p.arena.expr) w i k span in
+        let in_text = Matches-within (expression_tree p.arena.expr) w i k within span in
+        let same : i ≡ start = omega arith in
+        let stop : k ≡ start = omega arith in
+        null (subst (λ v. HasSpan p.arena.expr.nodes w p.root v start) same (subst (λ v. HasSpan p.arena.expr.nodes w p.root i v) stop ((root_spans p w i k).1 span)))
+  ]
+
+  -- one begins where the root is marked before the end, or, at the end, where it is null
+  pub begins_some : (start : ℕ) → start ≤ length w → (start < length w → ReachesEnd p.arena.expr.nodes w p.root all p.root start) → (start ≡ length w → HasSpan p.arena.expr.nodes w p.root start start) →
+      (k : ℕ) × Matches (expression_tree p.arena.expr) w start k
+  begins_some start low found null = elim (cases_lt start (length w)) [
+    | inl lt ↦ (begins_at start low).0 (found lt)
+    | inr ge ↦ let at : start ≡ length w = omega arith in (start, (root_spans p w start start).0 (null at))
+  ]
 
   -- a pass from where one begins ceases to meet the kept one at its longest end
   pub longest_kept : (start stop k : ℕ) → start ≤ length w → Matches (expression_tree p.arena.expr) w start k → CeasesAt p.arena.expr.nodes w p.root all p.root start stop → IsLongestFrom (expression_tree p.arena.expr) w start (Some stop)
   longest_kept start stop k low span ceases =
+      let nodes = p.arena.expr.nodes in
+      let e = expression_tree p.arena.expr in
+      let root = all_of p.root refl in
       let last = p.is_prepared.last in
-      let inside : p.root < length p.arena.expr.nodes = omega arith in
-      let most : (l : ℕ) → Matches (expression_tree p.arena.expr) w start l → l ≤ stop = λ l more. ⊎_elim
-      (λ (later : stop < l).
-      let in_text = Matches-within (expression_tree p.arena.expr) w start l low more in
-      absurd (ceases.2 ((meets_whole p.arena.expr.nodes w p.root stop (one_start start) all arena inside).1 (start, l, (omega arith, omega arith), ceases.0, later, (root_spans p w start l).1 more, (omega arith, omega arith)))))
-      (λ (ge : l ≤ stop). ge)
-      (cases_lt stop l) in
-      let high = most k span in
-      ⊎_elim
-      (λ (later : start < stop).
-      let met = (meets_whole p.arena.expr.nodes w p.root (stop - 1) (one_start start) all arena inside).0 (ceases.1 (stop - 1) (omega arith) (omega arith)) in
-      let first = met.2 in
-      let same : met.0 ≡ start = omega arith in
-      let here : Matches (expression_tree p.arena.expr) w start met.1 = subst (λ v. Matches (expression_tree p.arena.expr) w v met.1) same ((root_spans p w met.0 met.1).0 met.5) in
-      let top = most met.1 here in
-      let after = met.4 in
-      let end : met.1 ≡ stop = omega arith in
-      (subst (Matches (expression_tree p.arena.expr) w start) end here, most))
-      (λ (ge : stop ≤ start).
-      let up = Matches-forward (expression_tree p.arena.expr) w start k span in
-      let end : k ≡ stop = omega arith in
-      (subst (Matches (expression_tree p.arena.expr) w start) end span, most))
-      (cases_lt start stop)
+      let stop_is = stops_at nodes w p.root p.root all arena (omega arith) (omega arith) (IsStart all) (λ q. (last-leaves nodes w p.root all arena p.root q root, CanLeave-last nodes w p.root all arena p.root q root))
+      start stop k (Matches-forward e w start k span) ((root_spans p w start k).1 span) (omega arith, Matches-within e w start k low span) ceases in
+      ((root_spans p w start stop).0 stop_is.0, λ l more. stop_is.2 l ((root_spans p w start l).1 more) (omega arith, Matches-within e w start l low more))
 
 -- what a kept pass over all places says
-shown_whole : (P : ℕ → Starts → Type 0) (p : Prepared) (n : ℕ) (b : Bool) (r end : ℕ) → IsTrue b → r ≡ p.root → P r (ends_shown b n end) → P p.root (starts_to 0 n)
-shown_whole P p n b r end all_starts root shown = subst (λ v. P p.root (ends_shown v n end)) all_starts (subst (λ v. P v (ends_shown b n end)) root shown)
-
--- no match is found where the root is marked nowhere, nor null at the end
-pub kept_none : (p : Prepared) (w : List ℕ) (b : Bool) (r end from start : ℕ) (null : Bool) → IsArena p.arena.expr.nodes → IsTrue b → r ≡ p.root → start ≡ length w →
-    AllMarked p.arena.expr.nodes w r (ends_shown b (length w) end) p.root false from start → (IsTrue null ↔ HasSpan p.arena.expr.nodes w p.root start start) → null ≡ false →
-    NotFound (expression_tree p.arena.expr) w from
-kept_none p w b r end from start null arena all_starts root at none shows is =
-    let before = none_marked p w arena from start (omega arith) (shown_whole (λ v t. AllMarked p.arena.expr.nodes w v t p.root false from start) p (length w) b r end all_starts root none) in
-    none_kept p w arena from (subst (NoneIn (expression_tree p.arena.expr) w from) at before)
-    (λ span. absurd (true≢false (sym (shows.1 (subst (λ v. HasSpan p.arena.expr.nodes w p.root v v) (sym at) span)) ∙ is)))
-
--- where one begins, and a pass from there ceases to meet the kept one, is the one sought
-pub kept_found : (p : Prepared) (w : List ℕ) (b : Bool) (r end : ℕ) (b' : Bool) (r' end' from start stop : ℕ) → IsArena p.arena.expr.nodes → IsTrue b → r ≡ p.root → IsTrue b' → r' ≡ p.root → from ≤ start → start ≤ length w →
-    AllMarked p.arena.expr.nodes w r (ends_shown b (length w) end) p.root false from start → ((k : ℕ) × Matches (expression_tree p.arena.expr) w start k) →
-    CeasesAt p.arena.expr.nodes w r' (ends_shown b' (length w) end') p.root start stop → IsLeftmostLongest (expression_tree p.arena.expr) w from start stop
-kept_found p w b r end b' r' end' from start stop arena all_starts root all_starts' root' after low none begins ceases =
-    let marked = shown_whole (λ v t. AllMarked p.arena.expr.nodes w v t p.root false from start) p (length w) b r end all_starts root none in
-    let met = shown_whole (λ v t. CeasesAt p.arena.expr.nodes w v t p.root start stop) p (length w) b' r' end' all_starts' root' ceases in
-    found_at p.arena.expr w from start stop after (none_marked p w arena from start low marked) (longest_kept p w arena start stop begins.0 low begins.1 met)
-
--- one begins where the root is marked before the end, or, at the end, where it is null
-pub begins_some : (p : Prepared) (w : List ℕ) (b : Bool) (r end start : ℕ) → IsArena p.arena.expr.nodes → IsTrue b → r ≡ p.root → end ≡ length w → start ≤ length w →
-    (start < end → IsTrue true ↔ ReachesEnd p.arena.expr.nodes w r (ends_shown b (length w) end) p.root start) → (start ≡ length w → HasSpan p.arena.expr.nodes w p.root start start) →
-    (k : ℕ) × Matches (expression_tree p.arena.expr) w start k
-begins_some p w b r end start arena all_starts root whole low found null =
-    ⊎_elim
-    (λ (lt : start < end). (begins_at p w arena start low).0 (shown_whole (λ v t. ReachesEnd p.arena.expr.nodes w v t p.root start) p (length w) b r end all_starts root ((found lt).0 refl)))
-    (λ (ge : end ≤ start). let at : start ≡ length w = omega arith in (start, (root_spans p w start start).0 (null at)))
-    (cases_lt start end)
+pub shown_whole : (P : ℕ → Starts → Type 0) (p : Prepared) (w : List ℕ) (t : Table) (k : Kept) → IsKept p w t k → IsTrue t.way.all_starts → P k.region.root (ends_shown t.way.all_starts k.region.end) → P p.root (starts_to 0 (length w))
+shown_whole P p w t k kept all_starts shown =
+    subst (λ v. P p.root (starts_to 0 v)) (kept.region.whole all_starts)
+    (subst (λ b. P p.root (ends_shown b k.region.end)) all_starts (subst (λ r. P r (ends_shown t.way.all_starts k.region.end)) (kept.region.root.1 all_starts) shown))
 
 -- Costs.
 
@@ -129,40 +88,23 @@ kept_cost m n from start stop s0 s1 s2 s3 o0 o1 o2 some low on within seek null 
     let a3 : 42 * m * (n - from) ≡ 42 * m * (d1 + d2 + (n - stop)) = ap (λ v. 42 * m * v) (omega arith) in
     omega (arith, mul-le-mul_left d1 some, a1, a2, a3)
 
-pub none_cost : (m n from start s0 s1 s2 o0 o1 : ℕ) → 1 ≤ m → from ≤ start → start ≤ n → s1 + (o1 + 2 * from) ≤ s0 + (o0 + 2 * start + 2) → s2 ≤ s1 + 1 → s2 + 0 ≤ s0 + (o0 + 42 * m * (n - from) + 42 * m)
-none_cost m n from start s0 s1 s2 o0 o1 some low within seek null =
-    omega (arith, mul-le-mul_left (n - from) some, seek, null)
-
 -- the places that trials went over, as those that are left for them
-tried_left : (m n tried tried' s t a b : ℕ) → tried ≤ n → tried' ≤ 2 * n + 1 → t + (40 * m * tried + a) ≤ s + (40 * m * tried' + b) → t + (40 * m * (2 * n + 1 - tried') + a) ≤ s + (40 * m * (2 * n + 1 - tried) + b)
+pub tried_left : (m n tried tried' s t a b : ℕ) → tried ≤ n → tried' ≤ 2 * n + 1 → t + (40 * m * tried + a) ≤ s + (40 * m * tried' + b) → t + (40 * m * (2 * n + 1 - tried') + a) ≤ s + (40 * m * (2 * n + 1 - tried) + b)
 tried_left m n tried tried' s t a b few few' pays =
     let a1 : 40 * m * (tried + (2 * n + 1 - tried)) ≡ 40 * m * (2 * n + 1) = ap (λ x. 40 * m * x) (omega arith) in
     let a2 : 40 * m * (tried' + (2 * n + 1 - tried')) ≡ 40 * m * (2 * n + 1) = ap (λ x. 40 * m * x) (omega arith) in
     omega (arith, pays, a1, a2)
 
 -- a hit
-pub hit_cost : (m n from i j tried tried' s t : ℕ) → 1 ≤ m → from ≤ i → i ≤ j → j ≤ n → tried ≤ n → tried' ≤ 2 * n + 1 → t + (40 * m * tried + 3 * from) ≤ s + (40 * m * tried' + (3 * (i + 1) + 40 * m * (j + 1 - i))) →
+pub hit_cost : (m n from i j tried tried' s t : ℕ) → 1 ≤ m → from ≤ i → i ≤ j → j ≤ n → tried ≤ n → tried' ≤ 2 * n + 1 → t + (40 * m * tried + 3 * from) ≤ s + (40 * m * (tried' + (j + 1 - i)) + 3 * (i + 1)) →
     t + (40 * m * (2 * n + 1 - tried') + 142 * m * (n - j)) ≤ s + (40 * m * (2 * n + 1 - tried) + 142 * m * (n - from) + 43 * m)
 hit_cost m n from i j tried tried' s t some low on within few few' pays =
     let d1 = i - from in
     let d2 = j - i in
     let a1 : 142 * m * (n - from) ≡ 142 * m * (d1 + d2 + (n - j)) = ap (λ x. 142 * m * x) (omega arith) in
     let a2 : 40 * m * (j + 1 - i) ≡ 40 * m * (d2 + 1) = ap (λ x. 40 * m * x) (omega arith) in
-    let left = tried_left m n tried tried' s t (3 * from) (3 * (i + 1) + 40 * m * (j + 1 - i)) few few' pays in
+    let left = tried_left m n tried tried' s t (3 * from) (3 * (i + 1) + 40 * m * (j + 1 - i)) few few' (omega (arith, pays)) in
     omega (arith, left, mul-le-mul_left d1 some, a1, a2)
-
--- no match
-pub nothing_cost : (m n from tried tried' s t : ℕ) → 1 ≤ m → from ≤ n → tried ≤ n → tried' ≤ 2 * n + 1 → t + (40 * m * tried + 3 * from) ≤ s + (40 * m * tried' + 3 * (n + 1)) →
-    t + 0 ≤ s + (40 * m * (2 * n + 1 - tried) + 142 * m * (n - from) + 43 * m)
-nothing_cost m n from tried tried' s t some low few few' pays = omega (arith, tried_left m n tried tried' s t (3 * from) (3 * (n + 1)) few few' pays, mul-le-mul_left (n - from) some)
-
--- a pass from the end is left to do after trials
-tired_cost : (m n from k tried tried' s t : ℕ) → 1 ≤ m → from < k → k ≤ n → tried ≤ n → tried' ≤ 2 * n + 1 → t + (40 * m * tried + 3 * from) ≤ s + (40 * m * tried' + 3 * k) →
-    t + (40 * m * (2 * n + 1 - tried') + 142 * m * (n - k)) ≤ s + (40 * m * (2 * n + 1 - tried) + 142 * m * (n - from))
-tired_cost m n from k tried tried' s t some low within few few' pays =
-    let d = k - from in
-    let a : 142 * m * (n - from) ≡ 142 * m * (d + (n - k)) = ap (λ x. 142 * m * x) (omega arith) in
-    omega (arith, tried_left m n tried tried' s t (3 * from) (3 * k) few few' pays, mul-le-mul_left d some, a)
 
 -- and of one search, whatever was found out before it
 few_tried : (m n x tried z : ℕ) → z ≤ max tried (n / 8) + x → 40 * m * z ≤ 40 * m * tried + 5 * (m * n) + 40 * m * x
@@ -172,19 +114,11 @@ few_tried m n x tried z few =
     let most : z ≤ tried + q + x = omega (arith, few) in
     omega (arith, mul-le-mul_left m most, mul-le-mul_left m eight)
 
-pub hit_each : (m n from i j tried tried' s t : ℕ) → 1 ≤ m → from ≤ i → i ≤ j → j ≤ n → tried' + (j + 1 - i) ≤ max tried (n / 8) + (n + 1 - from) →
-    t + (40 * m * tried + 3 * from) ≤ s + (40 * m * tried' + (3 * (i + 1) + 40 * m * (j + 1 - i))) → t ≤ s + search_cost m n from
-hit_each m n from i j tried tried' s t some low on within few pays =
+pub trials_each : (m n from room to tried s t : ℕ) → 1 ≤ m → from ≤ n → to ≤ n + 1 → room ≤ max tried (n / 8) + (n + 1 - from) → t + (40 * m * tried + 3 * from) ≤ s + (40 * m * room + 3 * to) → t ≤ s + search_cost m n from
+trials_each m n from room to tried s t some low within few pays =
     let x = n - from in
     let a : 40 * m * (n + 1 - from) ≡ 40 * m * (x + 1) = ap (λ v. 40 * m * v) (omega arith) in
-    let most = few_tried m n (n + 1 - from) tried (tried' + (j + 1 - i)) few in
-    omega (arith, most, mul-le-mul_left x some, a, pays)
-
-pub nothing_each : (m n from tried tried' s t : ℕ) → 1 ≤ m → from ≤ n → tried' ≤ max tried (n / 8) + (n + 1 - from) → t + (40 * m * tried + 3 * from) ≤ s + (40 * m * tried' + 3 * (n + 1)) → t ≤ s + search_cost m n from
-nothing_each m n from tried tried' s t some low few pays =
-    let x = n - from in
-    let a : 40 * m * (n + 1 - from) ≡ 40 * m * (x + 1) = ap (λ v. 40 * m * v) (omega arith) in
-    omega (arith, few_tried m n (n + 1 - from) tried tried' few, mul-le-mul_left x some, a, pays)
+    omega (arith, few_tried m n (n + 1 - from) tried room few, mul-le-mul_left x some, a, pays)
 
 tired_each : (m n from k tried tried' s t1 t2 : ℕ) → 1 ≤ m → from < k → k ≤ n → tried' ≤ max tried (n / 8) + (n + 1 - from) → t1 + (40 * m * tried + 3 * from) ≤ s + (40 * m * tried' + 3 * k) →
     t2 ≤ t1 + (142 * m * (n - k) + 42 * m) → t2 ≤ s + search_cost m n from
@@ -208,46 +142,6 @@ search_long m n from =
     let inner : 5 * n + 142 * (n - from) + 40 * (n - from - 1) + 44 ≤ 192 * n + 48 = omega arith in
     mul-le-mul_left m inner
 
--- a trial's places: those past its end, and those of the match
-pub hit_room : (tried place end from start n most : ℕ) → from ≤ start → start ≤ place → place ≤ n → start ≤ end → end ≤ n → tried ≤ most → tried + (place - end) + (end + 1 - start) ≤ most + (n + 1 - from)
-hit_room tried place end from start n most after low within on inside few = omega arith
-
-pub hit_paid : (m from start here place end tried old s0 s1 s2 : ℕ) → 1 ≤ m → start ≤ here → here ≤ end → here ≤ place → s1 + (40 * m * old + 3 * from) ≤ s0 + (40 * m * tried + 3 * start) →
-    s2 + 3 * start ≤ s1 + (3 * (here + 1) + 40 * m * (place + 1 - here)) → s2 + (40 * m * old + 3 * from) ≤ s0 + (40 * m * (tried + (place - end)) + (3 * (here + 1) + 40 * m * (end + 1 - here)))
-hit_paid m from start here place end tried old s0 s1 s2 some low on up paid trial =
-    let c = end + 1 - here in
-    let few : (place + 1 - here) ≤ (place - end) + c = omega arith in
-    omega (arith, mul-le-mul_left m few, paid, trial)
-
--- a trial is paid: a search for where it begins, and a pass
-pub trial_cost : (m from start place s0 s1 s2 : ℕ) → start ≤ place → s1 + 3 * from ≤ s0 + 3 * (start + 1) → s2 + 40 * m * start ≤ s1 + 40 * m * (place + 1) → s2 + 3 * from ≤ s0 + (3 * (start + 1) + 40 * m * (place + 1 - start))
-trial_cost m from start place s0 s1 s2 low first pass =
-    let d = place + 1 - start in
-    let is : place + 1 ≡ start + d = omega arith in
-    let all : 40 * m * (place + 1) ≡ 40 * m * (start + d) = ap (λ x. 40 * m * x) is in
-    omega (arith, all, first, pass)
-
--- no match begins from the place on before the trial's, and it gives the longest one from there
-pub record IsTrial (e : Tree) (w : List ℕ) (from start place : ℕ) (end : Option ℕ) : Type 0 where
-  pub after : from ≤ start
-  pub passed : start ≤ place
-  pub within : place ≤ length w
-  pub reached : IfSome end (λ j. j ≤ place)
-  pub none : NoneIn e w from start
-  pub longest : IsLongestFrom e w start end
-
--- so it is where the first place is tried at which one can begin
-pub trial_is : (e : Tree) (w : List ℕ) (begins : Begins) (from start place : ℕ) (end : Option ℕ) → AllBegin e begins → NextStart begins w from (Some start) → start ≤ place → place ≤ length w →
-    IfSome end (λ j. j ≤ place) → IsLongestFrom e w start end → IsTrial e w from start place end
-trial_is e w begins from start place end all next passed within reached longest = record {
-  after = next.0;
-  passed = passed;
-  within = within;
-  reached = reached;
-  none = λ i k low high span. next.2 i low high (all w i k span);
-  longest = longest;
-}
-
 -- the first place at which one can begin is as good as one before it
 pub some_from : (e : Tree) (w : List ℕ) (begins : Begins) (from start : ℕ) → AllBegin e begins → NextStart begins w from (Some start) → SomeFound e w start ↔ SomeFound e w from
 some_from e w begins from start all next = (
@@ -268,22 +162,11 @@ looks_tried from start here place s a b c before first pass n low =
 
 -- the match from a place on, where none begins before another
 pub later_answer : (e : Tree) (w : List ℕ) (from k : ℕ) (r : Option (ℕ × ℕ)) → from ≤ k → NoneIn e w from k → SpanAnswer e w k r → SpanAnswer e w from r
-later_answer e w from k None low none is = (
-  tt,
-  λ i j after within span. ⊎_elim (λ (before : i < k). none i j after before span) (λ (ge : k ≤ i). is.1 i j ge within span) (cases_lt i k),
-  tt,
-)
+later_answer e w from k None low none is =
+    (tt, λ i j after within span. elim (cases_lt i k) [ inl before ↦ none i j after before span | inr ge ↦ is.1 i j ge within span ], tt)
 later_answer e w from k (Some f) low none is =
-    let on = is.0.after in (
-      record {
-        after = omega (arith, on, low);
-        spans = is.0.spans;
-        longest = is.0.longest;
-        leftmost = λ h l after before span. ⊎_elim (λ (lt : h < k). none h l after lt span) (λ (ge : k ≤ h). is.0.leftmost h l ge before span) (cases_lt h k);
-      },
-      tt,
-      is.2,
-    )
+    let on = is.0.after in
+    (record { after = omega (arith, on, low); spans = is.0.spans; longest = is.0.longest; leftmost = none_on e w from k f.0 none is.0.leftmost }, tt, is.2)
 
 -- what searches by trials may still take
 pub unbegun : (m n : ℕ) (s : Seeking) (place : ℕ) → s.begun ≡ false → owed_seeking m n s place ≡ 40 * m * (2 * n + 1 - s.tried) + 142 * m * (n - place)
@@ -334,7 +217,10 @@ comes_tired p w a a' old mid from place before after shape space is is' few made
     let last = p.is_prepared.last in
     let answer = made.answer in
     let most = made.few in
-    let paid = tired_cost m n from place old.tried mid.tried before after (omega (arith, last)) answer.0 answer.1 few (omega (arith, most, few)) made.cost.1 in
+    let some : 1 ≤ m = omega (arith, last) in
+    let d = place - from in
+    let rest : 142 * m * (n - from) ≡ 142 * m * (d + (n - place)) = ap (λ x. 142 * m * x) (omega (arith, answer.0, answer.1)) in
+    let left = tried_left m n old.tried mid.tried before after (3 * from) (3 * place) few (omega (arith, most, few)) made.cost.1 in
     record {
       shape = shape;
       space = space;
@@ -342,8 +228,8 @@ comes_tired p w a a' old mid from place before after shape space is is' few made
       within = answer.1;
       none = answer.2;
       grows = made.cost.0;
-      cost = omega (arith, paid, unbegun m n old from is, unbegun m n mid place is');
-      each = λ t more. tired_each m n from place old.tried mid.tried before after t (omega (arith, last)) answer.0 answer.1 most made.cost.1 more;
+      cost = omega (arith, left, mul-le-mul_left d some, rest, answer.0, unbegun m n old from is, unbegun m n mid place is');
+      each = λ t more. tired_each m n from place old.tried mid.tried before after t some answer.0 answer.1 most made.cost.1 more;
       counts = made.counts;
     }
 
@@ -376,15 +262,9 @@ looks_past at s a b (Some f) grows after = least_since s a b (f.1 - at) grows (l
 
 -- What a search takes at most.
 
-square : (n : ℕ) → n ≤ n * n
+pub square : (n : ℕ) → n ≤ n * n
 square zero = omega arith
 square (suc n) = let h = mul-le-mul_left (suc n) (let h : 1 ≤ suc n = omega arith in h) in omega (arith, h)
-
-pub alone_square : (m n : ℕ) → 1 ≤ m → m * (192 * n + 48) ≤ 64 * m * m * (n + 1) * (n + 1)
-alone_square m n some =
-    let inner : 192 * n + 48 ≤ 64 * (n + 1) * (n + 1) = omega (arith, square n) in
-    let b = mul-le-mul_left (m * (64 * (n + 1) * (n + 1))) some in
-    omega (arith, mul-le-mul_left m inner, b)
 
 -- What a table says, and what is kept of a pass, depends on the expression alone: made ready once more, it holds as before.
 
@@ -408,30 +288,27 @@ module _ (p q : Prepared) (same : p.arena.expr ≡ q.arena.expr) where
     begun = λ root kind may now. rw (← same) (table.begun root kind (begins_for q p (sym same) t.way root may) now);
   }
 
-  region_for : (w : List ℕ) (t : Table) (k : Kept) → IsRegion p w t k → IsRegion q w t k
-  region_for w t k region = record {
-    table = table_for t region.table;
-    room = rw (← same) region.room;
-    root = begins_for p q same t.way k.region.root region.root;
-    whole = region.whole;
-    inside = region.inside;
-    within = region.within;
-    long = region.long;
-  }
-
-  pub kept_for : (w : List ℕ) (t : Table) (k : Kept) → IsKept p w t k → IsKept q w t k
-  kept_for w t k kept = record {
-    region = region_for w t k kept.region;
-    low = kept.low;
-    from = kept.from;
-    live = λ place low high. rw (← same) (kept.live place low high);
-    edges = λ b after before. rw (← same) (kept.edges b after before);
-  }
-
   pub serves_for : (w : List ℕ) (reverse_any : Table) (s : Seeking) → SearchServes p w reverse_any s → SearchServes q w reverse_any s
   serves_for w reverse_any s serves = record {
     table = table_for reverse_any serves.table;
     room = rw (← same) serves.room;
     all_starts = serves.all_starts;
-    kept = λ begun. kept_for w reverse_any s.kept (serves.kept begun);
+    kept = λ begun.
+        let kept = serves.kept begun in
+        let region = kept.region in
+        record {
+          region = record {
+            table = table_for reverse_any region.table;
+            room = rw (← same) region.room;
+            root = begins_for p q same reverse_any.way s.kept.region.root region.root;
+            whole = region.whole;
+            inside = region.inside;
+            within = region.within;
+            long = region.long;
+          };
+          low = kept.low;
+          from = kept.from;
+          live = λ place low high. rw (← same) (kept.live place low high);
+          edges = λ b after before. rw (← same) (kept.edges b after before);
+        };
   }

@@ -1,31 +1,19 @@
 -- What comes in place of a node, by its kind.
-use Rattle.std.proofs.Common.{◌≡◌, ℕ, ◌+◌, ◌-◌, ◌<◌, ◌≤◌, ◌⊎◌, Bool, [], ◌∷◌, length, Option, None, Some, IsTrue, refl, sym, ap, ◌∙◌, subst, inl, inr, ⊎_elim, arith}
-use Rattle.sedpass.proofs.Words.{Tree, tree_of, tree_at, size, IsPart, Takes, TakesAtLeast, Node, NodeId, Seq, Alt, Group, Star, Opt, tree_at-node, HasSpan, LastCut, parts_of, total_size, Matches, open_at, Matches-forward, size-parts, size-pos, Matched, Apart, Forget, Done, One, Two, Region, Subject}
-use Rattle.sedpass.specs.Decide.{EndsRegion, HasNoKnownLength, IsCopyFrom, LooksAt, NodeTurned, part_cost, nodes_in, subject_text, NodeMatches, IsTurn, NoneSettled, entered_at}
+use Rattle.std.proofs.Common.{◌≡◌, ℕ, ◌+◌, ◌-◌, ◌<◌, ◌≤◌, ◌⊎◌, Bool, [], ◌∷◌, length, None, Some, IsTrue, refl, sym, ap, subst, inl, inr, ⊎_elim, arith}
+use Rattle.sedpass.proofs.Words.{tree_of, tree_at, size, IsPart, Takes, TakesAtLeast, Node, NodeId, Seq, Alt, Group, Star, Opt, tree_at-node, HasSpan, LastCut, parts_of, total_size, Matches, open_at, Matches-forward, size-parts, size-pos, Matched, Apart, Forget, Done, One, Two, Region, Subject}
+use Rattle.sedpass.specs.Decide.{EndsRegion, HasNoKnownLength, IsCopyFrom, LooksAt, NodeTurned, part_cost, nodes_in, subject_text, NodeMatches, IsTurn, entered_at}
 use Rattle.sedpass.specs.Regions.{all_of, last_of}
-use Rattle.sedpass.specs.Walks.{GroupState, settle, drop_groups, NoneDue, WalkEnters}
-use Rattle.sedpass.proofs.OneGroupLemmas.{copy_spans, settle_takes, drop_takes, takes_blank, passes_by}
-
--- what is due has no span, before and after
-pub settle_blank : (k : ℕ) (v : Option (ℕ × ℕ)) (s : GroupState) → NoneSettled s → NoneSettled (settle k v s)
-settle_blank k v s blank n is = takes_blank n _ s (settle k v s) (settle_takes k n v s) (blank n) is
-
-pub drop_blank : (t : Tree) (s : GroupState) → NoneSettled s → NoneSettled (drop_groups t s)
-drop_blank t s blank n is = takes_blank n _ s (drop_groups t s) (drop_takes t n s) (blank n) is
+use Rattle.sedpass.specs.Walks.{GroupState, settle, drop_groups, WalkEnters}
+use Rattle.sedpass.proofs.OneGroupLemmas.{copy_spans}
 
 -- nothing comes in place of the node
-done_turn : (s : Subject) (here : Matched) (old new : GroupState) (n : ℕ) → WalkEnters (tree_at (nodes_in s) here.node) (subject_text s) here.start here.stop old new n → IsTurn s here old new Done n
+pub done_turn : (s : Subject) (here : Matched) (old new : GroupState) (n : ℕ) → WalkEnters (tree_at (nodes_in s) here.node) (subject_text s) here.start here.stop old new n → IsTurn s here old new Done n
 done_turn s here old new n walk = record {
   run = λ rest f m run. (new, n, m, walk, run, refl);
   ready = tt;
   within = tt;
   less = omega (arith, size-pos (tree_at (nodes_in s) here.node));
-  fewer = omega (arith, size-pos (tree_at (nodes_in s) here.node));
 }
-
--- no group of it is due: it is left
-pub left_turn : (s : Subject) (here : Matched) (state : GroupState) → NoneDue (tree_at (nodes_in s) here.node) state → IsTurn s here state state Done 0
-left_turn s here state none = done_turn s here state state 0 (passes_by (tree_at (nodes_in s) here.node) (subject_text s) here.start here.stop state none)
 
 module _ (s : Subject) (here : Matched) (node : Node) (stands : NodeMatches s here node) where
   -- the match, by its parts
@@ -54,10 +42,18 @@ module _ (s : Subject) (here : Matched) (node : Node) (stands : NodeMatches s he
       record {
         run = λ rest f m run. (drop_groups (tree_at (nodes_in s) a.index) run.0, 1 + run.1, run.2, close_walk old _ _ (go run.0 run.1 run.3), run.4, omega (arith, run.5));
         ready = (record { inside = inside; up = up; fits = stands.there.fits; at = at }, (inside, tt));
-        within = (from, omega arith, tt);
+        within = ((from, omega arith), (tt, tt));
         less = omega (arith, long, size_is);
-        fewer = omega (arith, long, size_is);
       }
+
+  -- so does an empty copy of the part
+  null_turn : (a : NodeId) (state : GroupState) → IsPart node a.index → parts_of node ≡ a.index ∷ [] → here.start ≡ here.stop → HasSpan (nodes_in s) (subject_text s) a.index here.start here.start →
+      ((mid : GroupState) (m : ℕ) → WalkEnters (tree_at (nodes_in s) a.index) (subject_text s) here.start here.start state mid m →
+      WalkEnters (tree_of (tree_at (nodes_in s)) node) (subject_text s) here.start here.stop state (drop_groups (tree_at (nodes_in s) a.index) mid) (1 + m)) →
+      IsTurn s here state state (Two (record { node = a.index; start = here.start; stop = here.stop }) (Forget a.index)) 1
+  null_turn a state part parts same null go =
+      inner_turn a here.start state state part parts (omega arith) stands.there.up (subst (HasSpan (nodes_in s) (subject_text s) a.index here.start) same null)
+      (λ mid m walk. go mid m (subst (λ v. WalkEnters (tree_at (nodes_in s) a.index) (subject_text s) here.start v state mid m) (sym same) walk))
 
 -- a node of no other kind has no parts: nothing comes in its place
 pub leaf_turned : (s : Subject) (here : Matched) (node : Node) (state : GroupState) (r : Region) (steps : ℕ) → NodeMatches s here node → ((a b : NodeId) → node ≡ Seq a b → ⊥) → ((a b : NodeId) → node ≡ Alt a b → ⊥) →
@@ -101,9 +97,8 @@ seq_turned s here a b k state r before after stands ends cut cost looks =
           record { inside = part_inside s here (Seq a b) stands b.index (inr refl); up = on; fits = fits; at = cut.right },
           (record { inside = part_inside s here (Seq a b) stands a.index (inl refl); up = up; fits = omega (arith, on, fits); at = cut.left }, tt),
         );
-        within = (up, omega arith, (omega arith, on, tt));
+        within = ((up, omega arith), ((omega arith, on), tt));
         less = omega (arith, size_is);
-        fewer = omega (arith, size_is);
       };
       goes = (last_of here.node b.index (Seq a b) stands.is refl ends.0, ends.1);
       cost = (cost.0, omega (arith, cost.1));
@@ -118,28 +113,26 @@ pub alt_turned : (s : Subject) (here : Matched) (a b : NodeId) (c : ℕ) (state 
 alt_turned s here a b c state r before after stands ends which cost looks =
     let nodes = nodes_in s in
     let w = subject_text s in
-    let part : IsPart (Alt a b) c = elim which [ inl left ↦ inl (sym left.0) | inr right ↦ inr (sym right.0) ] in
-    let at : HasSpan nodes w c here.start here.stop = elim which [
-      | inl left ↦ subst (λ v. HasSpan nodes w v here.start here.stop) (sym left.0) left.1
-      | inr right ↦ subst (λ v. HasSpan nodes w v here.start here.stop) (sym right.0)
-          (⊎_elim (λ (l : HasSpan nodes w a.index here.start here.stop). absurd (right.1 l)) (λ (r : HasSpan nodes w b.index here.start here.stop). r) (opened s here (Alt a b) stands))
-    ] in
-    let walk : (mid : GroupState) (m : ℕ) → WalkEnters (tree_at nodes c) w here.start here.stop state mid m → WalkEnters (tree_of (tree_at nodes) (Alt a b)) w here.start here.stop state mid (1 + m) = λ mid m go. elim which [
-      | inl left ↦ inr (m, refl, inl (left.1, subst (λ v. WalkEnters (tree_at nodes v) w here.start here.stop state mid m) left.0 go))
-      | inr right ↦ inr (m, refl, inr (right.1, subst (λ v. WalkEnters (tree_at nodes v) w here.start here.stop state mid m) right.0 go))
+    let both : IsPart (Alt a b) c × HasSpan nodes w c here.start here.stop
+    × ((mid : GroupState) (m : ℕ) → WalkEnters (tree_at nodes c) w here.start here.stop state mid m → WalkEnters (tree_of (tree_at nodes) (Alt a b)) w here.start here.stop state mid (1 + m))
+    × (size (tree_at nodes c) ≤ size (tree_at nodes a.index) + size (tree_at nodes b.index)) = elim which [
+      | inl left ↦ rw left.0 (inl refl, left.1, λ mid m go. inr (m, refl, inl (left.1, go)), omega arith)
+      | inr right ↦ rw right.0 (
+        inr refl,
+        ⊎_elim (λ (l : HasSpan nodes w a.index here.start here.stop). absurd (right.1 l)) (λ (r : HasSpan nodes w b.index here.start here.stop). r) (opened s here (Alt a b) stands),
+        λ mid m go. inr (m, refl, inr (right.1, go)),
+        omega arith,
+      )
     ] in
     let size_is = long s here (Alt a b) stands in
-    let less : size (tree_at nodes c) ≤ size (tree_at nodes a.index) + size (tree_at nodes b.index) =
-    elim which [ inl left ↦ omega (arith, ap (λ v. size (tree_at nodes v)) left.0) | inr right ↦ omega (arith, ap (λ v. size (tree_at nodes v)) right.0) ] in
     record {
       turn = record {
-        run = λ rest f m run. (run.0, 1 + run.1, run.2, close_walk s here (Alt a b) stands state run.0 _ (walk run.0 run.1 run.3), run.4, omega (arith, run.5));
-        ready = (record { inside = part_inside s here (Alt a b) stands c part; up = stands.there.up; fits = stands.there.fits; at = at }, tt);
-        within = (omega arith, omega arith, tt);
-        less = omega (arith, size_is, less);
-        fewer = omega (arith, size_is, less);
+        run = λ rest f m run. (run.0, 1 + run.1, run.2, close_walk s here (Alt a b) stands state run.0 _ (both.2 run.0 run.1 run.3), run.4, omega (arith, run.5));
+        ready = (record { inside = part_inside s here (Alt a b) stands c both.0; up = stands.there.up; fits = stands.there.fits; at = both.1 }, tt);
+        within = ((omega arith, omega arith), tt);
+        less = omega (arith, size_is, both.3);
       };
-      goes = (last_of here.node c (Alt a b) stands.is part ends.0, ends.1);
+      goes = (last_of here.node c (Alt a b) stands.is both.0 ends.0, ends.1);
       cost = cost;
       looks = looks;
     }
@@ -166,21 +159,8 @@ star_turned s here a first c state r before after stands copy root end cost look
         let spans = copy_spans (HasSpan (nodes_in s) (subject_text s) a.index) here.stop here.start c last in
         inner_turn s here (Star a first) stands a c state state refl refl spans.0 (let less = spans.1 in omega arith) spans.2 (λ mid m walk. inr (m, refl, inl (lt, c, last, mid, walk, refl)))
     by (inr (same, null, there)) =
-        let start : c ≡ here.start = there in
-        let stop : c ≡ here.stop = there ∙ same in
-        inner_turn s here (Star a first) stands a c state state refl refl (omega arith) (omega arith) (subst (HasSpan (nodes_in s) (subject_text s) a.index c) stop null.1)
-        (λ mid m walk. inr (
-          m,
-          refl,
-          inr (inl (
-            same,
-            null.0,
-            subst (λ v. HasSpan (nodes_in s) (subject_text s) a.index v v) start null.1,
-            mid,
-            subst (λ v. WalkEnters (tree_at (nodes_in s) a.index) (subject_text s) here.start v state mid m) (sym same) (subst (λ v. WalkEnters (tree_at (nodes_in s) a.index) (subject_text s) v here.stop state mid m) start walk),
-            refl,
-          )),
-        ))
+        subst (λ v. IsTurn s here state state (Two (record { node = a.index; start = v; stop = here.stop }) (Forget a.index)) 1) (sym there)
+        (null_turn s here (Star a first) stands a state refl refl same null.1 (λ mid m walk. inr (m, refl, inr (inl (same, null.0, null.1, mid, walk, refl)))))
 
 -- or it has no copy
 pub star_done : (s : Subject) (here : Matched) (a : NodeId) (first : Bool) (state : GroupState) (r : Region) (before after : ℕ) → NodeMatches s here (Star a first) → IsCopyFrom s here a first None →
@@ -213,8 +193,7 @@ opt_turned s here a first state r before after stands ends which cost = record {
         inner_turn s here (Opt a first) stands a here.start state state refl refl (omega arith) stands.there.up at (λ mid m walk. inr (m, refl, inl (lt, mid, walk, refl)))
     by (inr (le, null)) =
         let same : here.start ≡ here.stop = omega arith in
-        inner_turn s here (Opt a first) stands a here.start state state refl refl (omega arith) stands.there.up (subst (HasSpan (nodes_in s) (subject_text s) a.index here.start) same null.1)
-        (λ mid m walk. inr (m, refl, inr (inl (same, null.0, null.1, mid, subst (λ v. WalkEnters (tree_at (nodes_in s) a.index) (subject_text s) here.start v state mid m) (sym same) walk, refl))))
+        null_turn s here (Opt a first) stands a state refl refl same null.1 (λ mid m walk. inr (m, refl, inr (inl (same, null.0, null.1, mid, walk, refl))))
 
 pub opt_done : (s : Subject) (here : Matched) (a : NodeId) (first : Bool) (state : GroupState) (r : Region) (before after : ℕ) → NodeMatches s here (Opt a first) → here.stop ≤ here.start →
     ((IsTrue first × HasSpan (nodes_in s) (subject_text s) a.index here.start here.start) → ⊥) → Takes before after 1 → NodeTurned s here (Opt a first) state state r Done before after

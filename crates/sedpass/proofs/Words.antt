@@ -4,7 +4,7 @@ pub use Rattle.sedre.proofs.TreeLemmas.{tree_at-node}
 pub use Rattle.sedre.specs.Arena.{AreRanges, FollowsParts, GroupsWithin, HasTwoParts, IsArena, IsExpr, IsPart}
 pub use Rattle.sedre.specs.Mirror.{mirror, mirror_node, seen}
 pub use Rattle.sedre.specs.Tree.{size, Tree, WrittenExpression, either_of, text_begin, null_string, text_end, expression_tree, grouped, one_or_none, sequence, byte_of, any_copies, tree_at, tree_of}
-pub use Rattle.sedre.specs.Steps.{Takes, TakesAtLeast}
+pub use Rattle.sedre.specs.Steps.{Takes, TakesAtLeast, CostsWithin}
 pub use Rattle.sedre.specs.declared.types.Node.{Node}
 pub use Rattle.sedre.specs.declared.types.Node.TheVariants.{Alt, Begin, Empty, End, Group, Opt, Seq, Set, Star}
 pub use Rattle.sedre.specs.declared.types.NodeId.{NodeId}
@@ -17,17 +17,15 @@ pub use Rattle.sedtext.proofs.SpanLemmas.{CopiesLead-append, CopiesLead-forward,
 pub use Rattle.sedtext.specs.Answer.{SpanAnswer}
 pub use Rattle.sedtext.specs.Beginnings.{AllBegin, NextStart, NoneIn}
 pub use Rattle.sedtext.specs.Caps.{Captures, IsReport, LastCopy, LastCut, only, then_copy}
-pub use Rattle.sedtext.specs.Costs.{CostsWithin}
 pub use Rattle.sedtext.specs.Following.{LiesOn, LooksPast}
 pub use Rattle.sedtext.specs.Groups.{SpansOfGroups, forget, no_groups}
 pub use Rattle.sedtext.specs.Matching.{byte_is_in, leftmost_longest, groups_after, unless_null_at}
 pub use Rattle.sedtext.specs.Nodes.{IsRepetitionOf, parts_of, total_size}
 pub use Rattle.sedtext.specs.PartMarks.{enter_parts}
-pub use Rattle.sedtext.specs.Places.{IsPlace, takes_any}
-pub use Rattle.sedtext.specs.Reach.{HasSpan, BeginsWith, CanEnd, Enters, IsLongestFrom, IsStart, Marked, SomeSpan, after_left, again, at_root, one_start, starts_to, with_whole}
+pub use Rattle.sedtext.specs.Places.{Ascending, IsPlace, takes_any}
+pub use Rattle.sedtext.specs.Reach.{HasSpan, BeginsWith, CanEnd, Enters, IsLongestFrom, IsStart, Marked, SomeSpan, after_left, again, at_root, one_start, starts_to, with_whole, Starts}
 pub use Rattle.sedtext.specs.Spans.{CopiesLead, IsLeftmostLongest, Matches, NotFound, SomeFound, no_copy, one_more}
 pub use Rattle.sedtext.specs.Words.{AgreeBelow, KeepsRows, row_of}
-pub use Rattle.sedtext.specs.declared.starts.Starts.{Starts}
 pub use Rattle.std.proofs.Math.Bool.{and-false, beq}
 pub use Rattle.std.proofs.Math.Nat.{div-mul-le_self, lt-div-mul-add, mod-eq_of_lt, mul-le-mul_right, pow-le-pow_right}
 pub use Rattle.std.proofs.lemmas.Bool.{and_from, and_parts, both_ways, cases_Bool, cases_eq, cases_lt, eq-eqb, eqb-true, le-ltb, lt-ltb, ltb-true, ne_eqb, not-false, or_cases, or_left, or_right}

@@ -1,14 +1,14 @@
 -- Private to the proofs: no contract that the engine sees cites what is here.
 -- What is known of a match's groups while they are decided from its end, what is left to do, and what that costs.
-use Rattle.std.specs.Prelude.{◌≡◌, ℕ, ◌+◌, ◌-◌, ◌*◌, ◌<◌, ◌≤◌, ◌⊎◌, Bool, true, false, replicate, IsTrue, List, [], ◌∷◌, ◌++◌, length, min, slice_get, slice_index_or, vec_capacity, IfSome, Option, None, Some}
+use Rattle.std.specs.Prelude.{◌≡◌, ℕ, ◌+◌, ◌-◌, ◌*◌, ◌<◌, ◌≤◌, ◌⊎◌, Bool, true, false, IsTrue, List, [], ◌∷◌, ◌++◌, length, min, slice_get, slice_index_or, vec_capacity, IfSome, Option, None, Some}
+use Rattle.std.specs.List.{AllByRecursion}
 use Rattle.sedre.specs.Arena.{IsArena}
-use Rattle.sedre.specs.Tree.{size, tree_at, Tree}
-use Rattle.sedre.specs.Steps.{Takes, TakesAtLeast}
+use Rattle.sedre.specs.Tree.{size, tree_at}
+use Rattle.sedre.specs.Steps.{Takes, TakesAtLeast, CostsWithin}
 use Rattle.sedre.specs.declared.types.Node.{Node}
 use Rattle.sedre.specs.declared.types.Node.TheVariants.{Set, Seq, Alt, Star}
 use Rattle.sedre.specs.declared.types.NodeId.{NodeId}
 use Rattle.sedtext.specs.Caps.{LastCopy}
-use Rattle.sedtext.specs.Costs.{CostsWithin}
 use Rattle.sedtext.specs.Groups.{SpansOfGroups}
 use Rattle.sedtext.specs.Nodes.{parts_of}
 use Rattle.sedtext.specs.Reach.{HasSpan}
@@ -17,7 +17,7 @@ use Rattle.sedpass.specs.Prepared.{holds, length_of}
 use Rattle.sedpass.specs.Kept.{IsKept, KeptRoom, SameSpace}
 use Rattle.sedpass.specs.Regions.{IsLastIn}
 use Rattle.sedpass.specs.Table.{IsForwardOne, IsRoomy, IsTable, SameRoom, SameShape}
-use Rattle.sedpass.specs.Walks.{GroupState, is_due, drop_groups, GroupIsIn, WalkEnters}
+use Rattle.sedpass.specs.Walks.{GroupState, is_due, drop_groups, WalkEnters}
 use Rattle.sedpass.specs.declared.group_set.GroupSet.{GroupSet}
 use Rattle.sedpass.specs.declared.groups.GroupRoom.{GroupRoom}
 use Rattle.sedpass.specs.declared.groups.Tables.{Tables}
@@ -37,11 +37,8 @@ abbrev pub flags_of : GroupSet → List Bool
 flags_of s = holds s 0 ∷ holds s 1 ∷ holds s 2 ∷ holds s 3 ∷ holds s 4 ∷ holds s 5 ∷ holds s 6 ∷ holds s 7 ∷ holds s 8 ∷ holds s 9 ∷ []
 
 -- which groups are due, and the spans of those that aren't
-abbrev pub known_groups : GroupSet → SpansOfGroups → GroupState
-known_groups due spans = record { due = flags_of due; spans = spans }
-
-abbrev pub known_groups_in : Decided → GroupState
-known_groups_in t = known_groups t.due t.spans
+abbrev pub known_groups : Decided → GroupState
+known_groups t = record { due = flags_of t.due; spans = t.spans }
 
 -- what is due has no span so far
 abbrev pub NoneSettled : GroupState → Type 0
@@ -49,7 +46,7 @@ NoneSettled s = (k : ℕ) → is_due s k ≡ true → slice_index_or s.spans k N
 
 -- and the whole match isn't due
 pub record HasBlank (t : Decided) : Type 0 where
-  pub blank : NoneSettled (known_groups_in t)
+  pub blank : NoneSettled (known_groups t)
   pub whole : holds t.due 0 ≡ false
 
 -- how many entries have a span
@@ -57,14 +54,6 @@ abbrev pub spans_in : SpansOfGroups → ℕ
 spans_in [] = 0
 spans_in (None ∷ g) = spans_in g
 spans_in (Some span ∷ g) = 1 + spans_in g
-
--- the groups of a match before they are decided: entry 0 is the whole match, and no other has a span
-abbrev pub undecided : ℕ → ℕ → SpansOfGroups
-undecided start stop = Some (start, stop) ∷ replicate 9 None
-
--- all groups of the expression that are reported are in the set
-abbrev pub HasAll : GroupSet → Tree → Type 0
-HasAll due e = (k : ℕ) → 1 ≤ k → k < 10 → GroupIsIn e k → IsTrue (holds due k)
 
 -- the nodes of the expression, and the text
 abbrev pub nodes_in : Subject → List Node
@@ -93,11 +82,10 @@ RunsTasks nodes w (Apart here ∷ tasks) old new n =
     (mid : GroupState) × (p : ℕ) × (q : ℕ) × WalkEnters (tree_at nodes here.node) w here.start here.stop old mid p × RunsTasks nodes w tasks mid new q × (n ≡ p + q)
 RunsTasks nodes w (Forget x ∷ tasks) old new n = RunsTasks nodes w tasks (drop_groups (tree_at nodes x) old) new n
 
--- each node is there, and one to be decided matches its span within the text
-abbrev pub AreReady : List Node → List ℕ → List GroupTask → Type 0
-AreReady nodes w [] = Unit {0}
-AreReady nodes w (Apart here ∷ tasks) = IsMatch nodes w here × AreReady nodes w tasks
-AreReady nodes w (Forget x ∷ tasks) = (x < length nodes) × AreReady nodes w tasks
+-- the node is there, and one to be decided matches its span within the text
+abbrev pub IsTaskReady : List Node → List ℕ → GroupTask → Type 0
+IsTaskReady nodes w (Apart here) = IsMatch nodes w here
+IsTaskReady nodes w (Forget x) = x < length nodes
 
 -- how many tasks can still come of these
 abbrev pub weights : List Node → List GroupTask → ℕ
@@ -105,29 +93,10 @@ weights nodes [] = 0
 weights nodes (Apart here ∷ tasks) = 2 * size (tree_at nodes here.node) + weights nodes tasks
 weights nodes (Forget x ∷ tasks) = 1 + weights nodes tasks
 
--- the sizes of all trees to be decided: so many nodes can still be looked at
-abbrev pub looks : List Node → List GroupTask → ℕ
-looks nodes [] = 0
-looks nodes (Apart here ∷ tasks) = size (tree_at nodes here.node) + looks nodes tasks
-looks nodes (Forget x ∷ tasks) = looks nodes tasks
-
--- the sizes of all trees to be decided, without their first nodes: so many nodes can still be gone on to
-abbrev pub descents : List Node → List GroupTask → ℕ
-descents nodes [] = 0
-descents nodes (Apart here ∷ tasks) = (size (tree_at nodes here.node) - 1) + descents nodes tasks
-descents nodes (Forget x ∷ tasks) = descents nodes tasks
-
--- each node to be decided matches within i..j
-abbrev pub AreWithin : ℕ → ℕ → List GroupTask → Type 0
-AreWithin i j [] = Unit {0}
-AreWithin i j (Apart here ∷ tasks) = (i ≤ here.start) × (here.stop ≤ j) × AreWithin i j tasks
-AreWithin i j (Forget x ∷ tasks) = AreWithin i j tasks
-
--- each node to be decided matches no more than so many bytes
-abbrev pub AreShort : ℕ → List GroupTask → Type 0
-AreShort long [] = Unit {0}
-AreShort long (Apart here ∷ tasks) = (here.stop ≤ here.start + long) × AreShort long tasks
-AreShort long (Forget x ∷ tasks) = AreShort long tasks
+-- a node to be decided matches within i..j
+abbrev pub LiesWithin : ℕ → ℕ → GroupTask → Type 0
+LiesWithin i j (Apart here) = (i ≤ here.start) × (here.stop ≤ j)
+LiesWithin i j (Forget x) = Unit {0}
 
 -- so many nodes were entered: those tasks that are left bring the new state to where all bring the old one
 abbrev pub Continues : List Node → List ℕ → List GroupTask → GroupState → List GroupTask → GroupState → ℕ → Type 0
@@ -142,10 +111,9 @@ tasks_after (Two next later) = Apart next ∷ later ∷ []
 -- a turn at the match enters n nodes: this comes in its place, and the state is the new one
 pub record IsTurn (s : Subject) (here : Matched) (old new : GroupState) (then : Then) (n : ℕ) : Type 0 where
   pub run : (rest : List GroupTask) → Continues (nodes_in s) (subject_text s) (Apart here ∷ rest) old (tasks_after then ++ rest) new n
-  pub ready : AreReady (nodes_in s) (subject_text s) (tasks_after then)
-  pub within : AreWithin here.start here.stop (tasks_after then)
+  pub ready : AllByRecursion (IsTaskReady (nodes_in s) (subject_text s)) (tasks_after then)
+  pub within : AllByRecursion (LiesWithin here.start here.stop) (tasks_after then)
   pub less : weights (nodes_in s) (tasks_after then) + 1 ≤ 2 * size (tree_at (nodes_in s) here.node)
-  pub fewer : looks (nodes_in s) (tasks_after then) + 1 ≤ size (tree_at (nodes_in s) here.node)
 
 -- how many nodes a turn enters: itself, unless it has no part
 abbrev pub entered_at : Node → ℕ
@@ -233,10 +201,6 @@ next_of Done = None
 next_of (One next) = Some next
 next_of (Two next later) = Some next
 
--- it goes on in the region
-abbrev pub GoesOn : Subject → Region → Option Matched → Type 0
-GoesOn s r next = IfSome next (EndsRegion s r)
-
 -- the matches of the node have no length that is known
 abbrev pub HasNoKnownLength : List Node → ℕ → Type 0
 HasNoKnownLength nodes x = length_of (tree_at nodes x) ≡ None
@@ -253,7 +217,7 @@ LooksAt s here node next before after = Unit {0}
 abbrev pub IsCopyFrom : Subject → Matched → NodeId → Bool → Option ℕ → Type 0
 IsCopyFrom s here a first (Some c) =
     ((here.start < here.stop) × LastCopy (HasSpan (nodes_in s) (subject_text s) a.index) here.stop here.start c)
-    ⊎ ((here.start ≡ here.stop) × (IsTrue first × HasSpan (nodes_in s) (subject_text s) a.index c c) × (c ≡ here.start))
+    ⊎ ((here.start ≡ here.stop) × (IsTrue first × HasSpan (nodes_in s) (subject_text s) a.index here.start here.start) × (c ≡ here.start))
 IsCopyFrom s here a first None = (here.start ≡ here.stop) × ((IsTrue first × HasSpan (nodes_in s) (subject_text s) a.index here.start here.start) → ⊥)
 
 -- the node is a set
@@ -271,32 +235,26 @@ kind_cost s here (Some next) = part_cost (length (nodes_in s)) (here.stop - here
 
 -- those of tasks, where none matches more than so many bytes: two for each node, and those to go on to each part
 abbrev pub tasks_cost : List Node → ℕ → List GroupTask → ℕ
-tasks_cost nodes long tasks = part_cost (length nodes) long * descents nodes tasks + 2 * looks nodes tasks
+tasks_cost nodes long [] = 0
+tasks_cost nodes long (Apart here ∷ tasks) = part_cost (length nodes) long * (size (tree_at nodes here.node) - 1) + 2 * size (tree_at nodes here.node) + tasks_cost nodes long tasks
+tasks_cost nodes long (Forget x ∷ tasks) = tasks_cost nodes long tasks
 
 -- A turn at a match of the node enters it, unless it has no part: this comes in its place, the first match in the region; what it costs,
 -- and what was looked at.
 pub record NodeTurned (s : Subject) (here : Matched) (node : Node) (old new : GroupState) (r : Region) (then : Then) (before after : ℕ) : Type 0 where
   pub turn : IsTurn s here old new then (entered_at node)
-  pub goes : GoesOn s r (next_of then)
+  pub goes : IfSome (next_of then) (EndsRegion s r)
   pub cost : Takes before after (kind_cost s here (next_of then))
   pub looks : LooksAt s here node (next_of then) before after
 
--- the tasks can be done there
-pub record MayWork (s : Subject) (tables : Tables) (room : GroupRoom) (decided : Decided) (tasks : List GroupTask) : Type 0 where
-  pub arena : IsArena (nodes_in s)
-  pub ready : AreReady (nodes_in s) (subject_text s) tasks
-  pub enough : weights (nodes_in s) tasks ≤ vec_capacity room.tasks
-  pub desk : HasDesk s tables room.kept
-  pub keeps_blank : HasBlank decided
-
 -- The tasks are done as far as those left, which are ready, and of which d fewer can still come: what is known then, its cost, where
--- none matches more than so many bytes, and n nodes that were entered, each of which was looked at.
+-- all match within i..j, and n nodes that were entered, each of which was looked at.
 pub record Works (s : Subject) (tasks : List GroupTask) (old : Decided) (rest : List GroupTask) (new : Decided) (d before after : ℕ) : Type 0 where
   pub decided : HasBlank new
-  pub ready : AreReady (nodes_in s) (subject_text s) rest
+  pub ready : AllByRecursion (IsTaskReady (nodes_in s) (subject_text s)) rest
   pub less : weights (nodes_in s) rest + d ≤ weights (nodes_in s) tasks
-  pub spent : (long : ℕ) → AreShort long tasks → AreShort long rest × CostsWithin before after (tasks_cost (nodes_in s) long tasks) (tasks_cost (nodes_in s) long rest)
+  pub spent : (i j : ℕ) → AllByRecursion (LiesWithin i j) tasks → AllByRecursion (LiesWithin i j) rest × CostsWithin before after (tasks_cost (nodes_in s) (j - i) tasks) (tasks_cost (nodes_in s) (j - i) rest)
   pub n : ℕ
-  pub run : Continues (nodes_in s) (subject_text s) tasks (known_groups_in old) rest (known_groups_in new) n
+  pub run : Continues (nodes_in s) (subject_text s) tasks (known_groups old) rest (known_groups new) n
   pub entered : TakesAtLeast before after n
   pub counts : TakesAtLeast before after (spans_in new.spans - spans_in old.spans)

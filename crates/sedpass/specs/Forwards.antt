@@ -2,8 +2,7 @@
 -- Passes for the whole expression in which the root's ends alone are kept.
 use Rattle.std.specs.Prelude.{◌≡◌, ℕ, ◌+◌, ◌/◌, ◌^◌, ◌<◌, ◌≤◌, Bool, false, cond, List, length, Option, Some, None, IsTrue}
 use Rattle.sedre.specs.declared.types.Node.{Node}
-use Rattle.sedtext.specs.declared.starts.Starts.{Starts}
-use Rattle.sedtext.specs.Reach.{SomeSpan}
+use Rattle.sedtext.specs.Reach.{SomeSpan, Starts}
 use Rattle.sedpass.specs.Rows.{nodes_of}
 use Rattle.sedpass.specs.Table.{PassState, state_of, StateAt}
 use Rattle.sedpass.specs.declared.cells.StateFlags.{StateFlags}

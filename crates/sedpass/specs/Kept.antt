@@ -1,39 +1,36 @@
 -- Private to the proofs: no contract that `sedmatch` makes public cites what is here.
 -- What is kept of a pass backwards over a region, and what looks into it may cost.
-use Rattle.std.specs.Prelude.{◌≡◌, ℕ, zero, suc, ◌+◌, ◌-◌, ◌*◌, ◌/◌, ◌^◌, ◌<◌, ◌≤◌, ◌↔◌, nat_le, nat_lt, ◌&&◌, Bool, true, false, if◌then◌else◌, List, length, reverse, slice_index_or, IsTrue, vec_capacity}
+use Rattle.std.specs.Prelude.{◌≡◌, ℕ, zero, suc, ◌+◌, ◌-◌, ◌*◌, ◌/◌, ◌^◌, ◌<◌, ◌≤◌, ◌↔◌, nat_le, nat_lt, ◌&&◌, Bool, true, if◌then◌else◌, List, length, reverse, slice_index_or, IsTrue, vec_capacity}
+use Rattle.sedre.specs.Mirror.{seen}
 use Rattle.sedre.specs.declared.types.Node.{Node}
-use Rattle.sedtext.specs.declared.starts.Starts.{Starts}
-use Rattle.sedtext.specs.Reach.{one_start, starts_to}
+use Rattle.sedtext.specs.Reach.{one_start, starts_to, Starts}
 use Rattle.sedtext.specs.Words.{row_of}
 use Rattle.sedpass.specs.Regions.{ReachesEnd, MeetsAt}
-use Rattle.sedpass.specs.Rows.{nodes_of, bits, RowOfPlace}
+use Rattle.sedpass.specs.Rows.{bits, RowOfPlace}
 use Rattle.sedpass.specs.Table.{PassState, state_of, StateAt, IsOffset, IsTable, MayBegin, SameShape}
 use Rattle.sedpass.specs.declared.nodes.Prepared.{Prepared}
-use Rattle.sedpass.specs.declared.rows.Way.{Way}
 use Rattle.sedpass.specs.declared.table.Table.{Table}
 use Rattle.sedpass.specs.declared.kept.Region.{Region}
 use Rattle.sedpass.specs.declared.kept.Kept.{Kept}
 
 -- What it shows.
 
--- the places where matches end that a kept pass shows: with all starts all up to the end n of the text, else the region's end alone
-abbrev pub ends_shown : Bool → ℕ → ℕ → Starts
-ends_shown true n end = starts_to 0 n
-ends_shown false n end = one_start end
+-- the places where matches end that a kept pass shows: with all starts all up to the region's end, else that end alone
+abbrev pub ends_shown : Bool → ℕ → Starts
+ends_shown all_starts end = starts_to (if all_starts then 0 else end) end
 
--- these places as the starts of the mirrored pass, counted from the text's end
+-- these places as the starts of the mirrored pass, counted from the end n of the text
 abbrev pub starts_shown : Bool → ℕ → ℕ → Starts
-starts_shown true n end = starts_to 0 n
-starts_shown false n end = one_start (n - end)
+starts_shown all_starts n end = starts_to (n - end) (if all_starts then n else n - end)
 
 -- the row is that of the place in the pass, seen from the text's end
-abbrev pub RowKept : Prepared → List ℕ → Way → (root end place : ℕ) → (ℕ → Bool) → (ℕ → Bool) → Type 0
-RowKept p w way root end place entered ended =
-    RowOfPlace (nodes_of way p.arena.expr) (reverse w) root (starts_shown way.all_starts (length w) end) way.mirrored (length w - place) entered ended
+abbrev pub RowKept : Prepared → List ℕ → Bool → (root end place : ℕ) → (ℕ → Bool) → (ℕ → Bool) → Type 0
+RowKept p w all_starts root end place entered ended =
+    RowOfPlace (seen true p.arena.expr).nodes (reverse w) root (starts_shown all_starts (length w) end) true (length w - place) entered ended
 
 -- the state is that of the place in the pass
-abbrev pub KeptAt : Prepared → List ℕ → Way → (root end place : ℕ) → PassState → Type 0
-KeptAt p w way root end place a = (a.root ≡ root) × RowKept p w way root end place a.entered a.ended
+abbrev pub KeptAt : Prepared → List ℕ → Bool → (root end place : ℕ) → PassState → Type 0
+KeptAt p w all_starts root end place a = (a.root ≡ root) × RowKept p w all_starts root end place a.entered a.ended
 
 -- of the places from one up to another: the node x is marked, or isn't, as asked
 abbrev pub AllMarked : List Node → List ℕ → ℕ → Starts → ℕ → Bool → ℕ → ℕ → Type 0
@@ -44,12 +41,12 @@ AllMarked nodes w r t x marked from to = (q : ℕ) → from ≤ q → q < to →
 -- the number kept for a place is that of a state which is the place's
 abbrev pub IsLive : Prepared → List ℕ → Table → (root end : ℕ) → List ℕ → ℕ → Type 0
 IsLive p w t root end states q =
-    (slice_index_or states q 0 < t.count) × KeptAt p w t.way root end q (state_of (length p.arena.expr.nodes) t (slice_index_or states q 0))
+    (slice_index_or states q 0 < t.count) × KeptAt p w t.way.all_starts root end q (state_of (length p.arena.expr.nodes) t (slice_index_or states q 0))
 
 -- the rows kept for a block are that of its right end
-abbrev pub IsEdge : Prepared → List ℕ → Way → (root end : ℕ) → List (List Bool) → (width b : ℕ) → Type 0
-IsEdge p w way root end edges width b =
-    RowKept p w way root end (b * width + width) (bits (length p.arena.expr.nodes) (row_of edges (2 * b))) (bits (length p.arena.expr.nodes) (row_of edges (2 * b + 1)))
+abbrev pub IsEdge : Prepared → List ℕ → Bool → (root end : ℕ) → List (List Bool) → (width b : ℕ) → Type 0
+IsEdge p w all_starts root end edges width b =
+    RowKept p w all_starts root end (b * width + width) (bits (length p.arena.expr.nodes) (row_of edges (2 * b))) (bits (length p.arena.expr.nodes) (row_of edges (2 * b + 1)))
 
 -- there is room for a text of n bytes, cut into blocks of one place less than the table has room for states
 pub record KeptRoom (m n : ℕ) (t : Table) (k : Kept) : Type 0 where
@@ -71,7 +68,7 @@ pub record IsRegion (p : Prepared) (w : List ℕ) (t : Table) (k : Kept) : Type 
 -- the edges of the blocks that end after a place are kept
 abbrev pub EdgesFrom : Prepared → List ℕ → Table → Kept → ℕ → Type 0
 EdgesFrom p w t k place = (b : ℕ) → place < b * (t.room - 1) + (t.room - 1) → b * (t.room - 1) + (t.room - 1) < k.region.end →
-    IsEdge p w t.way k.region.root k.region.end k.edges (t.room - 1) b
+    IsEdge p w t.way.all_starts k.region.root k.region.end k.edges (t.room - 1) b
 
 -- the states of the places from one up to `to` are in the table
 abbrev pub LiveFrom : Prepared → List ℕ → Table → Kept → ℕ → Type 0
@@ -83,7 +80,7 @@ pub record PassesDownTo (p : Prepared) (w : List ℕ) (t : Table) (k : Kept) (pl
   pub within : place ≤ k.region.end
   pub above : place ≤ k.region.to
   pub there : IsOffset t offset
-  pub at : KeptAt p w t.way k.region.root k.region.end place (state_of (length p.arena.expr.nodes) t (offset / 2 ^ t.layout.shift))
+  pub at : KeptAt p w t.way.all_starts k.region.root k.region.end place (state_of (length p.arena.expr.nodes) t (offset / 2 ^ t.layout.shift))
   pub live : LiveFrom p w t k place
 
 -- the room is the same: the places, and the rows for blocks' ends
@@ -131,7 +128,7 @@ Follows p w t a i place offset =
 -- the two meet at each place from one up to another
 abbrev pub Meet : Prepared → List ℕ → Table → Kept → ℕ → ℕ → ℕ → ℕ → Type 0
 Meet p w t k a i from to = (q : ℕ) → from ≤ q → q < to →
-    MeetsAt p.arena.expr.nodes w k.region.root (ends_shown t.way.all_starts (length w) k.region.end) a (one_start i) q
+    MeetsAt p.arena.expr.nodes w k.region.root (ends_shown t.way.all_starts k.region.end) a (one_start i) q
 
 -- What it may cost.
 

@@ -5,11 +5,10 @@ use Rattle.sedre.specs.Arena.{IsPart}
 use Rattle.sedre.specs.Tree.{WrittenExpression}
 use Rattle.sedre.specs.Mirror.{seen}
 use Rattle.sedre.specs.declared.types.Node.{Node}
-use Rattle.sedre.specs.declared.types.Node.TheVariants.{Empty, Set, Begin, End, Seq, Alt, Group, Star, Opt}
-use Rattle.sedtext.specs.declared.starts.Starts.{Starts}
+use Rattle.sedre.specs.declared.types.Node.TheVariants.{Set, Seq, Alt, Group, Star, Opt}
+use Rattle.sedtext.specs.Reach.{Starts, HasSpan, IsStart, Enters, PartFrom}
 use Rattle.sedtext.specs.Matching.{byte_is_in}
 use Rattle.sedtext.specs.Places.{IsPlace}
-use Rattle.sedtext.specs.Reach.{HasSpan, IsStart, Enters, PartFrom}
 use Rattle.sedtext.specs.Words.{row_of}
 use Rattle.sedpass.specs.Regions.{EndsPastIn}
 use Rattle.sedpass.specs.declared.nodes.PlaceKind.{PlaceKind}
@@ -94,14 +93,6 @@ ended_by took null ended (Group k a) = ended a.index
 ended_by took null ended (Star a first) = ended a.index
 ended_by took null ended (Opt a first) = ended a.index
 ended_by took null ended other = false
-
--- how many marks are looked at or set where its parts begin
-abbrev pub enter_looks : Node → ℕ
-enter_looks Empty = 0
-enter_looks (Set members) = 0
-enter_looks Begin = 0
-enter_looks End = 0
-enter_looks other = 4
 
 -- the node is a leaf that is entered at the place
 abbrev pub LeafAt : List Node → List ℕ → ℕ → Starts → ℕ → ℕ → Type 0

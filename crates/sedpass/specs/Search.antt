@@ -2,9 +2,8 @@
 -- Searches in one text, from places that don't fall: what they find, and what they may cost.
 use Rattle.std.specs.Prelude.{ℕ, max, ◌+◌, ◌-◌, ◌*◌, ◌/◌, ◌<◌, ◌≤◌, if◌then◌else◌, List, length, Option, Some, None, IfSome, IsTrue}
 use Rattle.sedre.specs.Tree.{expression_tree, Tree}
-use Rattle.sedre.specs.Steps.{TakesAtLeast}
+use Rattle.sedre.specs.Steps.{TakesAtLeast, CostsWithin}
 use Rattle.sedtext.specs.Answer.{SpanAnswer}
-use Rattle.sedtext.specs.Costs.{CostsWithin}
 use Rattle.sedtext.specs.Beginnings.{AllBegin, NoneIn}
 use Rattle.sedtext.specs.Spans.{IsLeftmostLongest, NotFound}
 use Rattle.sedpass.specs.Table.{IsForwardOne, IsTable, SameShape}
@@ -67,11 +66,11 @@ pub record IsNextMatch (p : Prepared) (w : List ℕ) (from : ℕ) (reverse_any :
 
 -- Costs, with m nodes in a text of n bytes.
 
--- of trials, besides the place from which they are made and the places that are in no match
-abbrev pub trials_cost : ℕ → ℕ → Trials → ℕ
-trials_cost m n (Hit i j) = 3 * (i + 1) + 40 * m * (j + 1 - i)
-trials_cost m n Nothing = 3 * (n + 1)
-trials_cost m n (Tired k) = 3 * k
+-- how many bytes from the text's beginning on trials looked at to see where matches can begin
+abbrev pub trials_to : ℕ → Trials → ℕ
+trials_to n (Hit i j) = i + 1
+trials_to n Nothing = n + 1
+trials_to n (Tired k) = k
 
 -- the places that are in no match, and those of the match found
 abbrev pub trials_room : ℕ → Trials → ℕ
@@ -82,7 +81,7 @@ trials_room tried other = tried
 pub record TrialsMade (e : Tree) (w : List ℕ) (m from tried tried' before after : ℕ) (r : Trials) : Type 0 where
   pub answer : TrialsAnswer e w from r
   pub few : trials_room tried' r ≤ max tried (length w / 8) + (length w + 1 - from)
-  pub cost : CostsWithin before after (40 * m * tried' + trials_cost m (length w) r) (40 * m * tried + 3 * from)
+  pub cost : CostsWithin before after (40 * m * trials_room tried' r + 3 * trials_to (length w) r) (40 * m * tried + 3 * from)
   pub counts : LooksInTrials from before after r
 
 -- of one search from a place on, whatever was found out before it: by a pass from the text's end over the rest of the text, or by

@@ -1,14 +1,15 @@
 -- Private to the proofs: no contract that `sedmatch` makes public cites what is here.
 -- A table of the passes of one way: its states, its cells, and the codes by which they name states.
-use Rattle.std.specs.Prelude.{◌≡◌, ℕ, ◌+◌, ◌*◌, ◌/◌, ◌^◌, ◌<◌, ◌≤◌, ◌↔◌, Bool, true, false, List, length, slice_index_or, Some, IsTrue, vec_capacity}
+use Rattle.std.specs.Prelude.{◌≡◌, ℕ, ◌+◌, ◌*◌, ◌/◌, ◌^◌, ◌<◌, ◌≤◌, ◌↔◌, Bool, true, false, List, length, slice_index_or, Option, Some, None, IsTrue, vec_capacity}
 use Rattle.std.specs.Int.{from_bool}
 use Rattle.sedre.specs.Arena.{IsExpr}
 use Rattle.sedre.specs.declared.types.Node.{Node}
-use Rattle.sedtext.specs.declared.starts.Starts.{Starts}
+use Rattle.sedtext.specs.Reach.{Starts}
 use Rattle.sedtext.specs.Words.{row_of}
 use Rattle.sedpass.specs.Rows.{nodes_of, at_begin, at_edge, bits, leaves_row, ends_row, RowOfPlace, RowLeadsTo, IsFirstRow}
 use Rattle.sedpass.specs.declared.nodes.PlaceKind.{PlaceKind}
 use Rattle.sedpass.specs.declared.nodes.Prepared.{Prepared}
+use Rattle.sedpass.specs.declared.rows.Act.{Act}
 use Rattle.sedpass.specs.declared.rows.Way.{Way}
 use Rattle.sedpass.specs.declared.cells.StateFlags.{StateFlags}
 use Rattle.sedpass.specs.declared.cells.Layout.{Layout}
@@ -72,6 +73,14 @@ LeadsOn nodes way a byte edge b = (b.root ≡ a.root) × RowLeadsTo nodes a.root
 abbrev pub BeginsIn : List Node → Way → ℕ → PlaceKind → PassState → Type 0
 BeginsIn nodes way root kind a = (a.root ≡ root) × IsFirstRow nodes root way.mirrored (at_begin way.mirrored kind) (at_edge way.mirrored kind) a.entered a.ended
 
+-- The state has the root of an act, and the row to which that leads from the leaves entered before and a byte, if no pass begins at the
+-- place; without a byte, that with which a pass begins.
+pub record IsMade (act : Act) (byte : Option ℕ) (first : Bool) (leaves : ℕ → Bool) (a : PassState) : Type 0 where
+  pub root : a.root ≡ act.root
+  pub comes_next : at_begin act.way.mirrored act.kind ≡ false → (ended : ℕ → Bool) →
+      RowLeadsTo (nodes_of act.way act.prepared.now.arena.expr) act.root act.way.mirrored leaves ended byte (at_edge act.way.mirrored act.kind) first a.entered a.ended
+  pub begins : byte ≡ None → IsTrue first → BeginsIn (nodes_of act.way act.prepared.now.arena.expr) act.way act.root act.kind a
+
 -- Codes.
 
 -- the number is the code of a state of the table of which P is true
@@ -125,11 +134,11 @@ MayBegin p way root = (root < length p.arena.expr.nodes) × (IsTrue way.all_star
 
 -- Tables.
 
--- for each state that there is room for, and one more: its rows, with so many marks; and the roots of the states
+-- for each state that there is room for: its rows, with so many marks, and its root
 pub record HasRows (states marks : ℕ) (all_rows : List (List Bool)) (all_roots : List ℕ) : Type 0 where
   pub some : 2 ≤ states
   pub few : states ≤ 65535
-  pub rows : length all_rows ≡ 2 * states + 4
+  pub rows : length all_rows ≡ 2 * states + 2
   pub long : (q : ℕ) → q < length all_rows → length (row_of all_rows q) ≡ marks
   pub roots : length all_roots ≡ states
 
@@ -187,12 +196,3 @@ pub record Codes (p : Prepared) (old new : Table) (P : PassState → Type 0) (v 
   pub table : IsTable p new
   pub adds : AddsStates (length p.arena.expr.nodes) old new
   pub names : NamesState (length p.arena.expr.nodes) new P v
-
--- there is a place for a state with the row that is being made, in the table or once it was emptied, and one that comes there is
--- added to the table
-pub record HasPlace (p : Prepared) (old new : Table) : Type 0 where
-  pub table : IsTable p new
-  pub room : new.count < new.room
-  pub index : new.index ≡ old.index
-  pub made : (root : ℕ) (a : PassState) → HasNewRow (length p.arena.expr.nodes) new root a → HasNewRow (length p.arena.expr.nodes) old root a
-  pub adds : (then : Table) → AddsStates (length p.arena.expr.nodes) new then → AddsStates (length p.arena.expr.nodes) old then

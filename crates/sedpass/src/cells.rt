@@ -1,6 +1,6 @@
 //! How a table names its states by codes, and lays out their cells.
 ghost use Rattle.std.specs.Prelude.{◌≡◌, ℕ, false, ◌+◌, ◌<◌, ◌≤◌, length, slice_index_or, IfSome, IsTrue, vec_capacity};
-ghost use Rattle.sedre.specs.Steps.{TakesExactly, Takes};
+ghost use Rattle.sedre.specs.Steps.{TakesExactly};
 ghost use Rattle.sedpass.specs.Table.{code_of, IsLayout, IsColumn};
 ghost use Rattle.sedpass.specs.declared.cells.StateFlags.{StateFlags};
 
@@ -104,8 +104,7 @@ pub fn empty_cells(cells: &mut Vec<u32>, from: usize, width: usize, size: usize,
     ensures capacity { vec_capacity cells.new ≡ vec_capacity cells.old }
     ensures clear { (k : ℕ) → k < width → slice_index_or cells.new.items (from + k) 0 ≡ 0 }
     ensures before { (k : ℕ) → k < from → slice_index_or cells.new.items k 0 ≡ slice_index_or cells.old.items k 0 }
-    ensures cost { Takes steps.old steps.new width }
-    ensures counts { TakesExactly steps.old steps.new width }
+    ensures cost { TakesExactly steps.old steps.new width }
 {
     steps.add(width);
     cells.truncate(from);

@@ -1,11 +1,10 @@
 //! Passes for the whole expression, which stop as soon as no later place matters.
 ghost use Rattle.std.specs.Prelude.{◌≡◌, ℕ, false, ◌+◌, ◌-◌, ◌*◌, ◌<◌, ◌≤◌, ◌↔◌, length, min, IfSome, IsTrue, is_some};
-ghost use Rattle.sedtext.specs.Costs.{CostsWithin};
+ghost use Rattle.sedre.specs.Steps.{CostsWithin, TakesAtLeast};
 ghost use Rattle.sedtext.specs.Following.{LooksPast};
 ghost use Rattle.sedtext.specs.Reach.{IsLongestFrom};
 ghost use Rattle.sedtext.specs.Spans.{SomeFound};
 ghost use Rattle.sedre.specs.Tree.{expression_tree};
-ghost use Rattle.sedre.specs.Steps.{TakesAtLeast};
 ghost use Rattle.sedpass.specs.Table.{NamesState, IsOffset, IsTable, SameShape};
 ghost use Rattle.sedpass.specs.Forwards.{Arrives, EndsBelow, PassIs, is_over};
 

@@ -17,6 +17,7 @@ impl GroupSet {
     }
 
     /// Group `k` alone, none where `k` is 0 or above 9.
+    #[tactic(auto, using(crate::proofs::GroupSetLemmas::holds_one))]
     pub fn one(k: usize) -> GroupSet
         ensures { (n : ℕ) → holds result n ≡ (reported n && eqb k n) }
     {
@@ -28,6 +29,7 @@ impl GroupSet {
     }
 
     /// The groups of both.
+    #[tactic(auto, using(crate::proofs::GroupSetLemmas::holds_union))]
     pub fn union(self, other: GroupSet) -> GroupSet
         ensures { (k : ℕ) → holds result k ≡ (holds self k || holds other k) }
     {
@@ -36,6 +38,7 @@ impl GroupSet {
     }
 
     /// The groups of this one that aren't in the other.
+    #[tactic(auto, using(crate::proofs::GroupSetLemmas::holds_without))]
     pub fn without(self, other: GroupSet) -> GroupSet
         ensures { (k : ℕ) → holds result k ≡ (holds self k && not (holds other k)) }
     {
@@ -44,6 +47,7 @@ impl GroupSet {
     }
 
     /// Whether a group is in both.
+    #[tactic(auto, using(crate::proofs::GroupSetLemmas::meet_in, crate::proofs::GroupSetLemmas::in_both))]
     pub fn meets(self, other: GroupSet) -> bool
         ensures { IsTrue result ↔ ((k : ℕ) × IsTrue (holds self k) × IsTrue (holds other k)) }
     {

@@ -2,19 +2,20 @@
 //!
 //! A spine goes from a node to what ends where the node does, in one region of the kept pass, and writes the groups that
 //! are due. What lies left of it waits as a task.
-ghost use Rattle.std.specs.Prelude.{◌≡◌, ℕ, false, [], ◌∷◌, reverse, ◌+◌, ◌-◌, ◌*◌, ◌^◌, ◌≤◌, ◌<◌, length, IsTrue, None, Some, IfOk, IfSome, slice_index_or, vec_capacity};
+ghost use Rattle.std.specs.Prelude.{◌≡◌, [], ◌∷◌, reverse, ◌+◌, ◌-◌, ◌*◌, ◌^◌, ◌≤◌, ◌<◌, length, IfOk, IfSome, vec_capacity};
+ghost use Rattle.std.specs.List.{AllByRecursion};
+ghost use Rattle.sedre.specs.Arena.{IsArena};
 ghost use Rattle.sedre.specs.Tree.{tree_at, expression_tree};
 ghost use Rattle.sedre.specs.Steps.{Takes, TakesAtLeast};
 ghost use Rattle.sedre.specs.declared.types.Node.TheVariants.{Seq, Star};
 ghost use Rattle.sedtext.specs.Caps.{LastCut, IsReport};
-ghost use Rattle.sedtext.specs.Groups.{SpansOfGroups};
 ghost use Rattle.sedtext.specs.Places.{Ascending};
 ghost use Rattle.sedtext.specs.Reach.{HasSpan};
-ghost use Rattle.sedpass.specs.Decide.{spans_in, undecided, HasAll, known_groups, known_groups_in, HasBlank, IsAtEnd, IsCopyFrom, NodeTurned, MayWork, Works, part_cost, HasNoKnownLength, IsSetAt, HasDesk, AreTables, AreRoomy, HasSpace, SameRooms, SameTables, KeepsGroupDesk, KeepsGroupRoom, nodes_in, subject_text, NodeMatches};
-ghost use Rattle.sedpass.specs.Kept.{SameKept, SameSpace};
-ghost use Rattle.sedpass.specs.Prepared.{IsFacts, holds};
+ghost use Rattle.sedpass.specs.Decide.{spans_in, known_groups, HasBlank, IsAtEnd, IsCopyFrom, NodeTurned, Works, part_cost, HasNoKnownLength, IsSetAt, HasDesk, AreTables, AreRoomy, IsTaskReady, HasSpace, SameRooms, KeepsGroupDesk, KeepsGroupRoom, nodes_in, subject_text, weights};
+ghost use Rattle.sedpass.specs.Kept.{SameKept};
+ghost use Rattle.sedpass.specs.Prepared.{IsFacts};
 ghost use Rattle.sedpass.specs.Regions.{IsRunOf};
-ghost use Rattle.sedpass.specs.Walks.{LooksAtEntered};
+ghost use Rattle.sedpass.specs.Walks.{EntersGroups};
 ghost use Rattle.sedpass.specs.declared.groups.GroupTask.TheVariants.{Apart};
 
 use crate::group_set::GroupSet;
@@ -201,25 +202,6 @@ fn last_copy(
     Some(copy)
 }
 
-/// Where a concatenation is cut, if the length of a part decides it.
-fn fixed_cut(subject: Subject, here: Matched, a: NodeId, b: NodeId) -> Option<usize>
-    requires { NodeMatches subject here (Seq a b) }
-    ensures cut { IfSome result (λ k. LastCut (HasSpan (nodes_in subject.entry) (subject_text subject.entry) a.index) (HasSpan (nodes_in subject.entry) (subject_text subject.entry) b.index) here.start here.stop k) }
-    ensures some { result ≡ None → here.start ≡ here.stop → ⊥ }
-    ensures open { HasNoKnownLength (nodes_in subject.entry) a.index → HasNoKnownLength (nodes_in subject.entry) b.index → IfSome result (λ k. k ≡ here.start) }
-{
-    if here.start == here.stop {
-        return Some(here.start);
-    }
-    if let Some(length) = facts_at(subject.prepared, a.index()).length {
-        return Some(subject.text.after(here.start, length));
-    }
-    if let Some(length) = facts_at(subject.prepared, b.index()).length {
-        return Some(here.stop - length);
-    }
-    None
-}
-
 /// Where a concatenation is cut: the greatest place at which its left part ends and from which its right part matches.
 fn last_cut(
     subject: Subject,
@@ -237,12 +219,20 @@ fn last_cut(
     ensures cost { Takes steps.old steps.new (part_cost (length (nodes_in subject.entry)) (here.stop - here.start)) }
     ensures counts { HasNoKnownLength (nodes_in subject.entry) a.index → HasNoKnownLength (nodes_in subject.entry) b.index → TakesAtLeast steps.old steps.new (result - here.start) }
 {
-    if let Some(cut) = fixed_cut(subject, here, a, b) {
-        return cut;
+    if here.start == here.stop {
+        return here.start;
     }
     let left = a.index();
+    let known = facts_at(subject.prepared, left);
+    // the length of a part decides it, if it is known
+    if let Some(length) = known.length {
+        return subject.text.after(here.start, length);
+    }
+    if let Some(length) = facts_at(subject.prepared, b.index()).length {
+        return here.stop - length;
+    }
     let (reverse_one, forward_one) = (&mut tables.reverse_one, &mut tables.forward_one);
-    if let Some(leaf) = facts_at(subject.prepared, left).run {
+    if let Some(leaf) = known.run {
         return kept.seek(subject, reverse_one, leaf, here.start, false, steps);
     }
     kept.cut(subject, reverse_one, forward_one, left, here.start, steps)
@@ -260,7 +250,7 @@ fn turn_node(
 ) -> Then
     requires at { IsAtEnd subject tables.old kept.old here kind.now }
     requires decided { HasBlank decided.old }
-    ensures turned { NodeTurned subject.entry here kind.now (known_groups_in decided.old) (known_groups_in decided.new) kept.new.region result steps.old steps.new }
+    ensures turned { NodeTurned subject.entry here kind.now (known_groups decided.old) (known_groups decided.new) kept.new.region result steps.old steps.new }
     ensures desk { KeepsGroupDesk subject.entry tables.old tables.new kept.old kept.new }
     ensures decided { HasBlank decided.new }
     ensures few { spans_in decided.new.spans ≤ spans_in decided.old.spans + 1 }
@@ -319,7 +309,11 @@ fn spine(
     here: Matched,
     steps: &mut Steps,
 )
-    requires { MayWork subject tables.old room.old decided.old (Apart here ∷ reverse room.old.tasks.items) }
+    requires arena { IsArena (nodes_in subject) }
+    requires ready { AllByRecursion (IsTaskReady (nodes_in subject) (subject_text subject)) (Apart here ∷ reverse room.old.tasks.items) }
+    requires enough { weights (nodes_in subject) (Apart here ∷ reverse room.old.tasks.items) ≤ vec_capacity room.old.tasks }
+    requires desk { HasDesk subject tables.old room.old.kept }
+    requires blank { HasBlank decided.old }
     ensures room { KeepsGroupRoom subject.entry tables.old tables.new room.old room.new }
     ensures works { Works subject.entry (Apart here ∷ reverse room.old.tasks.items) decided.old (reverse room.new.tasks.items) decided.new 1 steps.old steps.new }
 {
@@ -344,48 +338,33 @@ fn spine(
     }
 }
 
-/// The groups of the whole expression.
-pub fn all_groups(prepared: &Prepared) -> GroupSet
-    ensures whole { holds result 0 ≡ false }
-    ensures all { HasAll result (expression_tree prepared.now.arena.expr) }
-{
-    facts_at(prepared, prepared.root).groups
-}
-
-/// The groups of the match `start..stop` of the whole expression, of those that are asked for: `due` are some of them, or
-/// [`all_groups`].
+/// The groups of the match `start..stop` of the whole expression.
 pub fn decide(
     subject: Subject,
     tables: &mut Tables,
     room: &mut GroupRoom,
-    due: GroupSet,
     start: usize,
     stop: usize,
     steps: &mut Steps,
 ) -> GroupSpans
-    requires whole { holds due 0 ≡ false }
     requires order { Ascending start stop (length (subject_text subject)) }
     requires spans { HasSpan (nodes_in subject) (subject_text subject) subject.prepared.now.root start stop }
     requires tasks { room.old.tasks.items ≡ [] }
     requires room { 2 * length (nodes_in subject) ≤ vec_capacity room.old.tasks }
     requires desk { HasDesk subject tables.old room.old.kept }
-    ensures report { HasAll due (expression_tree subject.entry.prepared.now.arena.expr) → IsReport (expression_tree subject.entry.prepared.now.arena.expr) (subject_text subject.entry) start stop result }
-    ensures due { (groups : SpansOfGroups) (k : ℕ) → IsReport (expression_tree subject.entry.prepared.now.arena.expr) (subject_text subject.entry) start stop groups → IsTrue (holds due k) →
-        slice_index_or result k None ≡ slice_index_or groups k None }
+    ensures report { IsReport (expression_tree subject.entry.prepared.now.arena.expr) (subject_text subject.entry) start stop result }
     ensures tasks { room.new.tasks.items ≡ [] }
-    ensures room { vec_capacity room.old.tasks ≤ vec_capacity room.new.tasks }
-    ensures desk { HasDesk subject.entry tables.new room.new.kept }
-    ensures shape { SameTables tables.old tables.new }
-    ensures space { SameSpace room.old.kept room.new.kept }
+    ensures room { KeepsGroupRoom subject.entry tables.old tables.new room.old room.new }
     ensures cost { let m = length (nodes_in subject.entry) in Takes steps.old steps.new (172 * m * (m - 1) * (stop - start) + 2 * m) }
     ensures counts { TakesAtLeast steps.old steps.new (spans_in result - 1) }
-    ensures entered { LooksAtEntered (expression_tree subject.entry.prepared.now.arena.expr) (subject_text subject.entry) start stop (known_groups due (undecided start stop)) steps.old steps.new }
+    ensures entered { EntersGroups (expression_tree subject.entry.prepared.now.arena.expr) (subject_text subject.entry) start stop steps.old steps.new }
 {
     subject.prepared.arena.is_expression();
+    let node = subject.prepared.root;
+    let due = facts_at(subject.prepared, node).groups;
     let mut spans = [None; 10];
     spans[0] = Some((start, stop));
     let mut decided = Decided { due, spans };
-    let node = subject.prepared.root;
     let whole = Matched { node, start, stop };
     room.tasks.push_reserved(GroupTask::Apart(whole));
     'all: while let Some(task) = room.tasks.pop() {

@@ -4,12 +4,12 @@
 //! right end is kept too. Where the states of a block are gone, since the table was emptied after it was made, they are made again
 //! from the block's end down to the place that is looked at, so that looks from left to right make each place again once at most.
 ghost use Rattle.std.specs.Prelude.{◌≡◌, ℕ, false, not, min, ◌+◌, ◌-◌, ◌*◌, ◌/◌, ◌^◌, ◌<◌, ◌≤◌, ◌↔◌, length, vec_capacity, IfOk, IsTrue};
-ghost use Rattle.sedtext.specs.Costs.{CostsWithin};
+ghost use Rattle.sedre.specs.Steps.{CostsWithin, Takes, TakesAtLeast, TakesExactly};
+ghost use Rattle.sedtext.specs.Places.{Ascending};
 ghost use Rattle.sedtext.specs.Reach.{HasSpan, one_start};
 ghost use Rattle.sedtext.specs.Words.{row_of};
-ghost use Rattle.sedre.specs.Steps.{Takes, TakesAtLeast, TakesExactly};
 ghost use Rattle.sedpass.specs.Regions.{CeasesAt, IsLastIn, MeetsAt, ReachesEnd};
-ghost use Rattle.sedpass.specs.Table.{AddsStates, IsOffset, IsTable, MayBegin, SameShape, state_of};
+ghost use Rattle.sedpass.specs.Table.{AddsStates, IsForwardOne, IsOffset, IsTable, MayBegin, SameShape, state_of};
 ghost use Rattle.sedpass.specs.Kept.{AllMarked, ComesDown, Follows, IsEdge, IsKept, IsRegion, KeepsRegion, KeptAt, KeptRoom, Meet, PassesDownTo, SameSpace, again, ends_shown, owed_region};
 
 use crate::cells::offset_of;
@@ -34,8 +34,7 @@ impl<'a> Subject<'a> {
     pub fn is_null(self, x: usize, place: usize, steps: &mut Steps) -> bool
         requires inside { x < length self.prepared.now.arena.expr.nodes }
         ensures null { IsTrue result ↔ HasSpan self.entry.prepared.now.arena.expr.nodes self.entry.text.now x place place }
-        ensures cost { Takes steps.old steps.new 1 }
-        ensures counts { TakesExactly steps.old steps.new 1 }
+        ensures cost { TakesExactly steps.old steps.new 1 }
     {
         let kind = kind_of(place, self.text.len());
         self.prepared.null_at(x, kind, steps)
@@ -43,7 +42,7 @@ impl<'a> Subject<'a> {
 }
 
 /// The places from which a node is matched up to an end, and of which of them the states are known.
-#[derive(Clone, Copy)]
+#[derive(Clone, Copy, Default)]
 pub struct Region {
     /// The node.
     pub root: usize,
@@ -81,13 +80,7 @@ impl Kept {
         ensures marks { IfOk result (λ k. (q : ℕ) → q < length k.edges → length (row_of k.edges q) ≡ nodes) }
     {
         Ok(Kept {
-            region: Region {
-                root: 0,
-                end: 0,
-                low: 0,
-                from: 0,
-                to: 0,
-            },
+            region: Region::default(),
             states: Vec::with_capacity(alloc, bytes + 1)?,
             edges: Rows::new(alloc, 2 * blocks, nodes)?,
         })
@@ -157,27 +150,25 @@ impl Kept {
     /// The state of a place that is the region's end, or the right end of a block of which the row is kept; gives where its cells
     /// begin. At the region's end the block counts for nothing.
     fn edge_state(
-        &mut self,
+        &self,
         subject: Subject,
         table: &mut Table,
         block: usize,
         place: usize,
         steps: &mut Steps,
     ) -> usize
-        requires region { IsRegion subject.prepared.now subject.text.now table.old self.old }
-        requires place { place ≤ self.old.region.end }
-        requires edge { place < self.old.region.end → (place ≡ block * (table.old.room - 1) + (table.old.room - 1)) ×
-            IsEdge subject.prepared.now subject.text.now table.old.way self.old.region.root self.old.region.end self.old.edges (table.old.room - 1) block }
+        requires region { IsRegion subject.prepared.now subject.text.now table.old self.now }
+        requires place { place ≤ self.now.region.end }
+        requires room { place < self.now.region.end → table.old.count < table.old.room }
+        requires edge { place < self.now.region.end → (place ≡ block * (table.old.room - 1) + (table.old.room - 1)) ×
+            IsEdge subject.prepared.now subject.text.now table.old.way.all_starts self.now.region.root self.now.region.end self.now.edges (table.old.room - 1) block }
         ensures table { IsTable subject.entry.prepared.now table.new }
         ensures adds { AddsStates (length subject.entry.prepared.now.arena.expr.nodes) table.old table.new }
-        ensures region { self.new.region ≡ self.old.region }
-        ensures edges { self.new.edges ≡ self.old.edges }
-        ensures states { self.new.states ≡ self.old.states }
         ensures there { IsOffset table.new result }
-        ensures at { KeptAt subject.entry.prepared.now subject.entry.text.now table.new.way self.old.region.root self.old.region.end place
+        ensures at { KeptAt subject.entry.prepared.now subject.entry.text.now table.new.way.all_starts self.now.region.root self.now.region.end place
             (state_of (length subject.entry.prepared.now.arena.expr.nodes) table.new (result / 2 ^ table.new.layout.shift)) }
         ensures cost { Takes steps.old steps.new (33 * length subject.entry.prepared.now.arena.expr.nodes) }
-        ensures inside { place < self.old.region.end → Takes steps.old steps.new (20 * length subject.entry.prepared.now.arena.expr.nodes) }
+        ensures inside { place < self.now.region.end → Takes steps.old steps.new (20 * length subject.entry.prepared.now.arena.expr.nodes) }
         ensures counts { TakesAtLeast steps.old steps.new 1 }
     {
         let (prepared, root) = (subject.prepared, self.region.root);
@@ -317,12 +308,11 @@ impl Kept {
         requires x { x < length subject.prepared.now.arena.expr.nodes }
         requires from { from ≤ self.old.region.end }
         ensures keeps { KeepsRegion subject.entry.prepared.now subject.entry.text.now table.old table.new self.old self.new }
-        ensures after { from ≤ result }
-        ensures within { result ≤ self.old.region.end }
+        ensures order { Ascending from result self.old.region.end }
         ensures passed { AllMarked subject.entry.prepared.now.arena.expr.nodes subject.entry.text.now self.old.region.root
-            (ends_shown table.old.way.all_starts (length subject.entry.text.now) self.old.region.end) x (not marked) from result }
+            (ends_shown table.old.way.all_starts self.old.region.end) x (not marked) from result }
         ensures found { result < self.old.region.end → IsTrue marked ↔ ReachesEnd subject.entry.prepared.now.arena.expr.nodes subject.entry.text.now self.old.region.root
-            (ends_shown table.old.way.all_starts (length subject.entry.text.now) self.old.region.end) x result }
+            (ends_shown table.old.way.all_starts self.old.region.end) x result }
         ensures cost { let m = length subject.entry.prepared.now.arena.expr.nodes in
             CostsWithin steps.old steps.new (owed_region m self.old.region from + 2 * result + 2) (owed_region m self.new.region result + 2 * from) }
         ensures counts { TakesAtLeast steps.old steps.new (result - from) }
@@ -353,12 +343,11 @@ impl Kept {
         requires x { x < length subject.prepared.now.arena.expr.nodes }
         requires from { self.now.region.from ≤ from }
         requires to { from < self.now.region.to }
-        ensures after { from ≤ result }
-        ensures within { result ≤ self.now.region.to }
+        ensures order { Ascending from result self.now.region.to }
         ensures passed { AllMarked subject.entry.prepared.now.arena.expr.nodes subject.entry.text.now self.now.region.root
-            (ends_shown table.now.way.all_starts (length subject.entry.text.now) self.now.region.end) x (not marked) from result }
+            (ends_shown table.now.way.all_starts self.now.region.end) x (not marked) from result }
         ensures found { result < self.now.region.to → IsTrue marked ↔ ReachesEnd subject.entry.prepared.now.arena.expr.nodes subject.entry.text.now self.now.region.root
-            (ends_shown table.now.way.all_starts (length subject.entry.text.now) self.now.region.end) x result }
+            (ends_shown table.now.way.all_starts self.now.region.end) x result }
         ensures cost { CostsWithin steps.old steps.new (result + 1) from }
         ensures counts { TakesAtLeast steps.old steps.new (result - from) }
     {
@@ -383,16 +372,15 @@ impl Kept {
         steps: &mut Steps,
     ) -> usize
         requires kept { IsKept subject.prepared.now subject.text.now table.old self.old }
-        requires forward_one { IsTable subject.prepared.now forward_one.old }
-        requires forwards { (forward_one.old.way.mirrored ≡ false) × (forward_one.old.way.all_starts ≡ false) }
+        requires forward_one { IsForwardOne subject.prepared.now forward_one.old }
         requires a { a ≤ self.old.region.root }
         requires from { from ≤ self.old.region.end }
         ensures keeps { KeepsRegion subject.entry.prepared.now subject.entry.text.now table.old table.new self.old self.new }
-        ensures forward_one { IsTable subject.entry.prepared.now forward_one.new }
+        ensures forward_one { IsForwardOne subject.entry.prepared.now forward_one.new }
         ensures shape { SameShape forward_one.old forward_one.new }
         ensures within { result ≤ self.old.region.end }
         ensures ceases { CeasesAt subject.entry.prepared.now.arena.expr.nodes subject.entry.text.now self.old.region.root
-            (ends_shown table.old.way.all_starts (length subject.entry.text.now) self.old.region.end) a from result }
+            (ends_shown table.old.way.all_starts self.old.region.end) a from result }
         ensures cost { let m = length subject.entry.prepared.now.arena.expr.nodes in
             CostsWithin steps.old steps.new (owed_region m self.old.region from + 36 * m * (result + 1)) (owed_region m self.new.region result + 36 * m * from) }
         ensures counts { TakesAtLeast steps.old steps.new (2 * (result - from) + 1) }
@@ -425,21 +413,19 @@ impl Kept {
         steps: &mut Steps,
     ) -> (usize, usize)
         requires kept { IsKept subject.prepared.now subject.text.now table.now self.now }
-        requires forward_one { IsTable subject.prepared.now forward_one.old }
-        requires forwards { (forward_one.old.way.mirrored ≡ false) × (forward_one.old.way.all_starts ≡ false) }
+        requires forward_one { IsForwardOne subject.prepared.now forward_one.old }
         requires offset { IsOffset forward_one.old offset }
         requires from { self.now.region.from ≤ from }
         requires to { from < self.now.region.to }
-        ensures forward_one { IsTable subject.entry.prepared.now forward_one.new }
+        ensures forward_one { IsForwardOne subject.entry.prepared.now forward_one.new }
         ensures shape { SameShape forward_one.old forward_one.new }
         ensures offset { IsOffset forward_one.new result.1 }
-        ensures after { from ≤ result.0 }
-        ensures within { result.0 ≤ self.now.region.to }
+        ensures order { Ascending from result.0 self.now.region.to }
         ensures meets { (a i : ℕ) → a ≤ self.now.region.root → i ≤ from → Follows subject.entry.prepared.now subject.entry.text.now forward_one.old a i from offset →
             Follows subject.entry.prepared.now subject.entry.text.now forward_one.new a i result.0 result.1
             × Meet subject.entry.prepared.now subject.entry.text.now table.now self.now a i from result.0
             × (result.0 < self.now.region.to → MeetsAt subject.entry.prepared.now.arena.expr.nodes subject.entry.text.now self.now.region.root
-            (ends_shown table.now.way.all_starts (length subject.entry.text.now) self.now.region.end) a (one_start i) result.0 → ⊥) }
+            (ends_shown table.now.way.all_starts self.now.region.end) a (one_start i) result.0 → ⊥) }
         ensures cost { let m = length subject.entry.prepared.now.arena.expr.nodes in CostsWithin steps.old steps.new (36 * m * result.0 + m) (36 * m * from) }
         ensures whole { let m = length subject.entry.prepared.now.arena.expr.nodes in result.0 ≡ self.now.region.to → CostsWithin steps.old steps.new (36 * m * result.0) (36 * m * from) }
         ensures counts { TakesAtLeast steps.old steps.new (2 * (result.0 - from)) }

@@ -5,7 +5,7 @@
 //! A table remembers what acts found out ([`table`], [`cells`]); a pass forwards for the whole expression is in [`forwards`]. Of a pass
 //! backwards over a region the states of all places are kept ([`kept`]); by looks into it the groups of a match are decided from its
 //! end ([`groups`]). Searches use these ([`search`]).
-#![tactic(auto, unfolding(sedre::specs::Steps::TakesAtLeast, sedre::specs::Steps::TakesExactly))]
+#![tactic(auto, unfolding(sedre::specs::Steps::TakesAtLeast, sedre::specs::Steps::IsCounted))]
 
 pub mod cells;
 pub mod classes;

@@ -7,8 +7,7 @@ ghost use Rattle.sedre.specs.Tree.{tree_at, tree_of, Tree, any_copies, one_or_no
 ghost use Rattle.sedre.specs.Mirror.{node_seen, seen};
 ghost use Rattle.sedre.specs.Packed.{PartsBelow};
 ghost use Rattle.sedre.specs.Steps.{Takes, TakesExactly, TakesAtLeast};
-ghost use Rattle.sedpass.specs.Walks.{has_group};
-ghost use Rattle.sedpass.specs.Prepared.{IsPrepared, IsFacts, AreFacts, IsShort, is_one_set, repeated_set, null_at, null_in, nullable, sum_of, same_of, length_of};
+ghost use Rattle.sedpass.specs.Prepared.{IsPrepared, holds, IsFacts, AreFacts, IsShort, is_one_set, null_at, null_in, sum_of, same_of};
 ghost use Rattle.sedpass.specs.Rows.{IsNodeRange};
 
 use crate::classes::{Classes, classes_of};
@@ -69,8 +68,11 @@ pub struct Facts {
 
 /// What is known of a node without parts.
 fn of_leaf(x: usize, null: u8, length: usize) -> Facts
-    ensures { (t : Tree) → size t ≡ 1 → ((first last : Bool) → null_at null first last ≡ nullable first last t) → ((k : ℕ) → has_group t k ≡ false) →
-        length_of t ≡ Some length → repeated_set t x ≡ None → IsFacts t x result }
+    ensures low { result.low ≡ x }
+    ensures null { result.null ≡ null }
+    ensures groups { (k : ℕ) → holds result.groups k ≡ false }
+    ensures length { result.length ≡ Some length }
+    ensures run { result.run ≡ None }
 {
     Facts {
         low: x,
@@ -96,6 +98,7 @@ fn same_of(left: Option<usize>, right: Option<usize>) -> Option<usize>
 }
 
 /// The index of a part, if that is a set: it has no parts, and its matches have one byte.
+#[tactic(auto, using(crate::proofs::FactLemmas::shown_set))]
 fn set_at(part: NodeId, shown: Facts) -> Option<usize>
     ensures { (a : Tree) → IsFacts a part.index shown → result ≡ cond (is_one_set a) (Some part.index) None }
 {
@@ -232,8 +235,7 @@ impl Arena {
     pub fn look(&self, x: usize, mirrored: bool, steps: &mut Steps) -> Node
         requires inside { x < length self.now.expr.nodes }
         ensures node { slice_get (seen mirrored self.now.expr).nodes x ≡ Some result }
-        ensures cost { Takes steps.old steps.new 1 }
-        ensures counts { TakesExactly steps.old steps.new 1 }
+        ensures cost { TakesExactly steps.old steps.new 1 }
         ensures parts { PartsBelow x result }
         ensures arena { IsArena (seen mirrored self.now.expr).nodes }
         ensures few { length self.now.expr.nodes ≤ 65536 }
@@ -340,8 +342,7 @@ impl Prepared {
     pub fn null_at(&self, x: usize, kind: PlaceKind, steps: &mut Steps) -> bool
         requires inside { x < length self.now.arena.expr.nodes }
         ensures null { result ≡ null_in self.now.arena.expr.nodes kind x }
-        ensures cost { Takes steps.old steps.new 1 }
-        ensures counts { TakesExactly steps.old steps.new 1 }
+        ensures cost { TakesExactly steps.old steps.new 1 }
     {
         steps.add(1);
         has_kind(self.facts[x].null, kind)

@@ -3,23 +3,22 @@
 //! The row of a place shows which leaves are entered there, in a match from one of the pass's starts, and which nodes
 //! ended there. The leaves entered decide, with the byte, the next row. Rows of marks contain what acts work on: the first two what
 //! is found out of a place, and then two for each state, so that a row is made where it is kept.
-ghost use Rattle.std.specs.Prelude.{◌≡◌, ◌≢◌, ℕ, List, Bool, false, ◌+◌, ◌-◌, ◌*◌, ◌<◌, ◌≤◌, ◌↔◌, ◌&&◌, length, None, slice_index_or, IsTrue};
+ghost use Rattle.std.specs.Prelude.{◌≡◌, ◌≢◌, ℕ, List, false, ◌+◌, ◌-◌, ◌*◌, ◌<◌, ◌≤◌, ◌↔◌, ◌&&◌, length, slice_index_or, IsTrue};
 ghost use Rattle.sedre.specs.Tree.{tree_at, size};
 ghost use Rattle.sedre.specs.Packed.{PartsBelow};
 ghost use Rattle.sedre.specs.Steps.{Takes, TakesAtLeast};
 ghost use Rattle.sedtext.specs.Matching.{byte_is_in};
 ghost use Rattle.sedtext.specs.PartMarks.{enter_parts};
 ghost use Rattle.sedtext.specs.Places.{takes_any};
-ghost use Rattle.sedtext.specs.Reach.{IsStart, CanEnd, Marked};
+ghost use Rattle.sedtext.specs.Reach.{IsStart, CanEnd, Marked, Starts};
 ghost use Rattle.sedtext.specs.Words.{KeepsRows, row_of};
 ghost use Rattle.sedpass.specs.Prepared.{null_in};
-ghost use Rattle.sedpass.specs.Rows.{nodes_of, at_begin, at_edge, bits, RowLeadsTo, IsFirstRow, RowOfPlace, InTree, AreNull, AreWide, ShowTook, IsApart, leaves_row, ends_row, ended_by, enter_looks};
+ghost use Rattle.sedpass.specs.Rows.{nodes_of, at_begin, at_edge, bits, RowOfPlace, InTree, AreNull, AreWide, ShowTook, IsApart, leaves_row, ends_row, ended_by};
 
 use crate::nodes::{PlaceKind, Prepared};
 use sedre::{Node, Steps};
 use sedtext::counted::Rows;
 use sedtext::counted::members::takes_byte;
-use sedtext::starts::Starts;
 
 /// In which way a pass goes.
 #[derive(Clone, Copy)]
@@ -101,7 +100,7 @@ fn enter(act: Act, node: &Node, here: bool, rows: &mut Rows, steps: &mut Steps)
     requires wide { AreWide (length act.prepared.now.arena.expr.nodes) 0 rows.old }
     ensures keeps { KeepsRows (λ q. q ≢ 0) rows.old rows.new }
     ensures marks { row_of rows.new 0 ≡ enter_parts here (null_in act.entry.prepared.now.arena.expr.nodes act.entry.kind) (λ c. slice_index_or (row_of rows.old 1) c false) node.now (row_of rows.old 0) }
-    ensures cost { Takes steps.old steps.new (enter_looks node.now) }
+    ensures cost { Takes steps.old steps.new 4 }
 {
     match node {
         Node::Seq(a, b) => {
@@ -129,15 +128,12 @@ fn enter(act: Act, node: &Node, here: bool, rows: &mut Rows, steps: &mut Steps)
 fn leaf_bit(node: &Node, here: bool) -> bool
     ensures { result ≡ (takes_any node.now && here) }
 {
-    match node {
-        Node::Set(_) => here,
-        _ => false,
-    }
+    matches!(node, Node::Set(_)) && here
 }
 
 /// From the lowest node up: which nodes end here after at least one byte. `byte` is the one that came, if one did; the state
 /// is that of the place before it.
-fn ascend(act: Act, byte: Option<u8>, state: usize, rows: &mut Rows, steps: &mut Steps)
+pub fn ascend(act: Act, byte: Option<u8>, state: usize, rows: &mut Rows, steps: &mut Steps)
     requires root { act.root < length act.prepared.now.arena.expr.nodes }
     requires wide { AreWide (length act.prepared.now.arena.expr.nodes) state rows.old }
     ensures keeps { KeepsRows (λ q. q ≢ 1) rows.old rows.new }
@@ -157,7 +153,7 @@ fn ascend(act: Act, byte: Option<u8>, state: usize, rows: &mut Rows, steps: &mut
 }
 
 /// From the root down: the row of this place, as that of the state. `first` says whether the root begins here.
-fn descend(act: Act, first: bool, state: usize, rows: &mut Rows, steps: &mut Steps)
+pub fn descend(act: Act, first: bool, state: usize, rows: &mut Rows, steps: &mut Steps)
     requires root { act.root < length act.prepared.now.arena.expr.nodes }
     requires wide { AreWide (length act.prepared.now.arena.expr.nodes) state rows.old }
     ensures keeps { KeepsRows (IsApart 1 state) rows.old rows.new }
@@ -166,7 +162,7 @@ fn descend(act: Act, first: bool, state: usize, rows: &mut Rows, steps: &mut Ste
         (w : List ℕ) (s : Starts) (place : ℕ) → AreNull nodes w place (null_in act.entry.prepared.now.arena.expr.nodes act.entry.kind) →
         Marked (row_of rows.old 1) (InTree nodes act.entry.root) (λ c. CanEnd nodes w act.entry.root s c place) → (IsTrue first ↔ IsStart s place) →
         RowOfPlace nodes w act.entry.root s act.entry.way.mirrored place (bits m (row_of rows.new (leaves_row state))) (bits m (row_of rows.new (ends_row state))) }
-    ensures cost { Takes steps.old steps.new (12 * length act.entry.prepared.now.arena.expr.nodes - 3) }
+    ensures cost { Takes steps.old steps.new (12 * length act.entry.prepared.now.arena.expr.nodes + 1) }
     ensures counts { let m = length act.entry.prepared.now.arena.expr.nodes in
         TakesAtLeast steps.old steps.new (2 * m + 6 * size (tree_at act.entry.prepared.now.arena.expr.nodes act.entry.root)) }
 {
@@ -199,35 +195,4 @@ pub fn edge_kind(mirrored: bool, edge: bool) -> PlaceKind
         begin: edge & mirrored,
         end: edge & !mirrored,
     }
-}
-
-/// Makes a row as that of the state `to`: the one after the state `from` and a byte, or, without a byte, that in which a pass begins.
-/// `first` says whether a match may start there.
-pub fn step(
-    act: Act,
-    byte: Option<u8>,
-    first: bool,
-    from: usize,
-    to: usize,
-    rows: &mut Rows,
-    steps: &mut Steps,
-)
-    requires root { act.root < length act.prepared.now.arena.expr.nodes }
-    requires order { from ≤ to }
-    requires wide { AreWide (length act.prepared.now.arena.expr.nodes) to rows.old }
-    ensures keeps { KeepsRows (IsApart 2 to) rows.old rows.new }
-    ensures leads { let m = length act.entry.prepared.now.arena.expr.nodes in
-        at_begin act.entry.way.mirrored act.entry.kind ≡ false → (before : ℕ → Bool) → RowLeadsTo (nodes_of act.entry.way act.entry.prepared.now.arena.expr) act.entry.root act.entry.way.mirrored
-        (bits m (row_of rows.old (leaves_row from))) before byte (at_edge act.entry.way.mirrored act.entry.kind) first
-        (bits m (row_of rows.new (leaves_row to))) (bits m (row_of rows.new (ends_row to))) }
-    ensures begins { let m = length act.entry.prepared.now.arena.expr.nodes in
-        byte ≡ None → IsTrue first → IsFirstRow (nodes_of act.entry.way act.entry.prepared.now.arena.expr) act.entry.root act.entry.way.mirrored
-        (at_begin act.entry.way.mirrored act.entry.kind) (at_edge act.entry.way.mirrored act.entry.kind)
-        (bits m (row_of rows.new (leaves_row to))) (bits m (row_of rows.new (ends_row to))) }
-    ensures cost { Takes steps.old steps.new (17 * length act.entry.prepared.now.arena.expr.nodes - 3) }
-    ensures counts { let m = length act.entry.prepared.now.arena.expr.nodes in
-        TakesAtLeast steps.old steps.new (8 * size (tree_at act.entry.prepared.now.arena.expr.nodes act.entry.root) + 2 * m) }
-{
-    ascend(act, byte, from, rows, steps);
-    descend(act, first, to, rows, steps);
 }

@@ -5,9 +5,8 @@
 ghost use Rattle.std.specs.Prelude.{◌≡◌, ℕ, false, ◌+◌, ◌-◌, ◌*◌, ◌≤◌, length, if◌then◌else◌, IsTrue};
 ghost use Rattle.sedtext.specs.Answer.{SpanAnswer};
 ghost use Rattle.sedtext.specs.Beginnings.{AllBegin};
-ghost use Rattle.sedtext.specs.Costs.{CostsWithin};
+ghost use Rattle.sedre.specs.Steps.{CostsWithin, Takes};
 ghost use Rattle.sedre.specs.Tree.{expression_tree};
-ghost use Rattle.sedre.specs.Steps.{Takes};
 ghost use Rattle.sedpass.specs.Table.{IsForwardOne, IsTable, SameShape};
 ghost use Rattle.sedpass.specs.Kept.{IsKept, KeptRoom, SameSpace};
 ghost use Rattle.sedpass.specs.Search.{IsNextMatch, LooksFrom, MaySearch, Searched, SearchServes, TablesStay, TrialsMade, owed_behind, owed_kept, owed_seeking, owed_after_search, search_cost};

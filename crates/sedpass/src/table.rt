@@ -5,12 +5,13 @@
 //! an act and a state for each byte, never more.
 ghost use Rattle.std.specs.Prelude.{◌≡◌, ℕ, ◌+◌, ◌*◌, ◌/◌, ◌^◌, ◌<◌, ◌≤◌, length, IfOk, IfSome, vec_len};
 ghost use Rattle.sedre.specs.Steps.{Takes, TakesAtLeast};
-ghost use Rattle.sedpass.specs.Rows.{nodes_of, bits};
-ghost use Rattle.sedpass.specs.Table.{state_of, HasNewRow, HasPlace, BeginsIn, NamesState, IsNext, IsOffset, beginning_at, MayBegin, IsRoomy, IsTable, SameRoom, SameShape, AddsStates, Codes};
+ghost use Rattle.sedtext.specs.Words.{row_of};
+ghost use Rattle.sedpass.specs.Rows.{nodes_of, bits, leaves_row};
+ghost use Rattle.sedpass.specs.Table.{state_of, HasNewRow, IsMade, BeginsIn, NamesState, IsNext, IsOffset, beginning_at, MayBegin, IsRoomy, IsTable, SameRoom, SameShape, AddsStates, Codes};
 
 use crate::cells::{Layout, MOST_CELLS, StateFlags, code_of, empty_cells};
 use crate::nodes::{PlaceKind, Prepared};
-use crate::rows::{Act, Way, edge_kind, ends_row, leaves_row, step};
+use crate::rows::{Act, Way, ascend, descend, edge_kind, ends_row, leaves_row};
 use sedre::Steps;
 use sedtext::counted::Rows;
 use std::alloc::{AllocError, Global};
@@ -97,7 +98,7 @@ impl Table {
             },
             count: 0,
             epoch: 1,
-            rows: Rows::new(alloc, 2 * room + 4, most)?,
+            rows: Rows::new(alloc, 2 * room + 2, most)?,
             roots: vec![in alloc; 0; room]?,
             cells: Vec::with_capacity(alloc, room * MOST_CELLS.min(4 * (most + 1)))?,
             // An odd number and one: by a power of two only a digest's last bits would count.
@@ -151,21 +152,18 @@ impl Table {
         known.then_some(state)
     }
 
-    /// Empties the table if it is full, and makes the row that is being made that of its first state.
-    fn make_room(&mut self, prepared: &Prepared, steps: &mut Steps)
+    /// Forgets all states if there is no room for one more; their rows stay.
+    fn make_room(&mut self, prepared: &Prepared)
         requires table { IsTable prepared.now self.old }
-        ensures place { HasPlace prepared.now self.old self.new }
-        ensures cost { Takes steps.old steps.new (2 * length prepared.now.arena.expr.nodes) }
+        ensures table { IsTable prepared.now self.new }
+        ensures room { self.new.count < self.new.room }
+        ensures same_room { self.new.room ≡ self.old.room }
+        ensures rows { self.new.rows ≡ self.old.rows }
+        ensures adds { (then : Table) → AddsStates (length prepared.now.arena.expr.nodes) self.new then → AddsStates (length prepared.now.arena.expr.nodes) self.old then }
     {
-        let made = self.count;
-        if made < self.room {
-            return;
+        if self.count == self.room {
+            self.empty(prepared);
         }
-        self.empty(prepared);
-        let nodes = prepared.nodes();
-        let (leaves, ends) = (leaves_row(made), ends_row(made));
-        self.rows.copy_within(leaves_row(0), leaves, nodes, steps);
-        self.rows.copy_within(ends_row(0), ends, nodes, steps);
     }
 
     /// Adds the state with this root and the row that is being made, and gives its number. There is room.
@@ -193,13 +191,13 @@ impl Table {
         state
     }
 
-    /// The code of the state with this root and the row that is being made, which is added unless it is found; a full table is
-    /// emptied before.
+    /// The code of the state with this root and the row that is being made, which is added unless it is found. There is room.
     pub fn intern(&mut self, prepared: &Prepared, root: usize, steps: &mut Steps) -> u32
         requires table { IsTable prepared.now self.old }
+        requires room { self.old.count < self.old.room }
         requires root { root < length prepared.now.arena.expr.nodes }
         ensures codes { Codes prepared.now self.old self.new (HasNewRow (length prepared.now.arena.expr.nodes) self.old root) result }
-        ensures cost { Takes steps.old steps.new (11 * length prepared.now.arena.expr.nodes + 5) }
+        ensures cost { Takes steps.old steps.new (9 * length prepared.now.arena.expr.nodes + 5) }
         ensures counts { TakesAtLeast steps.old steps.new (2 * length prepared.now.arena.expr.nodes) }
     {
         let nodes = prepared.nodes();
@@ -223,10 +221,34 @@ impl Table {
                 return code_of(flags, state << self.layout.shift);
             }
         }
-        self.make_room(prepared, steps);
         let slot = at + usize::from(self.noted(at).is_some());
         let state = self.add(prepared, root, slot, steps);
         code_of(flags, state << self.layout.shift)
+    }
+
+    /// Makes a state, in an emptied table if there is no room for one more: the one to which an act leads from the state `from`, whose
+    /// row is there, and a byte, or, without a byte, one in which a pass begins. `first` says whether a match may start there.
+    fn make(
+        &mut self,
+        act: Act,
+        byte: Option<u8>,
+        first: bool,
+        from: usize,
+        steps: &mut Steps,
+    ) -> u32
+        requires table { IsTable act.prepared.now self.old }
+        requires root { act.root < length act.prepared.now.arena.expr.nodes }
+        requires from { from < self.old.room }
+        ensures codes { Codes act.entry.prepared.now self.old self.new
+            (IsMade act.entry byte first (bits (length act.entry.prepared.now.arena.expr.nodes) (row_of self.old.rows (leaves_row from)))) result }
+        ensures cost { Takes steps.old steps.new (26 * length act.entry.prepared.now.arena.expr.nodes + 6) }
+        ensures counts { TakesAtLeast steps.old steps.new (2 * length act.entry.prepared.now.arena.expr.nodes) }
+    {
+        self.make_room(act.prepared);
+        let to = self.count;
+        ascend(act, byte, from, &mut self.rows, steps);
+        descend(act, first, to, &mut self.rows, steps);
+        self.intern(act.prepared, act.root, steps)
     }
 
     /// Makes the state after a state and a byte, and fills its cell unless the table was emptied for it.
@@ -252,10 +274,8 @@ impl Table {
             root: self.roots[state],
             kind: edge_kind(self.way.mirrored, edge),
         };
-        let (first, to) = (self.way.all_starts, self.count);
-        step(act, Some(byte), first, state, to, &mut self.rows, steps);
-        let epoch = self.epoch;
-        let next = self.intern(prepared, act.root, steps);
+        let (first, epoch) = (self.way.all_starts, self.epoch);
+        let next = self.make(act, Some(byte), first, state, steps);
         if self.epoch == epoch
             && let Some(column) = self.layout.column(byte, edge)
         {
@@ -323,9 +343,7 @@ impl Table {
             root,
             kind,
         };
-        let to = self.count;
-        step(act, None, true, to, to, &mut self.rows, steps);
-        let code = self.intern(prepared, root, steps);
+        let code = self.make(act, None, true, 0, steps);
         let epoch = self.epoch;
         if epoch < LAST_EPOCHS {
             let at = self.beginning_at(root, kind);

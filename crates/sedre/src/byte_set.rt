@@ -35,7 +35,7 @@ impl Model for ByteSet {
 
 impl ByteSet {
     /// The set of no byte.
-    pub(crate) fn none() -> Self
+    pub fn none() -> Self
         ensures { result ≡ no_byte }
     {
         ByteSet { words: [0; 4] }

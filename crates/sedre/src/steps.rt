@@ -1,6 +1,6 @@
 //! The count of steps: of looks at nodes, and of what the matcher counts besides.
 ghost use Rattle.std.specs.Prelude.{◌≡◌, ◌+◌, ◌*◌, ◌-◌, ◌^◌, ◌≤◌, min};
-ghost use Rattle.sedre.specs.Steps.{Takes, TakesExactly};
+ghost use Rattle.sedre.specs.Steps.{TakesExactly};
 
 use std::marker::Model;
 
@@ -39,8 +39,7 @@ impl Steps {
 
     /// Counts `n` more steps.
     pub fn add(&mut self, n: usize)
-        ensures cost { Takes self.old self.new n }
-        ensures counts { TakesExactly self.old self.new n }
+        ensures cost { TakesExactly self.old self.new n }
     {
         self.low = self.low.wrapping_add(n as u64);
         if self.low < n as u64 {

@@ -3,7 +3,7 @@ ghost use Rattle.std.specs.Prelude.{◌≡◌, ◌<◌, ◌≤◌, ◌+◌, ℕ,
 ghost use Rattle.sedre.specs.declared.types.Node.TheVariants.{Set};
 ghost use Rattle.sedre.specs.Arena.{IsArena, IsExpr};
 ghost use Rattle.sedre.specs.Tree.{WrittenExpression};
-ghost use Rattle.sedre.specs.Steps.{Takes, TakesExactly};
+ghost use Rattle.sedre.specs.Steps.{TakesExactly};
 
 use crate::byte_set::ByteSet;
 use crate::packed::Packed;
@@ -98,8 +98,7 @@ impl Expr {
     pub fn look(&self, id: NodeId, steps: &mut Steps) -> Node
         requires inside { id.index < length self.now.nodes }
         ensures node { slice_get self.now.nodes id.index ≡ Some result }
-        ensures cost { Takes steps.old steps.new 1 }
-        ensures counts { TakesExactly steps.old steps.new 1 }
+        ensures cost { TakesExactly steps.old steps.new 1 }
         ensures arena { IsArena self.now.nodes }
         ensures few { length self.now.nodes ≤ 65536 }
     {

@@ -1,30 +1,16 @@
 -- The lowest bits of words.
-use Rattle.std.proofs.Common.{◌≡◌, ◌≢◌, ℕ, ◌+◌, ◌-◌, ◌*◌, ◌/◌, ◌%◌, ◌^◌, ◌<◌, ◌≤◌, ◌↔◌, Bool, false, not, List, length, IsTrue, sym, ap, ◌∙◌, subst, ⊎_elim, true≢false, arith, bit_and, w64, min}
+use Rattle.std.proofs.Common.{◌≡◌, ◌≢◌, ℕ, ◌+◌, ◌-◌, ◌*◌, ◌/◌, ◌%◌, ◌^◌, ◌<◌, ◌≤◌, ◌↔◌, Bool, false, List, length, IsTrue, sym, ap, ◌∙◌, subst, ⊎_elim, arith, bit_and, w64}
 use Rattle.std.specs.Prelude.{eqb, slice_index_or, slice_set}
 use Rattle.std.specs.Int.{bit_at, trailing_zeros}
-use Rattle.std.proofs.lemmas.Bool.{cases_eq, cases_lt, eqb-true, false_from_ne_true, not-true, not_from_false}
+use Rattle.std.proofs.lemmas.Bool.{cases_lt, eqb-true}
 use Rattle.std.proofs.lemmas.List.{get_or_default, get_or-set_other, get_or-set_same}
-use Rattle.std.proofs.lemmas.Nat.{one_shl}
-use Rattle.std.proofs.lemmas.Nat.Bits.{bit_at-zero, bit_at_and, bit_at_ones, bit_at_ones_above, bit_at-lt, bit_at-trailing_zeros}
+use Rattle.std.proofs.lemmas.Nat.Bits.{bit_at-zero, bit_at_and, bit_at-lt, bit_at-trailing_zeros}
 use Rattle.sedre.specs.Words.{is_set}
-
-pub lowest_inside : (word count k : ℕ) → count < 64 → k < count → bit_at (bit_and word (1 * 2 ^ count % 2 ^ 64 - 1)) k ≡ bit_at word k
-lowest_inside word count k small lt =
-    ap (λ v. bit_at (bit_and word (v - 1)) k) (one_shl count 64 small) ∙ bit_at_and word (2 ^ count - 1) k
-    ∙ ap (λ v. min (bit_at word k) v) (bit_at_ones count k lt) ∙ (let h = bit_at-lt word k in omega (arith, h))
-
-pub lowest_none : (word count k : ℕ) → count < 64 → count ≤ k → bit_at (bit_and word (1 * 2 ^ count % 2 ^ 64 - 1)) k ≡ 0
-lowest_none word count k small ge =
-    ap (λ v. bit_at (bit_and word (v - 1)) k) (one_shl count 64 small) ∙ bit_at_and word (2 ^ count - 1) k
-    ∙ ap (λ v. min (bit_at word k) v) (bit_at_ones_above count k ge) ∙ omega arith
 
 -- the bit of a number
 pub set_at : (words : List ℕ) (c x k : ℕ) → c ≡ 64 * x + k → k < 64 → is_set words c ≡ eqb (bit_at (slice_index_or words x 0) k) 1
 unfolding is_set
-set_at words c x k e lt =
-    let word : c / 64 ≡ x = omega arith in
-    let bit : c % 64 ≡ k = omega arith in
-    ap (λ v. eqb (bit_at (slice_index_or words v 0) (c % 64)) 1) word ∙ ap (λ v. eqb (bit_at (slice_index_or words x 0) v) 1) bit
+set_at words c x k e lt = grind arith
 
 -- the lowest bits of a word are none
 pub low_none : (low word count k : ℕ) → low ≡ 0 → ((i : ℕ) → i < count → bit_at low i ≡ bit_at word i) → k < count → bit_at word k ≡ 0
@@ -57,16 +43,10 @@ module _ (words other : List ℕ) (at from count : ℕ) (marks others : List Boo
     (x word two low : ℕ) (read : word ≡ slice_index_or words (at + x) word) (read_other : two ≡ slice_index_or other (from + x) two) (inside : at + x < length words) (there : from + x < length other)
     (lowest : (i : ℕ) → i < count - 64 * x → bit_at low i ≡ bit_at (bit_and word two) i) where
   mine : (k : ℕ) → k < 64 → 64 * x + k < count → IsTrue (slice_index_or marks (64 * x + k) false) ↔ (bit_at word k ≡ 1)
-  mine k small under =
-      let is = word_bit words at x k small in
-      let same = read ∙ get_or_default words (at + x) word 0 inside in
-      (λ h. ap (λ v. bit_at v k) same ∙ is.0 (sym (are (64 * x + k) under) ∙ h), λ h. are (64 * x + k) under ∙ is.1 (ap (λ v. bit_at v k) (sym same) ∙ h))
+  mine k small under = grind (arith, get_or_default, word_bit)
 
   theirs : (k : ℕ) → k < 64 → 64 * x + k < count → IsTrue (slice_index_or others (64 * x + k) false) ↔ (bit_at two k ≡ 1)
-  theirs k small under =
-      let is = word_bit other from x k small in
-      let same = read_other ∙ get_or_default other (from + x) two 0 there in
-      (λ h. ap (λ v. bit_at v k) same ∙ is.0 (sym (are_other (64 * x + k) under) ∙ h), λ h. are_other (64 * x + k) under ∙ is.1 (ap (λ v. bit_at v k) (sym same) ∙ h))
+  theirs k small under = grind (arith, get_or_default, word_bit)
 
   pub meet_here : low ≢ 0 → low < 2 ^ 64 → ((i : ℕ) → count - 64 * x ≤ i → bit_at low i ≡ 0) → (c : ℕ) × Meet marks others count c
   meet_here some fits none =
@@ -89,14 +69,6 @@ module _ (words other : List ℕ) (at from count : ℕ) (marks others : List Boo
       omega (arith, zero, (mine k (omega arith) here.0).0 here.1, (theirs k (omega arith) here.0).0 here.2))
       (cases_lt c (64 * x))
 
--- marks that have none in common with themselves are none
-pub meets_itself : (marks : List Bool) (count : ℕ) (met : Bool) → IsTrue met ↔ ((c : ℕ) × (c < count) × IsTrue (slice_index_or marks c false) × IsTrue (slice_index_or marks c false)) →
-    IsTrue (not met) ↔ ((c : ℕ) → c < count → slice_index_or marks c false ≡ false)
-meets_itself marks count met is = (
-  λ h c lt. false_from_ne_true (slice_index_or marks c false) (λ set. true≢false (sym (is.1 (c, lt, set, set)) ∙ not-true met h)),
-  λ all. not_from_false met (false_from_ne_true met (λ h. let m = is.0 h in true≢false (sym m.2 ∙ all m.0 m.1))),
-)
-
 -- one bit is written
 pub bit_put : (words : List ℕ) (c x b old word : ℕ) (v : Bool) → c ≡ 64 * x + b → x < length words → b < 64 → old ≡ slice_index_or words x 0 → eqb (bit_at word b) 1 ≡ v →
     ((i : ℕ) → i < 64 → i ≢ b → bit_at word i ≡ bit_at old i) →
@@ -104,14 +76,5 @@ pub bit_put : (words : List ℕ) (c x b old word : ℕ) (v : Bool) → c ≡ 64 
 bit_put words c x b old word v at inside small is same other =
     let after = slice_set words x word in (
       set_at after c x b at small ∙ ap (λ w. eqb (bit_at w b) 1) (get_or-set_same words x word 0 inside) ∙ same,
-      λ k ne.
-          let d = k % 64 in
-          set_at after k (k / 64) d (omega arith) (omega arith)
-          ∙ ⊎_elim
-          (λ (e : k / 64 ≡ x).
-          ap (λ y. eqb (bit_at (slice_index_or after y 0) d) 1) e ∙ ap (λ w. eqb (bit_at w d) 1) (get_or-set_same words x word 0 inside)
-          ∙ ap (λ n. eqb n 1) (other d (omega arith) (λ f. ne (omega (arith, e, f, at)))) ∙ ap (λ w. eqb (bit_at w d) 1) is ∙ ap (λ y. eqb (bit_at (slice_index_or words y 0) d) 1) (sym e))
-          (λ (apart : k / 64 ≢ x). ap (λ w. eqb (bit_at w d) 1) (get_or-set_other words x (k / 64) word 0 apart))
-          (cases_eq (k / 64) x)
-          ∙ sym (set_at words k (k / 64) d (omega arith) (omega arith)),
+      λ k ne. grind (arith, get_or-set_same, get_or-set_other, set_at words k (k / 64) (k % 64) (omega arith) (omega arith), set_at after k (k / 64) (k % 64) (omega arith) (omega arith)),
     )

@@ -1,14 +1,15 @@
 -- The alternatives with which an expression begins, as chains.
-use Rattle.std.proofs.Common.{◌≡◌, ℕ, zero, suc, ◌+◌, ◌<◌, ◌⊎◌, Bool, List, [], ◌∷◌, ◌++◌, take, drop, drop-cons, length, Option, Some, None, sym, ap, ◌∙◌, subst, inl, inr, ⊎_elim, arith}
-use Rattle.std.specs.Prelude.{Vec, IfSome, slice_get, slice_index_or}
-use Rattle.std.specs.List.{All}
+use Rattle.std.proofs.Common.{◌≡◌, ℕ, zero, suc, ◌+◌, ◌-◌, ◌<◌, ◌⊎◌, Bool, List, [], ◌∷◌, ◌++◌, take, drop, drop-cons, length, Some, sym, ap, ◌∙◌, subst, inl, inr, ⊎_elim, arith}
+use Rattle.std.specs.Prelude.{◌||◌, Vec, slice_get, slice_index_or}
+use Rattle.std.proofs.lemmas.Bool.{or_left, or_right}
+use Rattle.sedre.specs.Sets.{has}
+use Rattle.std.specs.List.{AllWithin}
 use Rattle.std.proofs.lemmas.List.{take-append-drop}
-use Rattle.std.proofs.lemmas.Option.{get_or_from_slice_get, slice_get_within}
-use Rattle.std.proofs.lemmas.List.Elements.{All-head, All-tail}
+use Rattle.std.proofs.lemmas.Option.{slice_get_within}
 use Rattle.sedre.specs.declared.types.Node.{Node}
 use Rattle.sedtext.specs.Spans.{Matches}
 use Rattle.sedre.specs.Tree.{Tree}
-use Rattle.sedtext.specs.Branches.{AllHave, AnyLeads, AreBranches, HasOne, IsOneByte, LeadsFrom}
+use Rattle.sedtext.specs.Branches.{AnyLeads, AreBranches, IsOneByte, LeadsFrom}
 use Rattle.sedtext.specs.Bytes.{MemberAt}
 use Rattle.sedtext.specs.Links.{AreAlternatives, ChainLeads, LinkLeads}
 use Rattle.sedtext.specs.declared.links.Link.{Link}
@@ -30,38 +31,30 @@ module _ {A : Type 0} (nodes : List Node) (w : List ℕ) where
       which
 
 -- behind bytes alone the chain leads over one of the set
-pub member_behind : (nodes : List Node) (w : List ℕ) (offset n : ℕ) (links : List Link) (s : List Bool) → All IsOneByte (take n links) → offset < n → slice_get links offset ≡ Some (Byte s) →
+pub member_behind : (nodes : List Node) (w : List ℕ) (offset n : ℕ) (links : List Link) (s : List Bool) → AllWithin IsOneByte links 0 n → offset < n → slice_get links offset ≡ Some (Byte s) →
     (i j : ℕ) → ChainLeads nodes w links i j → MemberAt s w (i + offset)
 member_behind nodes w offset n [] s all inside is i j at = let lies = slice_get_within [] offset (Byte s) is in absurd (omega (arith, lies))
-member_behind nodes w zero n (m ∷ ms) s all inside is i j at =
-    let here = subst (λ v. LinkLeads nodes w v i at.0) (get_or_from_slice_get (m ∷ ms) zero (Byte s) (Byte s) is) at.1 in
-    subst (MemberAt s w) (let e : i ≡ i + 0 = omega arith in e) here.0
-member_behind nodes w (suc offset) (suc n) (m ∷ ms) s all inside is i j at =
-    let next = after_set nodes w m i at.0 (All-head IsOneByte m (take n ms) all) at.1 in
-    let there = member_behind nodes w offset n ms s (All-tail IsOneByte m (take n ms) all) (omega arith) is at.0 j at.2 in
+member_behind nodes w zero n (m ∷ ms) s all inside is i j at = grind arith
+member_behind nodes w (suc offset) n (m ∷ ms) s all inside is i j at =
+    let next = after_set nodes w m i at.0 (all 0 m (omega arith) (omega arith)) at.1 in
+    let there = member_behind nodes w offset (n - 1) ms s (λ k d low lt. all (suc k) d (omega arith) (omega arith)) (omega arith) is at.0 j at.2 in
     subst (MemberAt s w) (let e : at.0 + offset ≡ i + suc offset = omega (arith, next) in e) there
-member_behind nodes w (suc offset) zero (m ∷ ms) s all inside is i j at = absurd (omega arith)
 
--- a byte of the set, if there is one, is `offset` bytes after the place from which one of the chains leads on
-abbrev pub AllLeadTo : {A : Type 0} → List (Vec Link A) → ℕ → Option (List Bool) → Type 0
-AllLeadTo chains offset s = (nodes : List Node) (w : List ℕ) (i : ℕ) → AnyLeads nodes w chains i → HasOne s w (i + offset)
+-- a byte of the set is `offset` bytes after the place from which one of the chains leads on
+abbrev pub AllLeadTo : {A : Type 0} → List (Vec Link A) → ℕ → List Bool → Type 0
+AllLeadTo chains offset s = (nodes : List Node) (w : List ℕ) (i : ℕ) → AnyLeads nodes w chains i → MemberAt s w (i + offset)
 
 -- one chain more, from the last on
-pub lead_more : {A : Type 0} (cs : List (Vec Link A)) (x offset : ℕ) (c : Vec Link A) (s : List Bool) (old : Option (List Bool)) (new : List Bool) → x < length cs → c ≡ slice_index_or cs x c →
+pub lead_more : {A : Type 0} (cs : List (Vec Link A)) (x offset : ℕ) (c : Vec Link A) (s old new : List Bool) → x < length cs → c ≡ slice_index_or cs x c →
     ((nodes : List Node) (w : List ℕ) (i : ℕ) → LeadsFrom nodes w c.items i → MemberAt s w (i + offset)) → AllLeadTo (drop (suc x) cs) offset old →
-    ((w : List ℕ) (q : ℕ) → HasOne old w q → MemberAt new w q) → ((w : List ℕ) (q : ℕ) → MemberAt s w q → MemberAt new w q) → AllLeadTo (drop x cs) offset (Some new)
-lead_more cs x offset c s old new inside here first rest keeps adds =
+    ((b : ℕ) → has new b ≡ (has old b || has s b)) → AllLeadTo (drop x cs) offset new
+lead_more cs x offset c s old new inside here first rest both =
     let opened : drop x cs ≡ c ∷ drop (suc x) cs = drop-cons cs x c inside ∙ ap (λ v. v ∷ drop (suc x) cs) (sym here) in
     λ nodes w i at.
     ⊎_elim
-    (λ h. adds w (i + offset) (first nodes w i h))
-    (λ h. keeps w (i + offset) (rest nodes w i h))
+    (λ h. let m = first nodes w i h in (m.0, m.1, both m.0 ∙ or_right (has old m.0) (has s m.0) m.2))
+    (λ h. let m = rest nodes w i h in (m.0, m.1, both m.0 ∙ or_left (has old m.0) (has s m.0) m.2))
     (subst (λ v. AnyLeads nodes w v i) opened at)
-
-pub led_to : {A : Type 0} (cs : List (Vec Link A)) (offset x : ℕ) (members : Option (List Bool)) → x ≡ 0 → AllLeadTo (drop x cs) offset members →
-    IfSome members (λ s. (nodes : List Node) (e : Tree) → AreBranches nodes e cs → AllHave e offset s)
-led_to cs offset x None first lead = tt
-led_to cs offset x (Some s) first lead = λ nodes e are w i j at. subst (λ v. AllLeadTo (drop v cs) offset (Some s)) first lead nodes w i (are w i j at)
 
 -- where a match begins one of the chains found leads on, or the one that is left
 pub branches_more : {A : Type 0} (nodes : List Node) (e : Tree) (cs all : List (Vec Link A)) (chain : List Link) (left : Vec Link A) (right : List Link) (n : ℕ) →

@@ -1,5 +1,5 @@
 -- At most one outcome belongs to a span and the groups before it.
-use Rattle.std.proofs.Common.{◌≡◌, ℕ, ◌≤◌, ◌⊎◌, List, Some, IsTrue, refl, sym, ap, ◌∙◌, subst, inl, inr, ⊎_elim, arith}
+use Rattle.std.proofs.Common.{◌≡◌, ℕ, ◌<◌, ◌≤◌, ◌⊎◌, List, Some, IsTrue, refl, sym, ap, ◌∙◌, subst, ⊎_elim, arith}
 use Rattle.std.specs.Prelude.{slice_set}
 use Rattle.sedre.specs.Tree.{Tree, sequence, either_of, grouped, any_copies, one_or_none}
 use Rattle.sedtext.specs.Spans.{no_copy, Matches}
@@ -7,10 +7,7 @@ use Rattle.sedtext.specs.Caps.{Captures, LastCut, LastCopy, only, then_copy}
 use Rattle.sedtext.specs.Groups.{SpansOfGroups, forget}
 
 LastCut-unique : (A B : ℕ → ℕ → Type 0) (i j k l : ℕ) → LastCut A B i j k → LastCut A B i j l → k ≡ l
-LastCut-unique A B i j k l one other =
-    let up : k ≤ l = other.greatest k one.left one.right in
-    let down : l ≤ k = one.greatest l other.left other.right in
-    omega arith
+LastCut-unique A B i j k l one other = grind arith
 
 LastCopy-unique : (R : ℕ → ℕ → Type 0) (j i c : ℕ) → LastCopy R j i c → (d : ℕ) → LastCopy R j i d → c ≡ d
 LastCopy-unique R j i c (only _ lt r) d (only _ lt' r') = refl
@@ -24,14 +21,11 @@ LastCopy-unique R j i c (then_copy _ k _ up low r rest most last) d (then_copy _
     let same : l ≡ k = omega arith in
     LastCopy-unique R j k c last d (subst (λ v. LastCopy R j v d) same last')
 
--- of an empty span
-empty_unique : (i j : ℕ) (F S : Type 0) (P : SpansOfGroups → Type 0) (old new other : SpansOfGroups) → ((g h : SpansOfGroups) → P g → P h → g ≡ h) →
-    (((i ≡ j) × F × S × P new) ⊎ ((i ≡ j) × ((F → S → ⊥) × (new ≡ old)))) →
-    (((i ≡ j) × F × S × P other) ⊎ ((i ≡ j) × ((F → S → ⊥) × (other ≡ old)))) → new ≡ other
-empty_unique i j F S P old new other same (inl h) (inl k) = same new other h.3 k.3
-empty_unique i j F S P old new other same (inl h) (inr k) = absurd (k.1.0 h.1 h.2)
-empty_unique i j F S P old new other same (inr h) (inl k) = absurd (h.1.0 k.1 k.2)
-empty_unique i j F S P old new other same (inr h) (inr k) = h.1.1 ∙ sym k.1.1
+-- copies have one outcome, where one of them has one, and one of the null string
+copied_unique : (i j : ℕ) (F S : Type 0) (P Q : SpansOfGroups → Type 0) (old new other : SpansOfGroups) → ((g h : SpansOfGroups) → P g → P h → g ≡ h) → ((g h : SpansOfGroups) → Q g → Q h → g ≡ h) →
+    (((i < j) × Q new) ⊎ (((i ≡ j) × F × S × P new) ⊎ ((i ≡ j) × ((F → S → ⊥) × (new ≡ old))))) →
+    (((i < j) × Q other) ⊎ (((i ≡ j) × F × S × P other) ⊎ ((i ≡ j) × ((F → S → ⊥) × (other ≡ old))))) → new ≡ other
+copied_unique i j F S P Q old new other one two h k = grind arith
 
 -- at most one outcome
 pub Captures-unique : (e : Tree) (w : List ℕ) (i j : ℕ) (old new other : SpansOfGroups) → Captures e w i j old new → Captures e w i j old other → new ≡ other
@@ -51,16 +45,14 @@ Captures-unique (either_of a b) w i j old new other h k =
 Captures-unique (grouped n a) w i j old new other h k =
     let inner : h.0 ≡ k.0 = Captures-unique a w i j (forget (grouped n a) old) h.0 k.0 h.1 k.1 in
     h.2 ∙ ap (λ g. slice_set g n (Some (i, j))) inner ∙ sym k.2
-Captures-unique (any_copies a first) w i j old new other (inl h) (inl k) =
-    let same : h.1.0 ≡ k.1.0 = LastCopy-unique (Matches a w) j i h.1.0 h.1.1 k.1.0 k.1.1 in
-    Captures-unique a w h.1.0 j (forget a old) new other h.1.2 (subst (λ v. Captures a w v j (forget a old) other) (sym same) k.1.2)
-Captures-unique (any_copies a first) w i j old new other (inl h) (inr k) = absurd (let lt = h.0 in ⊎_elim (λ (e : (i ≡ j) × IsTrue first × Matches a w i i × Captures a w i i (forget a old) other). (let same = e.0 in omega arith)) (λ (e : (i ≡ j) × ((IsTrue first → Matches a w i i → ⊥) × (other ≡ old))). (let same = e.0 in omega arith)) k)
-Captures-unique (any_copies a first) w i j old new other (inr h) (inl k) = absurd (let lt = k.0 in ⊎_elim (λ (e : (i ≡ j) × IsTrue first × Matches a w i i × Captures a w i i (forget a old) new). (let same = e.0 in omega arith)) (λ (e : (i ≡ j) × ((IsTrue first → Matches a w i i → ⊥) × (new ≡ old))). (let same = e.0 in omega arith)) h)
-Captures-unique (any_copies a first) w i j old new other (inr h) (inr k) =
-    empty_unique i j (IsTrue first) (Matches a w i i) (Captures a w i i (forget a old)) old new other (Captures-unique a w i i (forget a old)) h k
-Captures-unique (one_or_none a first) w i j old new other (inl h) (inl k) = Captures-unique a w i j (forget a old) new other h.1 k.1
-Captures-unique (one_or_none a first) w i j old new other (inl h) (inr k) = absurd (let lt = h.0 in ⊎_elim (λ (e : (i ≡ j) × IsTrue first × Matches a w i i × Captures a w i i (forget a old) other). (let same = e.0 in omega arith)) (λ (e : (i ≡ j) × ((IsTrue first → Matches a w i i → ⊥) × (other ≡ old))). (let same = e.0 in omega arith)) k)
-Captures-unique (one_or_none a first) w i j old new other (inr h) (inl k) = absurd (let lt = k.0 in ⊎_elim (λ (e : (i ≡ j) × IsTrue first × Matches a w i i × Captures a w i i (forget a old) new). (let same = e.0 in omega arith)) (λ (e : (i ≡ j) × ((IsTrue first → Matches a w i i → ⊥) × (new ≡ old))). (let same = e.0 in omega arith)) h)
-Captures-unique (one_or_none a first) w i j old new other (inr h) (inr k) =
-    empty_unique i j (IsTrue first) (Matches a w i i) (Captures a w i i (forget a old)) old new other (Captures-unique a w i i (forget a old)) h k
+Captures-unique (any_copies a first) w i j old new other h k =
+    copied_unique i j (IsTrue first) (Matches a w i i) (Captures a w i i (forget a old)) (λ g. (c : ℕ) × LastCopy (Matches a w) j i c × Captures a w c j (forget a old) g) old new other
+    (Captures-unique a w i i (forget a old))
+    (λ g g' l m.
+    let same : l.0 ≡ m.0 = LastCopy-unique (Matches a w) j i l.0 l.1 m.0 m.1 in
+    Captures-unique a w l.0 j (forget a old) g g' l.2 (subst (λ v. Captures a w v j (forget a old) g') (sym same) m.2))
+    h k
+Captures-unique (one_or_none a first) w i j old new other h k =
+    copied_unique i j (IsTrue first) (Matches a w i i) (Captures a w i i (forget a old)) (Captures a w i j (forget a old)) old new other
+    (Captures-unique a w i i (forget a old)) (Captures-unique a w i j (forget a old)) h k
 Captures-unique _ w i j old new other h k = h ∙ sym k

@@ -1,11 +1,11 @@
 -- Bytes of a set, always as many.
-use Rattle.std.proofs.Common.{◌≡◌, ℕ, ◌+◌, ◌<◌, ◌≤◌, Bool, List, [], ◌∷◌, length, Some, None, refl, sym, subst, ◌∙◌, ⊎_elim, arith}
-use Rattle.std.specs.Prelude.{slice_get, slice_index_or, false, IsTrue}
+use Rattle.std.proofs.Common.{◌≡◌, ℕ, ◌+◌, ◌<◌, ◌≤◌, Bool, List, [], ◌∷◌, length, Some, refl, sym, ◌∙◌, subst, ⊎_elim, arith}
+use Rattle.std.specs.Prelude.{slice_get, slice_index_or, false}
 use Rattle.std.specs.List.{All}
-use Rattle.std.proofs.lemmas.Bool.{cases_lt}
+use Rattle.std.proofs.lemmas.Bool.{both_ways, cases_eq, cases_lt}
 use Rattle.std.proofs.lemmas.List.Elements.{All-head, All-tail}
 use Rattle.sedre.specs.Tree.{byte_of, any_copies}
-use Rattle.sedtext.specs.Spans.{Matches, CopiesLead, no_copy, one_more}
+use Rattle.sedtext.specs.Spans.{IsIn, Matches, CopiesLead, no_copy, one_more}
 use Rattle.sedtext.specs.Runs.{SetRepeats, RunBegins}
 use Rattle.sedtext.specs.Bytes.{MemberAt}
 use Rattle.sedtext.specs.FixedRuns.{AllFixedRuns, FirstFixedRun}
@@ -13,7 +13,6 @@ use Rattle.sedtext.specs.Links.{LinkLeads}
 use Rattle.sedtext.specs.declared.links.Link.{Link}
 use Rattle.sedtext.specs.declared.links.Link.TheVariants.{Byte}
 use Rattle.sedtext.proofs.SpanLemmas.{Matches-within}
-use Rattle.sedtext.proofs.BeginningLemmas.{member_step}
 
 -- copies and more copies after them
 pub CopiesLead-join : (R : ℕ → ℕ → Type 0) (j k i : ℕ) → CopiesLead R k i → CopiesLead R j k → CopiesLead R j i
@@ -35,14 +34,11 @@ module _ (members : List Bool) (w : List ℕ) where
       subst (λ v. CopiesLead R v i × CopiesLead R j v) same (no_copy, one_more i l lt r rest))
       (cases_lt i m)
 
-  -- the first of them is in the set
-  pub repeated_first : (j p : ℕ) → p < j → SetRepeats members w p j → MemberAt members w p
-  repeated_first j p lt no_copy = absurd (omega arith)
-  repeated_first j p lt (one_more _ l on r rest) = (r.0, r.1, r.2)
-
-  -- and each other one
-  pub repeated_in : (i p j : ℕ) → i ≤ p → p < j → SetRepeats members w i j → MemberAt members w p
-  repeated_in i p j low lt all = let cut = repeated_cut p j i low (omega arith) all in repeated_first j p lt cut.1
+  -- each of them is in the set
+  pub repeated_in : (p j i : ℕ) → i ≤ p → p < j → SetRepeats members w i j → MemberAt members w p
+  repeated_in p j i low lt no_copy = absurd (omega arith)
+  repeated_in p j i low lt (one_more _ l on r rest) =
+      ⊎_elim (λ (e : i ≡ p). subst (MemberAt members w) e (r.0, r.1, r.2)) (λ (ne : i ≡ p → ⊥). repeated_in p j l (omega (arith, r.3)) lt rest) (cases_eq i p)
 
   -- one more of them before the others
   pub repeated_before : (p j : ℕ) → MemberAt members w p → SetRepeats members w (p + 1) j → SetRepeats members w p j
@@ -52,12 +48,6 @@ module _ (members : List Bool) (w : List ℕ) where
   pub repeated_within : (i j : ℕ) → i ≤ length w → SetRepeats members w i j → j ≤ length w
   repeated_within i j within all = Matches-within (any_copies (byte_of members) false) w i j within all
 
--- the same, where the byte was looked at
-pub repeated_more : (members : List Bool) (w : List ℕ) (before place to byte : ℕ) (has : Bool) → before + 1 ≡ place → slice_get w before ≡ Some byte → has ≡ slice_index_or members byte false → IsTrue has →
-    SetRepeats members w place to → SetRepeats members w before to
-repeated_more members w before place to byte has next is value holds rest =
-    repeated_before members w before to (byte, is, sym value ∙ holds) (subst (λ v. SetRepeats members w v to) (sym next) rest)
-
 -- after a byte that isn't in the set the run begins
 pub run_stops : (members : List Bool) (w : List ℕ) (p q before place byte : ℕ) (has : Bool) → before + 1 ≡ place → p ≤ before → place ≤ q → slice_get w before ≡ Some byte →
     has ≡ slice_index_or members byte false → has ≡ false → SetRepeats members w place q → RunBegins members w p q (before + 1)
@@ -66,8 +56,9 @@ run_stops members w p q before place byte has next low high is value missing cop
   omega (arith, next),
   subst (λ v. SetRepeats members w v q) (sym next) copies,
   λ h after lt all.
-      let can = repeated_in members w h before q (omega arith) (omega (arith, next)) all in
-      member_step members w before before byte has is value missing (λ k these those. absurd (omega arith)) before (omega arith) (omega arith) can,
+      let can = repeated_in members w before q h (omega arith) (omega (arith, next)) all in
+      let one : can.0 ≡ byte = cc in
+      both_ways has missing (value ∙ subst (λ b. IsIn b members) one can.2),
 )
 
 -- links each of which is a byte of the set
@@ -85,7 +76,7 @@ runs_of_bytes (l ∷ ls) members all nodes w i j =
           (repeated_before members w i j here.0 (subst (λ v. SetRepeats members w v j) here.1 more.0), omega (arith, here.1, more.1)),
       λ h.
           let cut = repeated_cut members w (i + 1) j i (omega arith) (omega (arith, h.1)) h.0 in
-          (i + 1, subst (λ v. LinkLeads nodes w v i (i + 1)) (sym first) (repeated_first members w j i (omega (arith, h.1)) h.0, refl), (rest (i + 1) j).1 (cut.1, omega (arith, h.1))),
+          (i + 1, subst (λ v. LinkLeads nodes w v i (i + 1)) (sym first) (repeated_in members w i j i (omega arith) (omega (arith, h.1)) h.0, refl), (rest (i + 1) j).1 (cut.1, omega (arith, h.1))),
     )
 
 module _ (members : List Bool) (count : ℕ) (w : List ℕ) (from : ℕ) where
@@ -104,16 +95,9 @@ module _ (members : List Bool) (count : ℕ) (w : List ℕ) (from : ℕ) where
       (cases_lt h seen))
       (cases_lt h start)
 
-  -- nor where the text is too short
-  pub times_none : (start : ℕ) → length w < start + count →
-      ((h : ℕ) → from ≤ h → h < start → SetRepeats members w h (h + count) → ⊥) → FirstFixedRun members count w from None
-  times_none start short before h after within all =
-      ⊎_elim
-      (λ (less : h < start). before h after less all)
-      (λ (le : start ≤ h). let inside = repeated_within members w h (h + count) within all in absurd (omega arith))
-      (cases_lt h start)
-
   -- here they do
   pub times_here : (start seen : ℕ) → from ≤ start → start + count ≤ length w → SetRepeats members w start seen → SetRepeats members w seen (start + count) →
       ((h : ℕ) → from ≤ h → h < start → SetRepeats members w h (h + count) → ⊥) → FirstFixedRun members count w from (Some start)
   times_here start seen after within these those before = (after, within, CopiesLead-join (Matches (byte_of members) w) (start + count) seen start these those, before)
+
+pub ruleset repeating = (no_copy, times_here, times_missed)

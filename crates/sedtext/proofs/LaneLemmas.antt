@@ -1,5 +1,5 @@
 -- What the lanes of a vector hold.
-use Rattle.std.proofs.Common.{◌≡◌, ◌≢◌, ◌+◌, ◌*◌, ◌/◌, ◌%◌, ◌^◌, ◌<◌, ℕ, false, true, not, List, length, map, cond, eqb, ap, sym, subst, ◌∙◌, refl, Bool, get_or, bit_and, replicate, arith, w8}
+use Rattle.std.proofs.Common.{◌≡◌, ◌≢◌, ◌/◌, ◌%◌, ◌^◌, ◌<◌, ℕ, true, not, List, length, map, cond, eqb, ap, sym, ◌∙◌, refl, Bool, get_or, bit_and, replicate, arith, w8}
 use Rattle.std.specs.Int.{bit_at}
 use Rattle.std.specs.Simd.Lanes.{mask_l, top, zip2}
 use Rattle.std.proofs.lemmas.Bool.{agree_below_at, eqb-true, ne_eqb}
@@ -21,13 +21,7 @@ lanes_with f a x p =
 -- what a table that is in both halves of a vector holds for each lane
 pub lanes_looked_up : (table wide js : List ℕ) → HasLanes wide (λ k. get_or table (k % 16) 0) → length js ≡ 32 → ((k : ℕ) → k < 32 → get_or js k 0 < 16) →
     HasLanes (swz_l w8 16 wide 0 js) (λ k. get_or table (get_or js k 0) 0)
-lanes_looked_up table wide js has long small = (
-  length-swz_l w8 16 wide 0 js ∙ long,
-  λ k lt.
-      let below = small k lt in
-      get_or-swz_l_below w8 16 wide 0 js k (omega (arith, long)) below ∙ has.1 (16 * ((0 + k) / 16) + get_or js k 0) (omega (arith, below))
-      ∙ ap (λ i. get_or table i 0) (omega (arith, below)),
-)
+lanes_looked_up table wide js has long small = grind (arith, get_or-swz_l_below, length-swz_l)
 
 -- the bits of the lanes that aren't 0
 abbrev pub differs : ℕ → ℕ → Bool
@@ -41,15 +35,10 @@ module _ (v : List ℕ) (long : length v ≡ 32) where
   bits_are = bitmask_splat w8 differs v 32 0 long (omega arith)
 
   pub nonzero_few : bits_of < 2 ^ 32
-  nonzero_few =
-      let less = mask_l-lt (map (λ x. differs x 0) v) in
-      let count : length (map (λ x. differs x 0) v) ≡ 32 = length-map v (λ x. differs x 0) ∙ long in
-      subst (λ n. n < 2 ^ 32) (sym bits_are) (subst (λ n. mask_l (map (λ x. differs x 0) v) < 2 ^ n) count less)
+  nonzero_few = grind (arith, bits_are, length-map, mask_l-lt)
 
   pub nonzero_lane : (k : ℕ) → k < 32 → get_or v k 0 ≢ 0 → bit_at bits_of k ≡ 1
-  nonzero_lane k lt some =
-      ap (λ n. bit_at n k) bits_are ∙ bit_mask_l (map (λ x. differs x 0) v) k
-      ∙ ap (λ b. cond b 1 0) (get_or-map (λ x. differs x 0) v k 0 false (omega (arith, long)) ∙ ap not (ne_eqb (get_or v k 0) 0 some))
+  nonzero_lane k lt some = grind (arith, bit_mask_l, bits_are, get_or-map, ne_eqb)
 
 -- the bit of an upper nibble
 upper_bit : (u : ℕ) → u < 16 → bit_at (get_or UPPER u 0) (u % 8) ≡ 1

@@ -5,7 +5,6 @@ pub mod GroupLemmas
 pub mod MatchingLemmas
 pub mod FollowingLemmas
 pub mod RunLemmas
-pub mod BeginningLemmas
 pub mod SpanLemmas
 pub mod MirrorLemmas
 pub mod ReachLemmas
@@ -20,3 +19,4 @@ pub mod LaneLemmas
 pub mod LinkLemmas
 pub mod SieveLemmas
 pub mod NibbleLemmas
+pub mod Closing

@@ -10,7 +10,7 @@ use Rattle.sedre.specs.Tree.{any_copies, byte_of, size, tree_at}
 use Rattle.sedre.specs.declared.types.Node.{Node}
 use Rattle.sedre.specs.declared.types.Node.TheVariants.{Set, Seq, Group, Star}
 use Rattle.sedre.specs.declared.types.NodeId.{NodeId}
-use Rattle.sedtext.specs.Links.{AreAlternatives, ChainLeads, IsContinuation, IsChain, IsWithin, LinkLeads}
+use Rattle.sedtext.specs.Links.{AreAlternatives, ChainLeads, IsContinuation, LinkLeads}
 use Rattle.sedtext.specs.Nodes.{total_size}
 use Rattle.sedtext.specs.Bytes.{MemberAt}
 use Rattle.sedtext.specs.Reach.{HasSpan}
@@ -40,10 +40,7 @@ LeadAlike nodes links others = (w : List ℕ) (i j : ℕ) → ChainLeads nodes w
 module _ (nodes : List Node) (ls ms : List Link) where
   lead_through : (here there : List Link) (w : List ℕ) → ((i j : ℕ) → ChainLeads nodes w here i j → ChainLeads nodes w there i j) → (i j : ℕ) →
       ChainLeads nodes w (ls ++ (here ++ ms)) i j → ChainLeads nodes w (ls ++ (there ++ ms)) i j
-  lead_through here there w to i j at =
-      let f = chain_split nodes w ls (here ++ ms) i j at in
-      let g = chain_split nodes w here ms f.0 j f.2 in
-      chain_join nodes w ls (there ++ ms) i f.0 j f.1 (chain_join nodes w there ms f.0 g.0 j (to f.0 g.0 g.1) g.2)
+  lead_through here there w to i j at = grind (arith, chain_join, chain_split)
 
   alike_through : (here there : List Link) → LeadAlike nodes here there → LeadAlike nodes (ls ++ (here ++ ms)) (ls ++ (there ++ ms))
   alike_through here there alike w i j = (lead_through here there w (λ a b. (alike w a b).0) i j, lead_through there here w (λ a b. (alike w a b).1) i j)
@@ -115,18 +112,6 @@ pub record IsLeft (nodes : List Node) (before : List Link) (x : ℕ) (links : Li
   pub inside : All (λ v. v < length nodes) rest
 
 module _ (nodes : List Node) (before : List Link) (x : ℕ) where
-  pub all_left : (links : List Link) (none rest : List ℕ) → links ≡ before → none ≡ [] → rest ≡ none ++ (x ∷ []) → x < length nodes → IsLeft nodes before x links rest
-  all_left links none rest same empty is inside = subst (λ v. IsLeft nodes before x v rest) (sym same) (subst (IsLeft nodes before x before) (sym (is ∙ ap (λ v. v ++ (x ∷ [])) empty)) (record {
-    spans = λ w i j. ((λ h. h), (λ h. h));
-    inside = All-push (λ v. v < length nodes) [] x (All-nil (λ v. v < length nodes)) inside;
-  }))
-
-  pub none_left : (links : List Link) (rest : List ℕ) → rest ≡ [] → IsLeft nodes before x links rest → All (IsWithin (length nodes)) links → IsContinuation nodes before x links
-  none_left links rest none left within = record {
-    spans = subst (LeadAlike nodes (before ++ (Other x ∷ []))) (ap (λ v. links ++ others v) none ∙ append-nil links) left.spans;
-    within = within;
-  }
-
   module _ (links : List Link) (stack rest : List ℕ) (y : ℕ) (popped : stack ≡ rest ++ (y ∷ [])) (left : IsLeft nodes before x links stack) where
     -- links in place of the last node, to those found or to those that are left: they lead as it does, and the stack is smaller for it
     left_with : (these longer : List Link) (more new : List ℕ) → LeadAlike nodes (Other y ∷ []) these → new ≡ rest ++ more → longer ++ others more ≡ links ++ these →
@@ -175,18 +160,6 @@ module _ (nodes : List Node) (before : List Link) (x : ℕ) where
             (λ h. (h.0, open_at nodes w y (Group number a) arena is i h.0 h.1, h.2)),
             (λ h. (h.0, close_at nodes w y (Group number a) arena is i h.0 h.1, h.2)),
           )) inner refl (All-push (λ v. v < length nodes) [] a.index (All-nil (λ v. v < length nodes)) part_in) (omega (arith, whole))
-
--- a chain that begins with the node
-pub whole_chain : (nodes : List Node) (x last : ℕ) (links : List Link) → x ≡ last → IsContinuation nodes [] x links → IsChain nodes (tree_at nodes last) links
-whole_chain nodes x last links same goes =
-    let leads = (subst (λ v. IsContinuation nodes [] v links) same goes).spans in
-    record {
-      spans = λ w i j. (
-        (λ at. (leads w i j).0 (j, at, refl)),
-        (λ at. let f = (leads w i j).1 at in subst (HasSpan nodes w last i) f.2 f.1),
-      );
-      within = goes.within;
-    }
 
 -- behind the links before both alternatives are what a link is that is either
 pub both_ways : (nodes : List Node) (links left right : List Link) (q x y : ℕ) → q < length links → Either x y ≡ slice_index_or links q (Either x y) →

@@ -1,9 +1,9 @@
 -- What a mirrored expression matches in the text read from its end.
-use Rattle.std.proofs.Common.{sym, ◌≡◌, ℕ, ◌+◌, ◌-◌, ◌<◌, ◌≤◌, ◌↔◌, List, length, reverse, Some, ap, ◌∙◌, subst, inl, inr, ⊎_elim, arith}
+use Rattle.std.proofs.Common.{◌≡◌, ℕ, ◌+◌, ◌-◌, ◌<◌, ◌≤◌, ◌↔◌, List, length, reverse, Some, ap, ◌∙◌, subst, inl, inr, ⊎_elim, arith}
 use Rattle.std.specs.Prelude.{slice_get, slice_index_or, true}
 use Rattle.std.proofs.lemmas.Option.{get_or_from_slice_get, slice_get-get_or}
 use Rattle.std.proofs.lemmas.List.{length-reverse, reverse-reverse, get_or-reverse}
-use Rattle.sedre.specs.Tree.{Tree, null_string, byte_of, text_begin, text_end, sequence, either_of, grouped, any_copies, one_or_none, WrittenExpression, tree_at}
+use Rattle.sedre.specs.Tree.{Tree, null_string, byte_of, text_begin, text_end, sequence, either_of, grouped, any_copies, one_or_none, WrittenExpression}
 use Rattle.sedre.specs.Mirror.{mirror, seen}
 use Rattle.sedre.proofs.MirrorLemmas.{mirror-mirror, tree_at-mirror}
 use Rattle.sedtext.specs.Reach.{HasSpan}
@@ -35,9 +35,7 @@ CopiesLead-mirror R S n each within j i a b left right (one_more _ k lt r rest) 
 -- what the expression matches is matched from its end by the mirrored one
 pub Matches-mirror : (e : Tree) (w : List ℕ) (i j a b : ℕ) → i + a ≡ length w → j + b ≡ length w → Matches e w i j → Matches (mirror e) (reverse w) b a
 Matches-mirror null_string w i j a b left right s = omega arith
-Matches-mirror (byte_of members) w i j a b left right s =
-    let next = s.3 in
-    (s.0, get-reverse w i b s.0 (omega arith) s.1, s.2, omega arith)
+Matches-mirror (byte_of members) w i j a b left right s = grind (arith, get-reverse)
 Matches-mirror text_begin w i j a b left right s = let long = length-reverse w in (omega arith, omega arith)
 Matches-mirror text_end w i j a b left right s = (omega arith, omega arith)
 Matches-mirror (sequence x y) w i j a b left right s =
@@ -63,9 +61,4 @@ Matches-unmirror e w i j a b left right s =
 -- the same at the nodes of an expression
 pub HasSpan-mirror : (e nodes : WrittenExpression) (w bytes : List ℕ) (x i j a b : ℕ) → nodes ≡ seen true e → bytes ≡ reverse w → i + a ≡ length w → j + b ≡ length w →
     HasSpan e.nodes w x i j ↔ HasSpan nodes.nodes bytes x b a
-HasSpan-mirror e nodes w bytes x i j a b is_nodes is_bytes left right =
-    let T : Tree = tree_at e.nodes x in
-    let root : tree_at nodes.nodes x ≡ mirror T = ap (λ (v : WrittenExpression). tree_at v.nodes x) is_nodes ∙ tree_at-mirror e.nodes x in (
-      λ s. subst (λ t. Matches t bytes b a) (sym root) (subst (λ v. Matches (mirror T) v b a) (sym is_bytes) (Matches-mirror T w i j a b left right s)),
-      λ s. Matches-unmirror T w i j a b left right (subst (λ v. Matches (mirror T) v b a) is_bytes (subst (λ t. Matches t bytes b a) root s)),
-    )
+HasSpan-mirror e nodes w bytes x i j a b is_nodes is_bytes left right = grind (arith, Matches-mirror, Matches-unmirror, tree_at-mirror)

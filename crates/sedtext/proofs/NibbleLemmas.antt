@@ -1,6 +1,6 @@
 -- Members of a set that are marked, one byte after another.
-use Rattle.std.proofs.Common.{◌≡◌, ◌≢◌, ℕ, ◌+◌, ◌*◌, ◌/◌, ◌%◌, ◌^◌, ◌<◌, ◌≤◌, Bool, bit_or, w8, false, List, length, ap, subst, sym, ◌∙◌, ⊎_elim, true≢false, arith}
-use Rattle.std.specs.Prelude.{slice_index, slice_index_or, slice_set}
+use Rattle.std.proofs.Common.{◌≡◌, ◌≢◌, ℕ, ◌+◌, ◌*◌, ◌/◌, ◌%◌, ◌^◌, ◌<◌, ◌≤◌, Bool, bit_or, w8, List, length, ap, sym, ◌∙◌, ⊎_elim, arith}
+use Rattle.std.specs.Prelude.{slice_index, slice_set}
 use Rattle.std.specs.Int.{bit_at}
 use Rattle.std.proofs.lemmas.Bool.{cases_lt, cases_eq}
 use Rattle.std.proofs.lemmas.List.{get_or-set_same, get_or-set_other}
@@ -13,15 +13,7 @@ abbrev pub AllMarked : List Bool → ℕ → List ℕ → Type 0
 AllMarked set n rows = (c : ℕ) → c < n → IsIn c set → IsMarked rows c
 
 module _ (set : List Bool) (rows : List ℕ) (byte : ℕ) where
-  -- one more byte, which is not in the set
-  pub marked_less : AllMarked set byte rows → slice_index_or set byte false ≡ false → AllMarked set (byte + 1) rows
-  marked_less before lacks c lt is =
-      ⊎_elim
-      (λ (less : c < byte). before c less is)
-      (λ (ge : byte ≤ c). absurd (true≢false (sym (subst (λ b. IsIn b set) (let e : c ≡ byte = omega arith in e) is) ∙ lacks)))
-      (cases_lt c byte)
-
-  -- and one which is: its bit is set in its row, and none is taken away
+  -- one more byte, which is in the set: its bit is set in its row, and none is taken away
   pub marked_more : byte % 16 < length rows → AllMarked set byte rows →
       AllMarked set (byte + 1) (slice_set rows (byte % 16) (bit_or (slice_index rows (byte % 16)) (1 * 2 ^ (byte / 16 % 8) % 256)))
   marked_more inside before c lt is small =

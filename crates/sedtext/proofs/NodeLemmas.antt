@@ -17,14 +17,8 @@ node_at (node ∷ nodes) (suc x) inside = node_at nodes x (omega arith)
 
 -- the parts of the node at x are below anything from x on
 pub parts_below : (nodes : List Node) → IsArena nodes → (x : ℕ) (node : Node) → slice_get nodes x ≡ Some node → (n : ℕ) → x ≤ n → PartsBelow n node
-parts_below nodes arena x (Seq a b) is n le =
-    let low = arena.below x a.index (Seq a b) is (inl refl) in
-    let low' = arena.below x b.index (Seq a b) is (inr refl) in
-    (omega arith, omega arith)
-parts_below nodes arena x (Alt a b) is n le =
-    let low = arena.below x a.index (Alt a b) is (inl refl) in
-    let low' = arena.below x b.index (Alt a b) is (inr refl) in
-    (omega arith, omega arith)
+parts_below nodes arena x (Seq a b) is n le = (omega (arith, arena.below x a.index (Seq a b) is (inl refl)), omega (arith, arena.below x b.index (Seq a b) is (inr refl)))
+parts_below nodes arena x (Alt a b) is n le = (omega (arith, arena.below x a.index (Alt a b) is (inl refl)), omega (arith, arena.below x b.index (Alt a b) is (inr refl)))
 parts_below nodes arena x (Group k a) is n le = let low = arena.below x a.index (Group k a) is refl in omega arith
 parts_below nodes arena x (Star a first) is n le = let low = arena.below x a.index (Star a first) is refl in omega arith
 parts_below nodes arena x (Opt a first) is n le = let low = arena.below x a.index (Opt a first) is refl in omega arith

@@ -1,8 +1,7 @@
 -- The spans of groups lie in the text.
-use Rattle.std.proofs.Common.{◌≡◌, ℕ, zero, suc, ◌<◌, ◌≤◌, inl, inr, List, length, Option, Some, None, refl, sym, subst, ⊎_elim, arith}
+use Rattle.std.proofs.lemmas.Grind.{common_steps}
+use Rattle.std.proofs.Common.{◌≡◌, ℕ, zero, suc, ◌≤◌, inl, inr, List, Option, Some, None, refl, sym, subst, ⊎_elim, arith}
 use Rattle.std.specs.Prelude.{slice_set, replicate}
-use Rattle.std.proofs.lemmas.Bool.{cases_lt, cases_eq}
-use Rattle.std.proofs.lemmas.List.{get_or-set_same, get_or-set_other, set_past}
 use Rattle.sedre.specs.Tree.{Tree, sequence, either_of, grouped, any_copies, one_or_none}
 use Rattle.sedtext.specs.Spans.{Matches}
 use Rattle.sedtext.specs.Caps.{Captures, IsReport}
@@ -16,14 +15,7 @@ abbrev pub Lie : ℕ → SpansOfGroups → Type 0
 Lie n g = (k : ℕ) → SpanIn n (span_of g k)
 
 Lie-set : (n : ℕ) (g : SpansOfGroups) (k : ℕ) (v : Option (ℕ × ℕ)) → SpanIn n v → Lie n g → Lie n (slice_set g k v)
-Lie-set n g k v within old c =
-    ⊎_elim
-    (λ (e : c ≡ k). ⊎_elim
-    (λ (lt : k < length g). subst (SpanIn n) (sym (subst (λ x. span_of (slice_set g k v) x ≡ v) (sym e) (get_or-set_same g k v None lt))) within)
-    (λ (ge : length g ≤ k). subst (λ l. SpanIn n (span_of l c)) (sym (set_past g k v ge)) (old c))
-    (cases_lt k (length g)))
-    (λ (ne : c ≡ k → ⊥). subst (SpanIn n) (sym (get_or-set_other g k c v None ne)) (old c))
-    (cases_eq c k)
+Lie-set n g k v within old c = grind (arith, common_steps)
 
 Lie-forget : (n : ℕ) (e : Tree) (g : SpansOfGroups) → Lie n g → Lie n (forget e g)
 Lie-forget n (sequence a b) g old = Lie-forget n b (forget a g) (Lie-forget n a g old)

@@ -1,5 +1,5 @@
 -- What a node spans by its parts, and where these are entered.
-use Rattle.std.proofs.Common.{◌≡◌, ℕ, ◌<◌, ◌≤◌, ◌⊎◌, ◌↔◌, Bool, false, List, Option, Some, None, IsTrue, refl, sym, ap, subst, inl, inr, ⊎_elim, true≢false, arith}
+use Rattle.std.proofs.Common.{◌≡◌, ℕ, ◌≤◌, ◌⊎◌, ◌↔◌, Bool, false, List, Option, Some, None, IsTrue, refl, sym, subst, inl, inr, true≢false, arith}
 use Rattle.std.specs.Prelude.{slice_get, slice_index_or}
 use Rattle.sedtext.specs.Spans.{CopiesLead, no_copy, Matches}
 use Rattle.sedre.specs.Arena.{IsArena, IsPart}
@@ -7,8 +7,7 @@ use Rattle.sedre.specs.Tree.{tree_of, tree_at}
 use Rattle.sedre.specs.declared.types.Node.{Node}
 use Rattle.sedre.specs.declared.types.Node.TheVariants.{Seq, Alt, Group, Star, Opt}
 use Rattle.sedre.proofs.TreeLemmas.{tree_at-node}
-use Rattle.sedtext.specs.declared.starts.Starts.{Starts}
-use Rattle.sedtext.specs.Reach.{BeginsWith, HasSpan, IsStart, Enters, at_root, with_whole, after_left, again}
+use Rattle.sedtext.specs.Reach.{BeginsWith, HasSpan, IsStart, Enters, at_root, with_whole, after_left, again, Starts}
 use Rattle.sedtext.specs.Nodes.{IsRepetitionOf}
 use Rattle.sedtext.specs.Matching.{byte_is_in}
 use Rattle.sedtext.proofs.SpanLemmas.{Matches-forward}
@@ -46,9 +45,7 @@ BeginsWith-part _ c h = h
 
 -- two nodes with one part are one
 pub same_node : (nodes : List Node) → IsArena nodes → (y z c : ℕ) (node other : Node) → slice_get nodes y ≡ Some node → slice_get nodes z ≡ Some other → IsPart node c → IsPart other c → (y ≡ z) × (node ≡ other)
-same_node nodes arena y z c node other is is' part part' =
-    let e : y ≡ z = arena.once y z c node other is is' part part' in
-    (e, let k : slice_get nodes y ≡ slice_get nodes z = ap (slice_get nodes) e in cc)
+same_node nodes arena y z c node other is is' part part' = grind arith
 
 -- a byte that is taken is there, and in the list
 pub takes_some : (byte : Option ℕ) (members : List Bool) → IsTrue (byte_is_in byte members) → (b : ℕ) × (byte ≡ Some b) × IsTrue (slice_index_or members b false)
@@ -59,14 +56,8 @@ takes_some (Some b) members h = (b, refl, h)
 pub Enters-from : (nodes : List Node) (w : List ℕ) (r : ℕ) (p : Starts) (x j : ℕ) → Enters nodes w r p x j → p.first ≤ j
 Enters-from nodes w r p x j (at_root _ _ _ e) = omega arith
 Enters-from nodes w r p x j (with_whole z _ _ other is' begins e) = Enters-from nodes w r p z j e
-Enters-from nodes w r p x j (after_left z _ i _ a b is' right e at) =
-    let early = Enters-from nodes w r p z i e in
-    let on = Matches-forward (tree_at nodes a.index) w i j at in
-    omega arith
-Enters-from nodes w r p x j (again z _ i _ a first is' inner e at) =
-    let early = Enters-from nodes w r p z i e in
-    let on = Matches-forward (tree_at nodes z) w i j at in
-    omega arith
+Enters-from nodes w r p x j (after_left z _ i _ a b is' right e at) = omega (arith, Enters-from nodes w r p z i e, Matches-forward (tree_at nodes a.index) w i j at)
+Enters-from nodes w r p x j (again z _ i _ a first is' inner e at) = omega (arith, Enters-from nodes w r p z i e, Matches-forward (tree_at nodes z) w i j at)
 
 module _ (nodes : List Node) (w : List ℕ) (r : ℕ) (p : Starts) (arena : IsArena nodes) where
   -- a part that begins where its node does
@@ -82,18 +73,9 @@ module _ (nodes : List Node) (w : List ℕ) (r : ℕ) (p : Starts) (arena : IsAr
   -- only r and nodes below it are entered
   pub Enters-inside : (x j : ℕ) → Enters nodes w r p x j → x ≤ r
   Enters-inside x j (at_root _ _ last e) = omega arith
-  Enters-inside x j (with_whole z _ _ other is' begins e) =
-      let up = Enters-inside z j e in
-      let below : x < z = arena.below z x other is' (BeginsWith-part other x begins) in
-      omega arith
-  Enters-inside x j (after_left z _ i _ a b is' right e at) =
-      let up = Enters-inside z i e in
-      let below : x < z = arena.below z x (Seq a b) is' (inr right) in
-      omega arith
-  Enters-inside x j (again z _ i _ a first is' inner e at) =
-      let up = Enters-inside z i e in
-      let below : x < z = arena.below z x (Star a first) is' inner in
-      omega arith
+  Enters-inside x j (with_whole z _ _ other is' begins e) = omega (arith, Enters-inside z j e, arena.below z x other is' (BeginsWith-part other x begins))
+  Enters-inside x j (after_left z _ i _ a b is' right e at) = omega (arith, Enters-inside z i e, arena.below z x (Seq a b) is' (inr right))
+  Enters-inside x j (again z _ i _ a first is' inner e at) = omega (arith, Enters-inside z i e, arena.below z x (Star a first) is' inner)
 
   -- the node c is entered at j through the one whose part it is
   abbrev ByNode : ℕ → ℕ → Type 0
@@ -107,16 +89,8 @@ module _ (nodes : List Node) (w : List ℕ) (r : ℕ) (p : Starts) (arena : IsAr
 
   -- a part is entered through its node alone
   pub Enters-part : (y : ℕ) → y ≤ r → (c j : ℕ) (node : Node) → slice_get nodes y ≡ Some node → IsPart node c → Enters nodes w r p c j → FromNode nodes w r p y c j node
-  Enters-part y le c j node is part e =
-      let below = arena.below y c node is part in
-      ⊎_elim
-      (λ (root : (c ≡ r) × IsStart p j). absurd (omega (arith, root.0, below)))
-      (λ (h : ByNode c j).
-      let both = same_node nodes arena h.0 y c h.1 node h.2 is h.3 part in
-      subst (λ v. FromNode nodes w r p v c j node) both.0 (subst (λ n. FromNode nodes w r p h.0 c j n) both.1 h.5))
-      (how_entered c j e)
+  Enters-part y le c j node is part e = grind (arith, how_entered, same_node)
 
   -- the node r is entered at the starts alone
   pub Enters-root : (x j : ℕ) → x ≡ r → Enters nodes w r p x j → IsStart p j
-  Enters-root x j last e =
-      ⊎_elim (λ (root : (x ≡ r) × IsStart p j). root.1) (λ (h : ByNode x j). let below = arena.below h.0 x h.1 h.2 h.3 in absurd (omega (arith, h.4, below))) (how_entered x j e)
+  Enters-root x j last e = grind (arith, how_entered)

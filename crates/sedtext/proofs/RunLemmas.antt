@@ -1,28 +1,12 @@
 -- Runs of bytes of a set.
-use Rattle.std.proofs.Common.{◌≡◌, ℕ, ◌+◌, ◌<◌, ◌≤◌, Bool, false, List, length, Some, IsTrue, refl, sym, ◌∙◌, subst, ⊎_elim, arith}
-use Rattle.std.specs.Prelude.{slice_get, slice_index_or}
-use Rattle.std.proofs.lemmas.Bool.{cases_lt}
+use Rattle.std.proofs.Common.{ℕ, ◌≤◌, Bool, List, length, arith}
 use Rattle.std.proofs.lemmas.Option.{slice_get_within}
 use Rattle.sedre.specs.Tree.{byte_of}
 use Rattle.sedtext.specs.Spans.{Matches, CopiesLead, no_copy, one_more}
 use Rattle.sedtext.specs.Bytes.{MemberAt}
 use Rattle.sedtext.specs.Runs.{SetRepeats, IsRun}
-use Rattle.sedtext.proofs.SpanLemmas.{CopiesLead-forward, CopiesLead-append}
-
--- copies end in the run
-pub in_run : (members : List Bool) (w : List ℕ) (k j i : ℕ) → i ≤ k → (MemberAt members w k → ⊥) → CopiesLead (Matches (byte_of members) w) j i → j ≤ k
-in_run members w k j i low stop no_copy = low
-in_run members w k j i low stop (one_more _ l lt r rest) =
-    ⊎_elim
-    (λ (more : i < k). in_run members w k j l (omega arith) stop rest)
-    (λ (le : k ≤ i). let same : i ≡ k = omega arith in absurd (stop (subst (λ v. MemberAt members w v) same (r.0, r.1, r.2))))
-    (cases_lt i k)
-
--- one more byte of the run
-pub longer_run : (members : List Bool) (w : List ℕ) (i place byte : ℕ) (has : Bool) →
-    slice_get w place ≡ Some byte → has ≡ slice_index_or members byte false → IsTrue has → SetRepeats members w i place → SetRepeats members w i (place + 1)
-longer_run members w i place byte has is value holds copies =
-    CopiesLead-append (Matches (byte_of members) w) place i (place + 1) copies (omega arith) (byte, is, sym value ∙ holds, refl)
+use Rattle.sedtext.proofs.FixedRunLemmas.{repeated_in}
+use Rattle.sedtext.proofs.SpanLemmas.{CopiesLead-forward}
 
 -- no byte is at the end of the text
 pub stops_behind : (members : List Bool) (w : List ℕ) (place : ℕ) → length w ≤ place → MemberAt members w place → ⊥
@@ -35,7 +19,7 @@ run_forward members w i k run = CopiesLead-forward (Matches (byte_of members) w)
 -- the longest of the copies is the run
 pub run_longest : (members : List Bool) (w : List ℕ) (i k : ℕ) → IsRun members w i k →
     (k ≤ length w) × SetRepeats members w i k × ((j : ℕ) → SetRepeats members w i j → j ≤ k)
-run_longest members w i k run = (run.0, run.1, λ j copies. in_run members w k j i (run_forward members w i k run) run.2 copies)
+run_longest members w i k run = (run.0, run.1, λ j copies. grind (arith, run_forward members w i k run, repeated_in members w k j i, run.2, copies))
 
 -- copies of relations of which one has what the other has
 pub copies_alike : (R S : ℕ → ℕ → Type 0) → ((p q : ℕ) → R p q → S p q) → (j i : ℕ) → CopiesLead R j i → CopiesLead S j i

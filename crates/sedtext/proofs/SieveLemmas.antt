@@ -1,27 +1,15 @@
--- Where bytes of three sets are.
-use Rattle.std.proofs.Common.{◌≡◌, ◌≢◌, ℕ, ◌+◌, ◌-◌, ◌<◌, ◌≤◌, List, length, max, ap, subst, ⊎_elim, arith, bit_and, w64, ◌∙◌, Option, Some, None}
+-- Where bytes of three sets are, and bytes of one.
+use Rattle.std.proofs.Common.{Bool, ◌≡◌, ◌≢◌, ℕ, ◌+◌, ◌-◌, ◌<◌, ◌≤◌, List, length, max, ap, subst, ⊎_elim, arith, w64, ◌∙◌, Option, Some, None}
 use Rattle.std.specs.Prelude.{IfSome}
 use Rattle.sedtext.specs.Beginnings.{NextStart}
-use Rattle.sedtext.specs.declared.beginnings.Begins.TheVariants.{Before}
+use Rattle.sedtext.specs.declared.beginnings.Begins.TheVariants.{Before, With}
 use Rattle.std.specs.Int.{bit_at, trailing_zeros}
 use Rattle.std.proofs.lemmas.Bool.{cases_lt}
-use Rattle.std.proofs.lemmas.Nat.{and_le_l}
-use Rattle.std.proofs.lemmas.Nat.Bits.{bit_at_above, bit_at_and, bit_at-trailing_zeros, bit_at-zero}
+use Rattle.std.proofs.lemmas.Nat.Bits.{bit_at_above, bit_at-trailing_zeros, bit_at-zero}
 use Rattle.std.proofs.lemmas.Option.{slice_get_within}
+use Rattle.sedtext.specs.Bytes.{FirstFrom, MemberAt}
 use Rattle.sedtext.specs.Sieve.{MarksPlaces, NoneBefore, PassesSieve}
 use Rattle.sedtext.specs.declared.counted.sieve.Sieve.{Sieve}
-
--- the places that three marks have in common
-pub all_marked : (P Q R : ℕ → Type 0) (p a b d : ℕ) → MarksPlaces P p a → MarksPlaces Q p b → MarksPlaces R p d →
-    MarksPlaces (λ i. P i × Q i × R i) p (bit_and (bit_and a b) d)
-all_marked P Q R p a b d one two three = (
-  omega (arith, one.0, and_le_l (bit_and a b) d, and_le_l a b),
-  λ k lt is.
-      let first = one.1 k lt is.0 in
-      let second = two.1 k lt is.1 in
-      let third = three.1 k lt is.2 in
-      omega (arith, bit_at_and (bit_and a b) d k, bit_at_and a b k, first, second, third),
-)
 
 -- none up to a place, and none from there on
 pub none_on : (P : ℕ → Type 0) (p q n : ℕ) → ((i : ℕ) → p ≤ i → i < q → P i → ⊥) → ((i : ℕ) → q ≤ i → i < n → P i → ⊥) → (i : ℕ) → p ≤ i → i < n → P i → ⊥
@@ -50,13 +38,14 @@ module _ (P : ℕ → Type 0) (p marks : ℕ) (are : MarksPlaces P p marks) wher
 
 -- a place after which they come is farther from the end than the greatest distance
 pub passes_within : (s : Sieve) (w : List ℕ) (i : ℕ) → PassesSieve s w i → i + max (max s.first.offset s.second.offset) s.third.offset < length w
-passes_within s w i is =
-    let first = slice_get_within w (i + s.first.offset) is.0.0 is.0.1 in
-    let second = slice_get_within w (i + s.second.offset) is.1.0 is.1.1 in
-    let third = slice_get_within w (i + s.third.offset) is.2.0 is.2.1 in
-    omega (arith, first, second, third)
+passes_within s w i is = grind (arith, slice_get_within)
 
 -- where a match can begin so
 pub sifted : (s : Sieve) (w : List ℕ) (p : ℕ) (r : Option ℕ) → NoneBefore (PassesSieve s w) p r → IfSome r (λ k. k ≤ length w) → NextStart (Before s) w p r
 sifted s w p None none inside = λ i low within. none i low
 sifted s w p (Some k) none inside = (none.0, inside, none.1)
+
+-- the first place at which one can begin so
+pub starts_with_member : (w : List ℕ) (p : ℕ) (s : List Bool) (r : Option ℕ) → FirstFrom (MemberAt s w) p r → NextStart (With s) w p r
+starts_with_member w p s None first = λ i low within begins. first i low begins
+starts_with_member w p s (Some k) first = let inside = slice_get_within w k first.1.0 first.1.1 in (first.0, omega (arith, inside), first.2)

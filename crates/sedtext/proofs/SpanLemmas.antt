@@ -9,10 +9,7 @@ CopiesLead-forward R j i no_copy = omega arith
 CopiesLead-forward R j i (one_more _ k lt r rest) = let on = CopiesLead-forward R j k rest in omega arith
 
 pub Matches-forward : (e : Tree) (w : List ℕ) (i j : ℕ) → Matches e w i j → i ≤ j
-Matches-forward (sequence a b) w i j s =
-    let left = Matches-forward a w i s.0 s.1 in
-    let right = Matches-forward b w s.0 j s.2 in
-    omega arith
+Matches-forward (sequence a b) w i j s = omega (arith, Matches-forward a w i s.0 s.1, Matches-forward b w s.0 j s.2)
 Matches-forward (either_of a b) w i j s = ⊎_elim (Matches-forward a w i j) (Matches-forward b w i j) s
 Matches-forward (grouped k a) w i j s = Matches-forward a w i j s
 Matches-forward (any_copies a first) w i j s = CopiesLead-forward (Matches a w) j i s

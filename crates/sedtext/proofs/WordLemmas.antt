@@ -7,7 +7,7 @@ use Rattle.std.proofs.lemmas.Bool.{cases_eq, cases_lt}
 use Rattle.std.proofs.lemmas.List.{get_or_default, get_or_past, get_or-set_same, get_or-set_other, get_or-replicate, length-replicate, length-set, same_lists}
 use Rattle.std.proofs.lemmas.List.FromFn.{get_or-map-range_with_len, length-map-range_with_len}
 use Rattle.std.proofs.lemmas.Nat.Bits.{bit_at-zero}
-use Rattle.sedtext.proofs.BitLemmas.{bit_put}
+use Rattle.sedtext.proofs.BitLemmas.{bit_put, set_at}
 use Rattle.sedtext.specs.declared.counted.rows.Rows.TheInside.{Inside}
 use Rattle.sedtext.specs.Words.{tabulated, row_at, rows_of, row_of, KeepsRows}
 
@@ -21,9 +21,7 @@ table-get f n i d lt = get_or-map-range_with_len f 0 n i i d lt (omega arith)
 
 -- the list that has these values
 table-is : (f : ℕ → Bool) (n : ℕ) (xs : List Bool) → length xs ≡ n → ((k : ℕ) → k < n → f k ≡ slice_index_or xs k false) → tabulated f n ≡ xs
-table-is f n xs long same =
-    same_lists (tabulated f n) xs (length-table f n ∙ sym long)
-    (λ k d lt. let low : k < n = omega (arith, length-table f n, lt) in table-get f n k d low ∙ same k low ∙ get_or_default xs k false d (omega (arith, long, low)))
+table-is f n xs long same = grind (arith, get_or_default, length-table, same_lists, table-get)
 
 table-set : (f g : ℕ → Bool) (n i : ℕ) (v : Bool) → i < n → g i ≡ v → ((k : ℕ) → k < n → k ≢ i → g k ≡ f k) → tabulated g n ≡ slice_set (tabulated f n) i v
 table-set f g n i v lt here other =
@@ -67,31 +65,19 @@ row_clear words width n fits is =
 -- a mark is a bit
 row_mark : (words : List ℕ) (width marks n q i : ℕ) → q < n → i < marks → slice_index_or (row_of (rows_of words width marks n) q) i false ≡ is_set words (64 * (width * q) + i)
 unfolding row_at
-row_mark words width marks n q i lt low =
-    ap (λ l. slice_index_or l i false) (rows_of-get words width marks n q lt) ∙ table-get (λ k. is_set words (64 * (width * q) + k)) marks i false low
+row_mark words width marks n q i lt low = grind (arith, rows_of-get, table-get)
 
 -- one bit of a row is written
 row_at-set : (words : List ℕ) (width marks q i old word : ℕ) (v : Bool) → i < marks → width * q + i / 64 < length words → old ≡ slice_index_or words (width * q + i / 64) 0 →
     eqb (bit_at word (i % 64)) 1 ≡ v → ((b : ℕ) → b < 64 → b ≢ i % 64 → bit_at word b ≡ bit_at old b) →
     row_at (slice_set words (width * q + i / 64) word) width marks q ≡ slice_set (row_at words width marks q) i v
 unfolding row_at
-row_at-set words width marks q i old word v lt inside is same other =
-    let base = 64 * (width * q) in
-    let put = bit_put words (base + i) (width * q + i / 64) (i % 64) old word v (omega arith) inside (omega arith) is same other in
-    table-set (λ k. is_set words (base + k)) (λ k. is_set (slice_set words (width * q + i / 64) word) (base + k)) marks i v lt put.0
-    (λ k low apart. put.1 (base + k) (λ e. apart (omega (arith, e))))
+row_at-set words width marks q i old word v lt inside is same other = grind (arith, bit_put, table-set)
 
 -- the same words, wherever they are, have the same marks
 pub marked_same : (words other : List ℕ) (base from i : ℕ) → slice_index_or words (base + i / 64) 0 ≡ slice_index_or other (from + i / 64) 0 → is_set words (64 * base + i) ≡ is_set other (64 * from + i)
 unfolding is_set
-marked_same words other base from i same =
-    let q : (64 * base + i) / 64 ≡ base + i / 64 = omega arith in
-    let r : from + i / 64 ≡ (64 * from + i) / 64 = omega arith in
-    let k : (64 * base + i) % 64 ≡ (64 * from + i) % 64 = omega arith in
-    ap (λ x. eqb (bit_at (slice_index_or words x 0) ((64 * base + i) % 64)) 1) q
-    ∙ ap (λ x. eqb (bit_at (slice_index_or words (base + i / 64) 0) x) 1) k
-    ∙ ap (λ v. eqb (bit_at v ((64 * from + i) % 64)) 1) same
-    ∙ ap (λ x. eqb (bit_at (slice_index_or other x 0) ((64 * from + i) % 64)) 1) r
+marked_same words other base from i same = grind arith
 
 marked_kept : (words after : List ℕ) (i : ℕ) → slice_index_or after (i / 64) 0 ≡ slice_index_or words (i / 64) 0 → is_set after i ≡ is_set words i
 unfolding is_set
@@ -130,53 +116,29 @@ module _ (r : Inside) (seen : List (List Bool)) (is : rows_of r.words.items r.wi
 
   -- the words of a row are there, and are enough for its marks
   pub row_there : (q : ℕ) → q < length seen → (r.width * q < 2 ^ 63) × (r.width * q + r.width ≤ length r.words.items) × (r.width * q + r.width < 2 ^ 63) × (length (row_of seen q) ≤ 64 * r.width)
-  row_there q lt =
-      let few = rows_seen in
-      let up : q + 1 ≤ r.count = omega arith in
-      let there : r.width * q + r.width ≤ length r.words.items = omega (arith, mul-le-mul_left r.width up, inside.1) in
-      (omega (arith, there, r.words.ok), there, omega (arith, there, r.words.ok), omega (arith, marks_seen q lt, inside.0))
+  row_there q lt = grind (arith, marks_seen, rows_seen)
 
   -- a mark of a row is a bit, whatever was written
   pub new_bit : (words : List ℕ) (q i : ℕ) → q < length seen → i < length (row_of seen q) → slice_index_or (row_of (rows_of words r.width r.marks r.count) q) i false ≡ is_set words (64 * (r.width * q) + i)
-  new_bit words q i lt low =
-      let few = rows_seen in
-      let all = marks_seen q lt in
-      row_mark words r.width r.marks r.count q i (omega (arith, few, lt)) (omega (arith, all, low))
+  new_bit words q i lt low = grind (arith, marks_seen, row_mark, rows_seen)
 
   pub row_bit : (q c : ℕ) → q < length seen → c ≤ length (row_of seen q) → (i : ℕ) → i < c → slice_index_or (row_of seen q) i false ≡ is_set r.words.items (64 * (r.width * q) + i)
   row_bit q c lt low i under = ap (λ rows. slice_index_or (row_of rows q) i false) (sym is) ∙ new_bit r.words.items q i lt (omega (arith, low, under))
+
+  -- a mark of a row is read
+  pub mark_read : (q i word : ℕ) → q < length seen → i < length (row_of seen q) → word ≡ slice_index_or r.words.items (r.width * q + i / 64) word → eqb (bit_at word (i % 64)) 1 ≡ slice_index_or (row_of seen q) i false
+  mark_read q i word lt low read =
+      let there = row_there q lt in
+      let is : word ≡ slice_index_or r.words.items (r.width * q + i / 64) 0 = read ∙ get_or_default r.words.items (r.width * q + i / 64) word 0 (omega (arith, there)) in
+      ap (λ v. eqb (bit_at v (i % 64)) 1) is ∙ sym (row_bit q (i + 1) lt (omega (arith, low)) i (omega arith) ∙ set_at r.words.items (64 * (r.width * q) + i) (r.width * q + i / 64) (i % 64) (omega arith) (omega arith))
 
   -- a mark of a row is written
   pub mark_written : (q i old word : ℕ) (v : Bool) → q < length seen → i < length (row_of seen q) → old ≡ slice_index_or r.words.items (r.width * q + i / 64) 0 →
       eqb (bit_at word (i % 64)) 1 ≡ v → ((b : ℕ) → b < 64 → b ≢ i % 64 → bit_at word b ≡ bit_at old b) →
       row_of (rows_of (slice_set r.words.items (r.width * q + i / 64) word) r.width r.marks r.count) q ≡ slice_set (row_of seen q) i v
-  mark_written q i old word v lt low read same other =
-      let few = rows_seen in
-      let all = marks_seen q lt in
-      let there = row_there q lt in
-      rows_of-get (slice_set r.words.items (r.width * q + i / 64) word) r.width r.marks r.count q (omega (arith, few, lt))
-      ∙ row_at-set r.words.items r.width r.marks q i old word v (omega (arith, all, low)) (omega (arith, there)) read same other
-      ∙ ap (λ l. slice_set l i v) (row_seen q lt)
+  mark_written q i old word v lt low read same other = grind (arith, marks_seen, row_at-set, row_seen, row_there, rows_of-get, rows_seen)
 
   -- where words of one row alone were written, the others are as they were
   pub row_written : (after : List ℕ) (p c : ℕ) → c ≤ r.width → ((k : ℕ) → k < r.width * p → slice_index_or after k 0 ≡ slice_index_or r.words.items k 0) →
       ((k : ℕ) → r.width * p + c ≤ k → slice_index_or after k 0 ≡ slice_index_or r.words.items k 0) → KeepsRows (λ q. q ≢ p) seen (rows_of after r.width r.marks r.count)
-  row_written after p c narrow before rest =
-      let few = rows_seen in
-      let long = length-rows_of after r.width r.marks r.count in
-      let past : (q : ℕ) → length seen ≤ q → row_of (rows_of after r.width r.marks r.count) q ≡ row_of seen q =
-      (λ q ge. get_or_past (rows_of after r.width r.marks r.count) q [] (omega (arith, ge, few, long)) ∙ sym (get_or_past seen q [] ge)) in
-      record {
-        len = long ∙ few;
-        lens = λ q. ⊎_elim
-            (λ (lt : q < length seen). length-row after r.width r.marks r.count q (omega (arith, few, lt)) ∙ marks_seen q lt)
-            (λ (ge : length seen ≤ q). ap length (past q ge))
-            (cases_lt q (length seen));
-        same = λ q apart. ⊎_elim
-            (λ (lt : q < length seen).
-            rows_of-get after r.width r.marks r.count q (omega (arith, few, lt))
-            ∙ row_kept r.words.items after r.width r.marks q inside.0 (λ k low. ⊎_elim (before (r.width * q + k)) (rest (r.width * q + k)) (row_apart r.width q p k c low narrow apart))
-            ∙ row_seen q lt)
-            (past q)
-            (cases_lt q (length seen));
-      }
+  row_written after p c narrow before rest = grind (arith, get_or_past, length-row, length-rows_of, marks_seen, row_apart, row_kept, row_seen, rows_of-get, rows_seen)

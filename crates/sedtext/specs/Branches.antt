@@ -1,6 +1,6 @@
 -- Private to the proofs: no contract that `sedmatch` makes public cites what is here.
 -- The alternatives with which an expression begins, as chains, and which bytes are at a fixed distance after the beginning of every span.
-use Rattle.std.specs.Prelude.{Vec, ℕ, ◌+◌, ◌⊎◌, Bool, List, [], ◌∷◌, Option, Some, None}
+use Rattle.std.specs.Prelude.{Vec, ℕ, ◌+◌, ◌⊎◌, Bool, List, [], ◌∷◌}
 use Rattle.sedre.specs.Tree.{Tree}
 use Rattle.sedre.specs.declared.types.Node.{Node}
 use Rattle.sedtext.specs.Bytes.{MemberAt}
@@ -26,11 +26,6 @@ AreBranches nodes e chains = (w : List ℕ) (i j : ℕ) → Matches e w i j → 
 abbrev pub IsOneByte : Link → Type 0
 IsOneByte (Byte s) = Unit {0}
 IsOneByte other = ⊥
-
--- a byte of the set, if there is one, is at the place
-abbrev pub HasOne : Option (List Bool) → List ℕ → ℕ → Type 0
-HasOne None w q = ⊥
-HasOne (Some s) w q = MemberAt s w q
 
 -- a byte of the set is `offset` bytes after the beginning of each span of the expression
 abbrev pub AllHave : Tree → ℕ → List Bool → Type 0

@@ -7,15 +7,11 @@ abbrev pub FirstFrom : (ℕ → Type 0) → ℕ → Option ℕ → Type 0
 FirstFrom P p None = (k : ℕ) → p ≤ k → P k → ⊥
 FirstFrom P p (Some k) = (p ≤ k) × P k × ((h : ℕ) → p ≤ h → h < k → P h → ⊥)
 
--- the first place from p on that has the byte, if there is one
-abbrev pub FirstAt : List ℕ → ℕ → ℕ → Option ℕ → Type 0
-FirstAt w byte = FirstFrom (λ k. slice_get w k ≡ Some byte)
-
 -- a byte of the set is at the place
 abbrev pub MemberAt : List Bool → List ℕ → ℕ → Type 0
 MemberAt members w i = (byte : ℕ) × (slice_get w i ≡ Some byte) × IsIn byte members
 
--- how many bytes are looked at from p to the place found, or to the end n of the text
-abbrev pub looked_at : ℕ → ℕ → Option ℕ → ℕ
-looked_at n p None = n - p
-looked_at n p (Some k) = k + 1 - p
+-- how many bytes are passed from p to the end of the m bytes found, or to the end n of the text
+abbrev pub passed_to : ℕ → ℕ → ℕ → Option ℕ → ℕ
+passed_to n p m None = n - p
+passed_to n p m (Some k) = k + m - p

@@ -4,10 +4,8 @@ pub mod Links
 pub mod Caps
 pub mod Answer
 pub mod Matching
-pub mod MatchingLaws
 pub mod Bytes
 pub mod SearchRoom
-pub mod Costs
 pub mod Words
 pub mod Nodes
 pub mod PartMarks

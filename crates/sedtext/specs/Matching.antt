@@ -1,4 +1,4 @@
--- What is matched, computed by trying all places. That it is what the relations determine, MatchingLaws says.
+-- What is matched, computed by trying all places. That it is what the relations determine, `laws` says.
 use Rattle.std.specs.Prelude.{ℕ, zero, suc, ◌+◌, ◌-◌, Bool, false, ◌&&◌, ◌||◌, cond, eqb, ltb, List, length, slice_get, slice_index_or, slice_set, Option, Some, None, unwrap_or, option_map, nat_eq, nat_lt, if◌then◌else◌}
 use Rattle.sedre.specs.Tree.{Tree, null_string, byte_of, text_begin, text_end, sequence, either_of, grouped, any_copies, one_or_none}
 use Rattle.sedtext.specs.Groups.{SpansOfGroups, forget, no_groups}

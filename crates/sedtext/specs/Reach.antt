@@ -6,7 +6,6 @@ use Rattle.sedtext.specs.Spans.{Matches}
 use Rattle.sedre.specs.Arena.{IsPart}
 use Rattle.sedre.specs.declared.types.Node.{Node}
 use Rattle.sedre.specs.declared.types.NodeId.{NodeId}
-use Rattle.sedtext.specs.declared.starts.Starts.{Starts}
 use Rattle.sedre.specs.declared.types.Node.TheVariants.{Seq, Star}
 
 -- c is a part that begins where the node does
@@ -17,6 +16,11 @@ BeginsWith node c = IsPart node c
 -- the node x matches i..j
 abbrev pub HasSpan : List Node → List ℕ → ℕ → ℕ → ℕ → Type 0
 HasSpan nodes w x i j = Matches (tree_at nodes x) w i j
+
+-- the places from which a match may begin, from the first to the last
+pub record Starts : Type 0 where
+  pub first : ℕ
+  pub last : ℕ
 
 -- the place is one of the starts
 abbrev pub IsStart : Starts → ℕ → Type 0

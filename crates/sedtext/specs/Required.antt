@@ -1,6 +1,6 @@
 -- Private to the proofs: no contract that `sedmatch` makes public cites what is here.
 -- Literals that the spans of an expression contain.
-use Rattle.std.specs.Prelude.{◌≡◌, ℕ, ◌+◌, ◌-◌, ◌≤◌, ◌↔◌, List, Bool, drop, length, Option, Some, None, IsTrue}
+use Rattle.std.specs.Prelude.{◌≡◌, ℕ, ◌+◌, ◌≤◌, ◌↔◌, List, Bool, drop, length, Option, Some, None, IsTrue}
 use Rattle.memchr.specs.Find.{OccursAt}
 use Rattle.sedre.specs.Tree.{Tree}
 use Rattle.sedre.specs.declared.types.Node.{Node}
@@ -32,11 +32,6 @@ IsRequired e (Some n) = Requires e n.finder n.is_prefix
 -- the first place from p on at which the literal begins, if there is one
 abbrev pub FirstLiteral : List ℕ → List ℕ → ℕ → Option ℕ → Type 0
 FirstLiteral w literal = FirstFrom (OccursAt w literal)
-
--- how many bytes are passed from p to the end of the literal of m bytes, or to the end n of the text
-abbrev pub passed_to : ℕ → ℕ → ℕ → Option ℕ → ℕ
-passed_to n p m None = n - p
-passed_to n p m (Some k) = k + m - p
 
 -- a place from p on before which no match begins, or that none begins from p on
 abbrev pub Narrowed : Tree → List ℕ → ℕ → Option ℕ → Type 0

@@ -4,10 +4,9 @@ ghost use Rattle.sedre.specs.Tree.{expression_tree, Tree};
 ghost use Rattle.sedre.specs.declared.types.Node.{Node};
 ghost use Rattle.sedtext.specs.Beginnings.{AllBegin, NextStart, skip_cost};
 ghost use Rattle.sedtext.specs.Branches.{AreBranches};
-ghost use Rattle.sedtext.specs.Costs.{CostsWithin};
+ghost use Rattle.sedre.specs.Steps.{CostsWithin, TakesAtLeast};
 ghost use Rattle.sedtext.specs.Links.{IsChain};
 ghost use Rattle.sedtext.specs.Sieve.{AllPass, AllFixed};
-ghost use Rattle.sedre.specs.Steps.{TakesAtLeast};
 
 use crate::branches::{MAX_OFFSET, branches_of, set_at};
 use crate::counted::Text;

@@ -1,11 +1,10 @@
 //! The alternatives with which an expression begins, as chains, and which bytes are at a fixed distance after the beginning of every
 //! match: the sets of alternatives are joined.
-ghost use Rattle.std.specs.Prelude.{ℕ, List, ◌+◌, ◌≤◌, length, take, IfOk, IfSome};
-ghost use Rattle.std.specs.List.{All};
+ghost use Rattle.std.specs.Prelude.{List, ◌+◌, ◌≤◌, length, IfOk, IfSome};
+ghost use Rattle.std.specs.List.{AllWithin};
 ghost use Rattle.sedre.specs.Tree.{Tree, expression_tree};
 ghost use Rattle.sedre.specs.declared.types.Node.{Node};
-ghost use Rattle.sedtext.specs.Bytes.{MemberAt};
-ghost use Rattle.sedtext.specs.Branches.{AllHave, AreBranches, HasOne, IsOneByte};
+ghost use Rattle.sedtext.specs.Branches.{AllHave, AreBranches, IsOneByte};
 ghost use Rattle.sedtext.specs.Links.{IsChain};
 
 use crate::links::{Link, alternatives_at};
@@ -21,13 +20,15 @@ const MORE_ALTERNATIVES: usize = 7;
 /// How many of the chain's links are bytes before one that isn't, as far as a match is followed.
 fn lead(chain: &[Link]) -> usize
     ensures within { result ≤ length chain.now }
-    ensures sets { All IsOneByte (take result chain.now) }
+    ensures sets { AllWithin IsOneByte chain.now 0 result }
 {
-    let mut count = 0;
-    while count < chain.len() && count < MAX_OFFSET && matches!(&chain[count], Link::Byte(_)) {
-        count += 1;
+    let most = chain.len().min(MAX_OFFSET);
+    for x in 0..most {
+        let Link::Byte(_) = &chain[x] else {
+            return x;
+        };
     }
-    count
+    most
 }
 
 /// The chains of which one leads on where a match of the expression begins, whose chain this is: alternatives behind the bytes with
@@ -55,22 +56,11 @@ pub fn branches_of(
     Ok(branches)
 }
 
-/// The members of the set, if there is one, and of one more.
-fn joined(members: Option<ByteSet>, more: &ByteSet) -> ByteSet
-    ensures members { (w : List ℕ) (q : ℕ) → HasOne members w q → MemberAt result w q }
-    ensures more { (w : List ℕ) (q : ℕ) → MemberAt more.now w q → MemberAt result w q }
-{
-    match members {
-        Some(members) => members.union(more),
-        None => *more,
-    }
-}
-
 /// The set of the bytes over which the chains lead `offset` bytes after their beginnings, if each leads over bytes alone up to there.
 pub fn set_at(branches: &[Vec<Link>], offset: usize) -> Option<ByteSet>
     ensures { IfSome result (λ s. (nodes : List Node) (e : Tree) → AreBranches nodes e branches.now → AllHave e offset s) }
 {
-    let mut members = None;
+    let mut members = ByteSet::none();
     for x in (0..branches.len()).rev() {
         let chain = &branches[x];
         let Some(Link::Byte(set)) = chain.get(offset) else {
@@ -79,7 +69,7 @@ pub fn set_at(branches: &[Vec<Link>], offset: usize) -> Option<ByteSet>
         if offset >= lead(chain) {
             return None;
         }
-        members = Some(joined(members, set));
+        members = members.union(set);
     }
-    members
+    Some(members)
 }

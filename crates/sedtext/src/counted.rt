@@ -3,10 +3,9 @@
 //! The bytes of a text without a count are seen here alone and in the modules below: in [`lookups`], [`members`] and
 //! [`set_finder`], which count what they look at, and in what works for these on bare bytes. A text gives them out nowhere.
 ghost use Rattle.std.specs.Prelude.{◌≡◌, ℕ, List, ◌+◌, ◌^◌, ◌<◌, ◌≤◌, length, slice_get, Some};
-ghost use Rattle.sedtext.specs.Bytes.{FirstAt, looked_at};
-ghost use Rattle.sedre.specs.Steps.{Takes, TakesExactly};
+ghost use Rattle.sedtext.specs.Bytes.{FirstFrom, passed_to};
+ghost use Rattle.sedre.specs.Steps.{TakesExactly};
 
-pub(crate) mod few;
 pub mod lookups;
 pub mod members;
 pub mod nibbles;
@@ -61,8 +60,7 @@ impl<'a> Text<'a> {
     pub fn byte(&self, i: usize, steps: &mut Steps) -> u8
         requires inside { i < length self.now }
         ensures byte { slice_get self.now i ≡ Some result }
-        ensures cost { Takes steps.old steps.new 1 }
-        ensures counts { TakesExactly steps.old steps.new 1 }
+        ensures cost { TakesExactly steps.old steps.new 1 }
     {
         steps.add(1);
         self.bytes[i]
@@ -72,9 +70,8 @@ impl<'a> Text<'a> {
     /// Counts a look for each byte from `from` to that place, or to the end where there is none.
     pub fn find_byte(&self, value: u8, from: usize, steps: &mut Steps) -> Option<usize>
         requires from { from ≤ length self.now }
-        ensures first { FirstAt self.now value from result }
-        ensures cost { Takes steps.old steps.new (looked_at (length self.now) from result) }
-        ensures counts { TakesExactly steps.old steps.new (looked_at (length self.now) from result) }
+        ensures first { FirstFrom (λ k. slice_get self.now k ≡ Some value) from result }
+        ensures cost { TakesExactly steps.old steps.new (passed_to (length self.now) from 1 result) }
     {
         let bytes = uncounted(self);
         let after = &bytes[from..];

@@ -5,12 +5,11 @@
 //! it aren't looked at: where such bytes are rare, most of a text is passed over unseen.
 ghost use Rattle.std.specs.Prelude.{◌+◌, ◌≤◌, ◌-◌, length, IfSome};
 ghost use Rattle.sedtext.specs.FixedRuns.{AllFixedRuns, FirstFixedRun, passed_run};
-ghost use Rattle.sedtext.specs.Costs.{CostsWithin};
-ghost use Rattle.sedre.specs.Steps.{TakesAtLeast};
+ghost use Rattle.sedre.specs.Steps.{CostsWithin, TakesAtLeast};
 
 use crate::counted::Text;
-use crate::counted::few::members_of;
 use crate::counted::members::run_begin;
+use crate::counted::set_finder::members_of;
 use crate::links::Link;
 use sedre::{ByteSet, Steps};
 

@@ -10,7 +10,7 @@
 //! once what an expression shows of all its matches. No search for a match of any expression is here.
 //!
 //! The public modules are for the two crates above; `sedmatch` passes on what a program calls, and decides what a matcher uses.
-#![tactic(auto, unfolding(sedre::specs::Steps::TakesAtLeast, sedre::specs::Steps::TakesExactly))]
+#![tactic(auto, using(crate::proofs::Closing::closing), unfolding(sedre::specs::Steps::TakesAtLeast, sedre::specs::Steps::IsCounted))]
 
 pub mod beginnings;
 mod branches;
@@ -20,7 +20,6 @@ mod found;
 mod laws;
 pub mod links;
 pub mod required;
-pub mod starts;
 
 pub use counted::{Marks, Text};
 pub use found::Found;

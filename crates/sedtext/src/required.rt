@@ -3,10 +3,9 @@
 ghost use Rattle.std.specs.Prelude.{List, ◌-◌, ◌≤◌, length, IfOk, IfSome};
 ghost use Rattle.sedre.specs.Tree.{Tree};
 ghost use Rattle.sedre.specs.declared.types.Node.{Node};
-ghost use Rattle.sedtext.specs.Costs.{CostsWithin};
+ghost use Rattle.sedre.specs.Steps.{CostsWithin, TakesAtLeast};
 ghost use Rattle.sedtext.specs.Links.{IsChain};
-ghost use Rattle.sedtext.specs.Required.{AllHold, IsLiteral, IsRequired, Narrowed};
-ghost use Rattle.sedre.specs.Steps.{TakesAtLeast};
+ghost use Rattle.sedtext.specs.Required.{IsLiteral, IsRequired, Narrowed};
 
 use crate::counted::Text;
 use crate::counted::lookups::find_literal;
@@ -45,22 +44,6 @@ pub fn literal_at(alloc: Global, chain: &[Link], from: usize) -> Result<Vec<u8>,
     Ok(bytes)
 }
 
-/// The longest of the literals of the chain; empty where there is none.
-fn longest_literal(alloc: Global, chain: &[Link]) -> Result<Vec<u8>, AllocError>
-    ensures holds { IfOk result (λ v. AllHold chain.now v.items) }
-{
-    let mut best = Vec::new(alloc);
-    let mut from = 0;
-    while from < chain.len() {
-        let bytes = literal_at(alloc, chain, from)?;
-        from += bytes.len().max(1);
-        if best.len() < bytes.len() {
-            best = bytes;
-        }
-    }
-    Ok(best)
-}
-
 /// A literal that every match of the expression contains whose chain this is, if one is found: one of two bytes or more with
 /// which all begin, or else the longest that is found.
 pub fn find_required(alloc: Global, chain: &[Link]) -> Result<Option<RequiredLiteral>, AllocError>
@@ -68,8 +51,13 @@ pub fn find_required(alloc: Global, chain: &[Link]) -> Result<Option<RequiredLit
 {
     let mut literal = literal_at(alloc, chain, 0)?;
     let is_prefix = literal.len() >= 2;
-    if !is_prefix {
-        literal = longest_literal(alloc, chain)?;
+    let mut from = literal.len().max(1);
+    while from < chain.len() && !is_prefix {
+        let bytes = literal_at(alloc, chain, from)?;
+        from += bytes.len().max(1);
+        if literal.len() < bytes.len() {
+            literal = bytes;
+        }
     }
     if literal.is_empty() {
         return Ok(None);

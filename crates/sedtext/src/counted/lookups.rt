@@ -1,7 +1,7 @@
 //! Where literals and bytes of three sets are in a text, by calls that count.
 ghost use Rattle.std.specs.Prelude.{◌*◌, ◌≤◌, length, IfSome};
-ghost use Rattle.sedtext.specs.Bytes.{looked_at};
-ghost use Rattle.sedtext.specs.Required.{FirstLiteral, passed_to};
+ghost use Rattle.sedtext.specs.Bytes.{passed_to};
+ghost use Rattle.sedtext.specs.Required.{FirstLiteral};
 ghost use Rattle.sedtext.specs.Sieve.{NoneBefore, PassesSieve};
 ghost use Rattle.sedre.specs.Steps.{Takes, TakesAtLeast, TakesExactly};
 
@@ -15,8 +15,7 @@ use sedre::Steps;
 pub fn find_literal(text: &Text, finder: &Finder, from: usize, steps: &mut Steps) -> Option<usize>
     requires from { from ≤ length text.now }
     ensures first { FirstLiteral text.now finder.now from result }
-    ensures cost { Takes steps.old steps.new (passed_to (length text.now) from (length finder.now) result) }
-    ensures counts { TakesExactly steps.old steps.new (passed_to (length text.now) from (length finder.now) result) }
+    ensures cost { TakesExactly steps.old steps.new (passed_to (length text.now) from (length finder.now) result) }
 {
     let bytes = uncounted(text);
     let after = &bytes[from..];
@@ -39,8 +38,8 @@ pub fn sift(text: &Text, sieve: &Sieve, from: usize, steps: &mut Steps) -> Optio
     requires from { from ≤ length text.now }
     ensures none { NoneBefore (PassesSieve sieve.now text.now) from result }
     ensures inside { IfSome result (λ k. k ≤ length text.now) }
-    ensures cost { Takes steps.old steps.new (3 * looked_at (length text.now) from result) }
-    ensures counts { TakesAtLeast steps.old steps.new (looked_at (length text.now) from result) }
+    ensures cost { Takes steps.old steps.new (3 * passed_to (length text.now) from 1 result) }
+    ensures counts { TakesAtLeast steps.old steps.new (passed_to (length text.now) from 1 result) }
 {
     let bytes = uncounted(text);
     match sieve.find(bytes, from) {

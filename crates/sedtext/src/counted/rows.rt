@@ -1,10 +1,8 @@
 //! Marks, and rows of them: one for each of several states.
-#![tactic(auto, using(crate::proofs::WordLemmas::row_there))]
-
 ghost use Rattle.std.specs.Prelude.{◌≡◌, ◌≢◌, ℕ, Bool, List, ◌+◌, ◌*◌, ◌^◌, ◌<◌, ◌≤◌, length, slice_index_or, slice_set, replicate, IfOk, IsTrue, ◌↔◌, false, eqb};
 ghost use Rattle.std.specs.Int.{bit_at};
 ghost use Rattle.sedtext.specs.Words.{AgreeBelow, KeepsRows, rows_of, row_of};
-ghost use Rattle.sedre.specs.Steps.{Takes, TakesExactly};
+ghost use Rattle.sedre.specs.Steps.{TakesExactly};
 
 use sedre::Steps;
 use std::alloc::{AllocError, Global};
@@ -51,8 +49,7 @@ impl Marks {
     pub fn get(&self, i: usize, steps: &mut Steps) -> bool
         requires inside { i < length self.now }
         ensures mark { result ≡ slice_index_or self.now i false }
-        ensures cost { Takes steps.old steps.new 1 }
-        ensures counts { TakesExactly steps.old steps.new 1 }
+        ensures cost { TakesExactly steps.old steps.new 1 }
     {
         self.row.get(0, i, steps)
     }
@@ -61,8 +58,7 @@ impl Marks {
     pub fn set(&mut self, i: usize, mark: bool, steps: &mut Steps)
         requires inside { i < length self.old }
         ensures marks { self.new ≡ slice_set self.old i mark }
-        ensures cost { Takes steps.old steps.new 1 }
-        ensures counts { TakesExactly steps.old steps.new 1 }
+        ensures cost { TakesExactly steps.old steps.new 1 }
     {
         self.row.set(0, i, mark, steps);
     }
@@ -114,8 +110,7 @@ impl Rows {
         requires row { row < length self.now }
         requires inside { i < length (row_of self.now row) }
         ensures mark { result ≡ slice_index_or (row_of self.now row) i false }
-        ensures cost { Takes steps.old steps.new 1 }
-        ensures counts { TakesExactly steps.old steps.new 1 }
+        ensures cost { TakesExactly steps.old steps.new 1 }
     {
         steps.add(1);
         has_bit(self.words[self.width * row + i / 64], i % 64)
@@ -127,8 +122,7 @@ impl Rows {
         requires inside { i < length (row_of self.old row) }
         ensures keeps { KeepsRows (λ q. q ≢ row) self.old self.new }
         ensures marks { row_of self.new row ≡ slice_set (row_of self.old row) i mark }
-        ensures cost { Takes steps.old steps.new 1 }
-        ensures counts { TakesExactly steps.old steps.new 1 }
+        ensures cost { TakesExactly steps.old steps.new 1 }
     {
         steps.add(1);
         let at = self.width * row + i / 64;
@@ -143,8 +137,7 @@ impl Rows {
         requires inside { count ≤ length (row_of self.old row) }
         ensures keeps { KeepsRows (λ q. q ≢ row) self.old self.new }
         ensures clear { (c : ℕ) → c < count → slice_index_or (row_of self.new row) c false ≡ false }
-        ensures cost { Takes steps.old steps.new count }
-        ensures counts { TakesExactly steps.old steps.new count }
+        ensures cost { TakesExactly steps.old steps.new count }
     {
         steps.add(count);
         let at = self.width * row;
@@ -170,8 +163,7 @@ impl Rows {
         requires there { count ≤ length (row_of other.now other_row) }
         ensures keeps { KeepsRows (λ q. q ≢ row) self.old self.new }
         ensures same { AgreeBelow count (row_of self.new row) (row_of other.now other_row) }
-        ensures cost { Takes steps.old steps.new count }
-        ensures counts { TakesExactly steps.old steps.new count }
+        ensures cost { TakesExactly steps.old steps.new count }
     {
         steps.add(count);
         let (to, from) = (self.width * row, other.width * other_row);
@@ -179,23 +171,6 @@ impl Rows {
         for x in 0..count.div_ceil(64) {
             words[to + x] = other.words[from + x];
         }
-    }
-
-    /// The same from one of these rows into another.
-    pub fn copy_within(&mut self, row: usize, from: usize, count: usize, steps: &mut Steps)
-        requires row { row < length self.old }
-        requires from { from < length self.old }
-        requires inside { count ≤ length (row_of self.old row) }
-        requires there { count ≤ length (row_of self.old from) }
-        ensures keeps { KeepsRows (λ q. q ≢ row) self.old self.new }
-        ensures same { AgreeBelow count (row_of self.new row) (row_of self.old from) }
-        ensures cost { Takes steps.old steps.new count }
-        ensures counts { TakesExactly steps.old steps.new count }
-    {
-        steps.add(count);
-        let start = self.width * from;
-        let end = start + count.div_ceil(64);
-        self.words.copy_within(start..end, self.width * row);
     }
 
     /// Whether the first `count` marks of a row are those of another, and the rest of their last word too.
@@ -206,8 +181,7 @@ impl Rows {
         requires inside { count ≤ length (row_of self.now row) }
         requires there { count ≤ length (row_of self.now other_row) }
         ensures same { IsTrue result → AgreeBelow count (row_of self.now row) (row_of self.now other_row) }
-        ensures cost { Takes steps.old steps.new count }
-        ensures counts { TakesExactly steps.old steps.new count }
+        ensures cost { TakesExactly steps.old steps.new count }
     {
         steps.add(count);
         let (at, other) = (self.width * row, self.width * other_row);
@@ -224,8 +198,7 @@ impl Rows {
         requires row { row < length self.now }
         requires inside { count ≤ length (row_of self.now row) }
         ensures clear { IsTrue result ↔ ((c : ℕ) → c < count → slice_index_or (row_of self.now row) c false ≡ false) }
-        ensures cost { Takes steps.old steps.new count }
-        ensures counts { TakesExactly steps.old steps.new count }
+        ensures cost { TakesExactly steps.old steps.new count }
     {
         !self.meets(row, self, row, count, steps)
     }
@@ -235,8 +208,7 @@ impl Rows {
     pub fn digest(&self, row: usize, count: usize, steps: &mut Steps) -> u64
         requires row { row < length self.now }
         requires inside { count ≤ length (row_of self.now row) }
-        ensures cost { Takes steps.old steps.new count }
-        ensures counts { TakesExactly steps.old steps.new count }
+        ensures cost { TakesExactly steps.old steps.new count }
     {
         steps.add(count);
         let at = self.width * row;
@@ -264,8 +236,7 @@ impl Rows {
         requires inside { count ≤ length (row_of self.now row) }
         requires there { count ≤ length (row_of other.now other_row) }
         ensures meets { IsTrue result ↔ ((c : ℕ) × (c < count) × IsTrue (slice_index_or (row_of self.now row) c false) × IsTrue (slice_index_or (row_of other.now other_row) c false)) }
-        ensures cost { Takes steps.old steps.new count }
-        ensures counts { TakesExactly steps.old steps.new count }
+        ensures cost { TakesExactly steps.old steps.new count }
     {
         steps.add(count);
         let (at, from) = (self.width * row, other.width * other_row);

@@ -1,11 +1,6 @@
-use Rattle.std.proofs.Common.{subst}
-use Rattle.sedpass.specs.Decide.{AreRoomy}
 use Rattle.sedre.specs.Tree.{expression_tree}
 use Rattle.sedmatch.proofs.passes.new_passes.Goals as goal
 use Rattle.sedmatch.proofs.passes.new_passes.Goals.{then-size_of-room+in_ok-tables, else-size_of-room}
-
-pub fit-requires : goal.fit-requires
-fit-requires c = record { roomy = subst (λ m. AreRoomy m c.in_ok-tables.tables) c.nodes-nodes.ensures.value c.in_ok-tables.ensures.tables }
 
 pub returns : goal.returns
 returns c = (

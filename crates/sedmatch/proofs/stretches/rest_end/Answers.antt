@@ -1,5 +1,4 @@
-use Rattle.std.proofs.Common.{◌+◌, ◌-◌, length, min, arith}
-use Rattle.sedtext.proofs.CountLemmas.{most_counted}
+use Rattle.std.proofs.Common.{arith}
 use Rattle.sedtext.proofs.RunLemmas.{run_forward, run_longest}
 use Rattle.sedmatch.proofs.stretches.rest_end.Goals as goal
 
@@ -9,5 +8,4 @@ returns-in-Some-clause-to c = rw c.in-Some.is (run_longest c.in-Some.members c.a
 pub returns-in-Some-clause-cost : goal.returns-in-Some-clause-cost
 returns-in-Some-clause-cost c =
     let on = run_forward c.in-Some.members c.args.text.now c.args.from c.run_end.result c.run_end.ensures.run in
-    let most = most_counted c.args.steps.now c.run_end.new.steps (min (c.run_end.result + 1) (length c.args.text.now) - c.args.from) c.run_end.ensures.counts in
-    (c.run_end.ensures.cost.0, omega (arith, on, most))
+    (c.run_end.ensures.cost.0.0, omega (arith, on, c.run_end.ensures.cost.0.1))

@@ -1,11 +1,47 @@
-use Rattle.std.proofs.Common.{◌≡◌, ◌+◌, ◌-◌, None, length, refl, rules, sym, arith}
+use Rattle.std.proofs.Common.{◌≡◌, ℕ, zero, suc, ◌+◌, ◌-◌, ◌*◌, ◌≤◌, None, length, rules, sym, ap, arith}
+use Rattle.std.proofs.Math.Nat.{mul-le-mul_left, mul-le-mul_right}
+use Rattle.sedre.specs.Steps.{StepsWithin, Takes}
 use Rattle.sedre.specs.Tree.{expression_tree}
+use Rattle.sedtext.proofs.CountLemmas.{least_less, least_since, least_up}
 use Rattle.sedtext.proofs.MatchingLemmas.{found-iff, not_found-iff, report-iff}
 use Rattle.sedtext.proofs.PartLemmas.{report_lies}
 use Rattle.sedpass.proofs.OneGroupLemmas.{enters_later}
-use Rattle.sedmatch.proofs.OnceLemmas.{all_cost, bare_cost, none_cost, none_linear, one_less}
-use Rattle.sedtext.proofs.CountLemmas.{least_less, least_since, least_up}
 use Rattle.sedmatch.proofs.whole.find.Goals as goal
+
+le_square : (n : ℕ) → n ≤ n * n
+le_square zero = omega arith
+le_square (suc n) = omega arith
+
+-- what a look at each of m nodes costs, and the search for the first match from p on in a text of n bytes
+module _ (m n p s t u : ℕ) (ready : Takes s t m) (sought : Takes t u (142 * m * (n - p) + 42 * m)) where
+  most : u ≤ s + (142 * m * n + 43 * m)
+  most = let low : n - p ≤ n = omega arith in omega (arith, ready.1, sought.1, mul-le-mul_left (142 * m) low)
+
+  bare_cost : StepsWithin s u (64 * m * (n + 1) * (n + 1)) × StepsWithin s u (143 * m * (n + 1))
+  bare_cost = (omega (arith, most, mul-le-mul_left m (le_square n)), omega (arith, most))
+
+  none_cost : Takes s u (64 * m * m * (n + 1) * (n + 1)) × StepsWithin s u (172 * m * m * (n + 1))
+  none_cost =
+      let twice : (a : ℕ) → m * a ≤ m * m * a = λ a. omega (arith, mul-le-mul_right a (le_square m)) in (
+        (omega (arith, ready.0, sought.0), omega (arith, bare_cost.0, twice (64 * (n + 1) * (n + 1)))),
+        omega (arith, bare_cost.1, twice (143 * (n + 1))),
+      )
+
+  -- and its groups, for a match of l bytes
+  all_cost : (k l v : ℕ) → m * m ≡ m * k + m → l ≤ n → Takes u v (172 * m * k * l + 2 * m) → Takes s v (64 * m * m * (n + 1) * (n + 1)) × StepsWithin s v (172 * m * m * (n + 1))
+  all_cost k l v sq low decided =
+      let long = mul-le-mul_left (172 * m * k) low in
+      let once = mul-le-mul_left m (le_square n) in
+      let twice = mul-le-mul_left (m * k) (le_square n) in
+      let each = ap (λ x. x * n) sq in
+      let more = ap (λ x. x * (n * n)) sq in
+      ((omega (arith, ready.0, sought.0, decided.0), omega (arith, decided.1, most, long, once, twice, each, more, sq)), omega (arith, decided.1, most, long, each, sq))
+
+one_less : (m : ℕ) → m * m ≡ m * (m - 1) + m
+one_less zero = omega arith
+one_less (suc k) =
+    let same : suc k * (suc k - 1) ≡ suc k * k = ap (λ x. suc k * x) (omega arith) in
+    omega (arith, same)
 
 pub returns-in_err-span : goal.returns-in_err-span
 returns-in_err-span c =
@@ -18,15 +54,16 @@ returns-in_err-span c =
     let u = c.next_kept.new.steps in
     let ready = c.fit.ensures.cost in
     let sought = rw c.fit.ensures.expr at c.next_kept.ensures.each in
-    let bare = bare_cost m n from s t u u ready sought refl in
+    let bare = bare_cost m n from s t u ready sought in
+    let cost = none_cost m n from s t u ready sought in
     let none : c.from_residual.result ≡ None = cc in
     let answer = rw (c.fit.ensures.expr, c.in_err-span.was) at c.next_kept.ensures.next.answer in
     rw none record {
       scratch = search rules;
       answer = search rules;
       computed = (sym ((not_found-iff e c.args.text.now from c.requires.from).1 answer.1), tt);
-      cost = none_cost m n from s t u ready sought;
-      linear_cost = none_linear m n from s t u ready sought;
+      cost = cost.0;
+      linear_cost = cost.1;
       cost_without_groups = λ _. bare;
       cost_of_none = bare;
       counts = tt;
@@ -51,14 +88,15 @@ returns c =
     let groups = rw c.fit.ensures.expr at c.shared_groups-groups.ensures.answered in
     let is = rw (c.fit.ensures.expr, c.in_ok-span.was) at c.next_kept.ensures.next.answer in
     let lies = is.2.1 in
-    let all = all_cost m (m - 1) n from (j - i) s t u v (one_less m) (omega (arith, lies)) ready sought groups.cost in
+    let bare = bare_cost m n from s t u ready sought in
+    let all = all_cost m n from s t u ready sought (m - 1) (j - i) v (one_less m) (omega (arith, lies)) groups.cost in
     record {
       scratch = search rules;
       answer = (is.0, tt, groups.report, report_lies n e w i j c.shared_groups-groups.result is.2.0 lies groups.report);
       computed = (sym ((found-iff e w from i j c.requires.from).1 is.0), (report-iff e w i j c.shared_groups-groups.result is.0.spans).1 groups.report);
       cost = all.0;
       linear_cost = all.1;
-      cost_without_groups = λ none. bare_cost m n from s t u v ready sought (groups.none_cost none);
+      cost_without_groups = λ none. rw (groups.none_cost none) bare;
       cost_of_none = tt;
       counts = least_up s u v (j - i) (least_since s t u (j - i) ready.0 (least_less t u (j + 1 - from) (j - i) c.in_ok-span.ensures.next.counts (omega (arith, is.0.after)))) groups.cost.0;
       entered = enters_later e w i j s u v (omega (arith, ready.0, sought.0)) groups.entered;

@@ -1,5 +1,5 @@
-use Rattle.std.proofs.Common.{◌≡◌, ◌⊎◌, ◌+◌, ◌-◌, ◌*◌, ◌<◌, ◌≤◌, ℕ, length}
-use Rattle.sedpass.proofs.Words.{LastCopy, TakesAtLeast, CostsWithin, HasSpan, CopiesLead}
+use Rattle.std.proofs.Common.{◌≡◌, ◌⊎◌, ◌+◌, ◌-◌, ◌*◌, ◌<◌, ℕ, length}
+use Rattle.sedpass.proofs.Words.{Ascending, LastCopy, TakesAtLeast, CostsWithin, HasSpan, CopiesLead}
 use Rattle.sedpass.specs.Kept.{owed_region}
 use Rattle.sedpass.specs.Decide.{EndsRegion, KeepsGroupDesk, nodes_in, subject_text}
 use Rattle.sedpass.proofs.groups.last_copy.Given as goal
@@ -8,8 +8,7 @@ abbrev pub invariant-copies : goal.invariant-copies
 invariant-copies l = record {
   desk : KeepsGroupDesk l.subject l.initial.tables l.tables l.initial.kept l.kept;
   ends : EndsRegion l.subject l.kept.region l.here;
-  low : l.here.start ≤ l.end;
-  within : l.end ≤ l.here.stop;
+  order : Ascending l.here.start l.end l.here.stop;
   rest : CopiesLead (HasSpan (nodes_in l.subject) (subject_text l.subject) l.fn.a.index) l.here.stop l.end;
   walk : (c : ℕ) → ((l.end < l.here.stop) × LastCopy (HasSpan (nodes_in l.subject) (subject_text l.subject) l.fn.a.index) l.here.stop l.end c) ⊎ ((l.end ≡ l.here.stop) × (c ≡ l.copy)) →
       LastCopy (HasSpan (nodes_in l.subject) (subject_text l.subject) l.fn.a.index) l.here.stop l.here.start c;

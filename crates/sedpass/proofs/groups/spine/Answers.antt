@@ -13,7 +13,7 @@ nodes-init c =
       keeps = search rules;
       ends = (all_of c.args.here.node (sym c.begin.ensures.root), sym c.begin.ensures.end);
       room = omega arith;
-      works = works_none c.args.subject (Apart c.args.here ∷ reverse c.args.room.now.tasks.items) c.args.decided.now c.args.steps.now c.requires.keeps_blank c.requires.ready;
+      works = works_none c.args.subject (Apart c.args.here ∷ reverse c.args.room.now.tasks.items) c.args.decided.now c.args.steps.now c.requires.blank c.requires.ready;
     }
 
 pub push_reserved-requires : goal.push_reserved-requires
@@ -29,13 +29,13 @@ turned c =
     let look = c.look-node in
     let done = c.turn_node.ensures in
     works_turn c.args.subject c.nodes.at look.result c.turn_node.result _ c.nodes.decided c.turn_node.new.decided c.turn_node.new.kept.region c.nodes.steps look.new.steps c.turn_node.new.steps c.nodes.invariant.works.ready
-    look.ensures.counts look.ensures.cost done.turned done.decided done.few
+    look.ensures.cost.1 look.ensures.cost.0 done.turned done.decided done.few
 
 pub returns-then-not-meets-clause-works : goal.returns-then-not-meets-clause-works
 returns-then-not-meets-clause-works c =
     let works = c.nodes.invariant.works in
     let decided = c.nodes.decided in
-    let none = none_due (nodes_in c.args.subject) c.nodes.at.node c.facts_at.result decided.due decided.spans c.facts_at.ensures.facts works.decided.whole
+    let none = none_due (nodes_in c.args.subject) c.nodes.at.node c.facts_at.result decided c.facts_at.ensures.facts works.decided.whole
     (λ k has due. both_ways _ c.if-not-meets.true (c.meets.ensures.1 (k, has, due))) in
     works_then c.args.subject _ _ _ _ decided decided 0 1 1 c.args.steps.now c.nodes.steps c.nodes.steps (omega arith) works
     (works_left c.args.subject c.nodes.at (reverse c.nodes.room.tasks.items) decided c.nodes.steps works.ready none works.decided)

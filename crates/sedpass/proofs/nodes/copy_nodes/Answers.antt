@@ -1,29 +1,14 @@
-use Rattle.std.proofs.Common.{◌≡◌, Some, refl, ◌++◌, ◌∷◌, [], length, ap, sym, ◌∙◌, length-append, arith, slice_get, take}
-use Rattle.sedpass.proofs.Words.{take_more, slice_get_within, get_or_from_slice_get, parts_below, least_none}
-use Rattle.sedre.specs.Steps.{TakesAtLeast, TakesExactly}
+use Rattle.std.proofs.Common.{rules, ◌≡◌, Some, ◌++◌, ◌∷◌, [], length, ap, sym, ◌∙◌, length-append, arith, slice_get, take}
+use Rattle.sedpass.proofs.Words.{take_more, get_or_from_slice_get, parts_below}
+use Rattle.sedre.specs.Steps.{TakesAtLeast, IsCounted}
 use Rattle.sedpass.proofs.FactLemmas.{facts_more}
 use Rattle.sedpass.proofs.nodes.copy_nodes.Goals as goal
 
-pub loop-x-init : goal.loop-x-init
-loop-x-init c =
-    let none = ap length c.clear-2.ensures.items in
-    record {
-      grows = omega arith;
-      cost = omega arith;
-      counts = least_none c.args.steps.now 0 refl;
-      copied = c.clear.ensures.items;
-      all = omega (arith, none);
-      facts = λ x here is. let inside = slice_get_within c.clear-2.new.self.items x here is in absurd (omega (arith, none));
-      nodes_room = refl;
-      facts_room = refl;
-    }
-
 pub facts_of-next-requires : goal.facts_of-next-requires
-facts_of-next-requires c =
-    parts_below c.args.expr.now.nodes c.requires.expr.arena c.loop-x.x c.look-node.result (ap (slice_get c.args.expr.now.nodes) (sym c.id.ensures) ∙ c.look-node.ensures.node) _ (omega arith)
+facts_of-next-requires c = search (rules, parts_below)
 
 pub loop-x-preserved : goal.loop-x-preserved
-unfolding TakesAtLeast TakesExactly
+unfolding TakesAtLeast IsCounted
 loop-x-preserved c =
     let e = c.args.expr.now in
     let shown = c.loop-x.facts.items in
@@ -34,8 +19,7 @@ loop-x-preserved c =
     let expr = c.requires.expr in
     let here : slice_get e.nodes (length shown) ≡ Some node = rw c.loop-x.invariant.all is in
     record {
-      grows = omega arith;
-      cost = omega arith;
+      cost = (omega (arith, c.loop-x.invariant.cost.0), omega (arith, c.loop-x.invariant.cost.1));
       counts = omega arith;
       copied = c.push_reserved.ensures.items ∙ ap (λ l. l ++ node ∷ []) c.loop-x.invariant.copied ∙ sym (take_more e.nodes c.loop-x.x node (omega arith) ∙ ap (λ n. take c.loop-x.x e.nodes ++ n ∷ []) (get_or_from_slice_get e.nodes c.loop-x.x node node is));
       all = omega (arith, ap length items, length-append shown (next ∷ []));

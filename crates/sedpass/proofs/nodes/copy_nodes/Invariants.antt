@@ -1,12 +1,11 @@
-use Rattle.std.proofs.Common.{◌≡◌, ◌+◌, ◌≤◌, length, take, vec_capacity}
-use Rattle.sedre.specs.Steps.{TakesAtLeast}
+use Rattle.std.proofs.Common.{◌≡◌, length, take, vec_capacity}
+use Rattle.sedre.specs.Steps.{Takes, TakesAtLeast}
 use Rattle.sedpass.specs.Prepared.{AreFacts}
 use Rattle.sedpass.proofs.nodes.copy_nodes.Given as goal
 
 abbrev pub invariant-loop-x : goal.invariant-loop-x
 invariant-loop-x l = record {
-  grows : l.initial.steps ≤ l.steps;
-  cost : l.steps ≤ l.initial.steps + l.x;
+  cost : Takes l.initial.steps l.steps l.x;
   counts : TakesAtLeast l.initial.steps l.steps l.x;
   copied : l.nodes.items ≡ take l.x l.expr.nodes;
   all : length l.facts.items ≡ l.x;

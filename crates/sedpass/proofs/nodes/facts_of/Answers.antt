@@ -1,19 +1,7 @@
-use Rattle.std.proofs.Common.{◌≡◌, length, refl, ◌∙◌, ap, Some, arith, rules}
-use Rattle.sedpass.proofs.Words.{slice_get_within, tree_at, null_string, byte_of, text_begin, text_end, Seq, Alt, Group, Star, Opt}
+use Rattle.std.proofs.Common.{length, refl, ◌∙◌, ap, Some, arith, rules}
+use Rattle.sedpass.proofs.Words.{slice_get_within, tree_at, Seq, Alt, Group, Star, Opt}
 use Rattle.sedpass.proofs.FactLemmas.{null_both, null_either, shown_short}
 use Rattle.sedpass.proofs.nodes.facts_of.Goals as goal
-
-pub returns-in-Empty : goal.returns-in-Empty
-returns-in-Empty c nodes groups expr facts is = let at : length c.args.facts.now.items ≡ c.len-x.result = omega arith in rw (c.in-Empty.is, at) (c.of_leaf.ensures null_string refl (search rules) (λ k. refl) refl refl)
-
-pub returns-in-Set : goal.returns-in-Set
-returns-in-Set c nodes groups expr facts is = let at : length c.args.facts.now.items ≡ c.len-x.result = omega arith in rw (c.in-Set.is, at) (c.of_leaf-in-Set.ensures (byte_of c.in-Set.field-0) refl (search rules) (λ k. refl) refl refl)
-
-pub returns-in-Begin : goal.returns-in-Begin
-returns-in-Begin c nodes groups expr facts is = let at : length c.args.facts.now.items ≡ c.len-x.result = omega arith in rw (c.in-Begin.is, at) (c.of_leaf-in-Begin.ensures text_begin refl (search rules) (λ k. refl) refl refl)
-
-pub returns-in-End : goal.returns-in-End
-returns-in-End c nodes groups expr facts is = let at : length c.args.facts.now.items ≡ c.len-x.result = omega arith in rw (c.in-End.is, at) (c.of_leaf-in-End.ensures text_end refl (search rules) (λ k. refl) refl refl)
 
 pub returns-in-Seq : goal.returns-in-Seq
 returns-in-Seq c nodes groups expr facts is =

@@ -1,29 +1,14 @@
 use Rattle.std.proofs.Common.{◌≡◌, ◌≢◌, Some, ap, ◌∙◌, arith, ◌&&◌, slice_get, slice_index_or, false, length}
-use Rattle.sedre.specs.Steps.{TakesAtLeast, TakesExactly}
-use Rattle.sedpass.proofs.Words.{byte_is_in, least_none, row_of}
+use Rattle.sedre.specs.Steps.{TakesAtLeast, IsCounted}
+use Rattle.sedpass.proofs.Words.{byte_is_in, row_of}
 use Rattle.sedpass.specs.Prepared.{null_in}
 use Rattle.sedpass.specs.Rows.{nodes_of, leaves_row, InTree}
 use Rattle.sedpass.proofs.FactLemmas.{inside_seen}
-use Rattle.sedpass.proofs.RowLemmas.{keeps_none, keeps_then, still_wide, up}
+use Rattle.sedpass.proofs.RowLemmas.{keeps_then, still_wide, up}
 use Rattle.sedpass.proofs.rows.ascend.Goals as goal
 
-pub loop-x-init : goal.loop-x-init
-loop-x-init c = record {
-  grows = omega arith;
-  above = omega arith;
-  cost = omega arith;
-  counts = least_none c.args.steps.now _ (omega arith);
-  wide = c.requires.wide;
-  keeps = keeps_none (λ q. q ≢ 1) c.args.rows.now;
-  ended = λ w s place nulls took n shown.
-      let from = (c.low-low.ensures.range c.args.act.way.mirrored n).1 shown.0 in
-      let low = from.0 in
-      let below = shown.1 in
-      absurd (omega arith);
-}
-
 pub loop-x-preserved : goal.loop-x-preserved
-unfolding TakesAtLeast TakesExactly
+unfolding TakesAtLeast IsCounted
 loop-x-preserved c =
     let act = c.args.act in
     let e = act.prepared.now.arena.expr in
@@ -36,9 +21,7 @@ loop-x-preserved c =
     let wide = old.wide in
     let kept = old.keeps.same (leaves_row c.args.state) (λ q. omega (arith, q)) in
     record {
-      grows = omega arith;
-      above = omega arith;
-      cost = omega arith;
+      cost = (omega (arith, c.loop-x.invariant.cost.0), omega (arith, c.loop-x.invariant.cost.1));
       counts = omega arith;
       wide = still_wide (λ q. q ≢ 1) (length e.nodes) c.args.state c.loop-x.rows c.set.new.self c.set.ensures.keeps wide;
       keeps = keeps_then (λ q. q ≢ 1) (λ q. q ≢ 1) (λ q. q ≢ 1) c.args.rows.now c.loop-x.rows c.set.new.self (λ q ne. (ne, ne)) old.keeps c.set.ensures.keeps;

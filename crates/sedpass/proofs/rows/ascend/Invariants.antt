@@ -1,14 +1,12 @@
-use Rattle.std.proofs.Common.{◌≢◌, ℕ, ◌+◌, ◌-◌, ◌*◌, ◌≤◌, List, length}
-use Rattle.sedpass.proofs.Words.{TakesAtLeast, KeepsRows, row_of, Marked, CanEnd, Starts}
+use Rattle.std.proofs.Common.{◌≢◌, ℕ, ◌-◌, ◌*◌, List, length}
+use Rattle.sedpass.proofs.Words.{CostsWithin, TakesAtLeast, KeepsRows, row_of, Marked, CanEnd, Starts}
 use Rattle.sedpass.specs.Prepared.{null_in}
 use Rattle.sedpass.specs.Rows.{nodes_of, leaves_row, AreNull, AreWide, ShowTook, TreeBelow}
 use Rattle.sedpass.proofs.rows.ascend.Given as goal
 
 abbrev pub invariant-loop-x : goal.invariant-loop-x
 invariant-loop-x l = record {
-  grows : l.initial.steps ≤ l.steps;
-  above : l.low ≤ l.x;
-  cost : l.steps + 5 * l.low ≤ l.initial.steps + 5 * l.x;
+  cost : CostsWithin l.initial.steps l.steps (5 * l.x) (5 * l.low);
   counts : TakesAtLeast l.initial.steps l.steps (2 * (l.x - l.low));
   wide : AreWide (length l.act.prepared.now.arena.expr.nodes) l.state l.rows;
   keeps : KeepsRows (λ q. q ≢ 1) l.initial.rows l.rows;

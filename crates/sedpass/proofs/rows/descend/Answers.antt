@@ -1,10 +1,10 @@
-use Rattle.std.proofs.Common.{◌≡◌, ◌≢◌, ◌+◌, ◌-◌, ◌<◌, Bool, Some, ap, ◌∙◌, arith, ℕ, length, slice_get, slice_index_or, subst, false}
-use Rattle.sedre.specs.Steps.{TakesAtLeast, TakesExactly}
+use Rattle.std.proofs.Common.{◌≡◌, ◌≢◌, ◌+◌, ◌-◌, ◌<◌, Bool, Some, ap, ◌∙◌, arith, ℕ, length, slice_get, slice_index_or, subst, false, rules}
+use Rattle.sedre.specs.Steps.{TakesAtLeast, IsCounted}
 use Rattle.sedpass.proofs.Words.{seen-arena, seen-length, enter_parts, KeepsRows, row_of, Marked, Enters, CanEnd, least_none}
 use Rattle.sedpass.specs.Prepared.{null_in}
 use Rattle.sedpass.specs.Rows.{nodes_of, bits, ends_row, InTree, TreeFrom, RowFrom, RowOfPlace}
 use Rattle.sedpass.proofs.FactLemmas.{inside_seen}
-use Rattle.sedpass.proofs.RowLemmas.{Others, down, down_root, enters_few, keeps_then, rows_written, still_wide, tree_shown, row_none, row_step, row_done, bits_clear, bits_set, bits_other}
+use Rattle.sedpass.proofs.RowLemmas.{Others, down, down_root, keeps_then, rows_written, still_wide, tree_shown, row_none, row_step, row_done, bits_clear, bits_set, bits_other}
 use Rattle.sedpass.proofs.rows.descend.Goals as goal
 
 pub loop-x-init : goal.loop-x-init
@@ -21,16 +21,12 @@ loop-x-init c =
     let two = c.clear-2.new.self in
     let new = c.set.new.self in
     let apart : leaves < ends = omega (arith, c.leaves_row-leaves.ensures, c.ends_row-ends.ensures) in
-    let keeps : KeepsRows (Others leaves ends) old new =
-    keeps_then (λ q. (q ≢ leaves) × (q ≢ ends)) (λ q. q ≢ 0) (Others leaves ends) old two new (λ q is. ((is.1, is.2), λ n. omega (arith, n, is.0)))
-    (keeps_then (λ q. q ≢ leaves) (λ q. q ≢ ends) (λ q. (q ≢ leaves) × (q ≢ ends)) old one two (λ q is. is) c.clear.ensures.keeps c.clear-2.ensures.keeps) c.set.ensures.keeps in
+    let keeps : KeepsRows (Others leaves ends) old new = search (rules, keeps_then) in
     let some : 0 < leaves = omega (arith, c.leaves_row-leaves.ensures) in
     let first : row_of new leaves ≡ row_of one leaves = c.set.ensures.keeps.same leaves (λ n. omega (arith, n, some)) ∙ c.clear-2.ensures.keeps.same leaves (λ n. omega (arith, n, apart)) in
     let second : row_of new ends ≡ row_of two ends = c.set.ensures.keeps.same ends (λ n. omega (arith, n, some, apart)) in
     record {
-      grows = omega arith;
-      above = omega arith;
-      cost = omega arith;
+      cost = (omega arith, omega arith);
       counts = least_none c.set.new.steps _ (omega arith);
       wide = still_wide (Others leaves ends) m c.args.state old new keeps c.requires.wide;
       keeps = keeps;
@@ -43,7 +39,7 @@ loop-x-init c =
     }
 
 pub loop-x-preserved : goal.loop-x-preserved
-unfolding TakesAtLeast TakesExactly
+unfolding TakesAtLeast IsCounted
 loop-x-preserved c =
     let act = c.args.act in
     let e = act.prepared.now.arena.expr in
@@ -70,11 +66,8 @@ loop-x-preserved c =
     let written = rows_written leaves ends x c.leaf_bit-leaf.result _ old c.enter.new.rows c.set-in-loop-x.new.self new (omega (arith, some)) (omega (arith, some, more))
     c.enter.ensures.keeps c.set-in-loop-x.ensures.keeps c.set-in-loop-x.ensures.marks c.set-in-loop-x-2.ensures.keeps c.set-in-loop-x-2.ensures.marks in
     let value : row_of new 0 ≡ enter_parts (slice_index_or (row_of old 0) x false) null ended node (row_of old 0) = written.1 ∙ rw (← here) c.enter.ensures.marks in
-    let few = enters_few x node c.look-node.ensures.parts in
     record {
-      grows = omega arith;
-      above = omega arith;
-      cost = omega arith;
+      cost = (omega (arith, c.loop-x.invariant.cost.0), omega (arith, c.loop-x.invariant.cost.1));
       counts = omega arith;
       wide = still_wide (Others leaves ends) m c.args.state old new written.0 wide;
       keeps = keeps_then (Others leaves ends) (Others leaves ends) (Others leaves ends) c.args.rows.now old new (λ q far. (far, far)) inv.keeps written.0;

@@ -1,5 +1,5 @@
-use Rattle.std.proofs.Common.{ℕ, ◌↔◌, List, IsTrue, ◌+◌, ◌-◌, ◌*◌, ◌≤◌, length}
-use Rattle.sedpass.proofs.Words.{TakesAtLeast, KeepsRows, row_of, Marked, IsStart, CanEnd, Enters, Starts}
+use Rattle.std.proofs.Common.{ℕ, ◌↔◌, List, IsTrue, ◌+◌, ◌-◌, ◌*◌, length}
+use Rattle.sedpass.proofs.Words.{CostsWithin, TakesAtLeast, KeepsRows, row_of, Marked, IsStart, CanEnd, Enters, Starts}
 use Rattle.sedpass.specs.Prepared.{null_in}
 use Rattle.sedpass.specs.Rows.{nodes_of, AreNull, AreWide, InTree, TreeFrom, RowFrom, bits}
 use Rattle.sedpass.proofs.RowLemmas.{Others}
@@ -7,9 +7,7 @@ use Rattle.sedpass.proofs.rows.descend.Given as goal
 
 abbrev pub invariant-loop-x : goal.invariant-loop-x
 invariant-loop-x l = record {
-  grows : l.initial.steps ≤ l.steps;
-  above : l.low ≤ l.x;
-  cost : l.steps + (10 * l.x - 4) ≤ l.initial.steps + (10 * (l.act.root + 1) - 4);
+  cost : CostsWithin l.initial.steps l.steps (10 * (l.act.root + 1)) (10 * l.x);
   counts : TakesAtLeast l.initial.steps l.steps (6 * (l.act.root + 1 - l.x));
   wide : AreWide (length l.act.prepared.now.arena.expr.nodes) l.state l.rows;
   keeps : KeepsRows (Others l.leaves l.ends) l.fn.rows l.rows;

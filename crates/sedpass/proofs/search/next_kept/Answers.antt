@@ -1,24 +1,28 @@
-use Rattle.std.proofs.Common.{◌≡◌, ◌+◌, ◌-◌, ◌*◌, ◌≤◌, length, ap, sym, ◌∙◌, arith, refl}
+use Rattle.std.proofs.Common.{mul-le-mul_left, ◌≡◌, ◌+◌, ◌-◌, ◌*◌, ◌≤◌, length, ap, sym, ◌∙◌, arith, refl, false}
 use Rattle.sedpass.proofs.KeptLemmas.{keeps_then}
-use Rattle.sedpass.proofs.SearchLemmas.{begins_some, kept_cost, kept_each, kept_found, kept_none, none_cost}
-use Rattle.sedpass.proofs.Words.{HasSpan, least_both, least_up}
-use Rattle.sedpass.proofs.ForwardLemmas.{forward_one_still}
+use Rattle.sedpass.specs.Kept.{AllMarked}
+use Rattle.sedpass.specs.Regions.{CeasesAt, ReachesEnd}
+use Rattle.sedpass.specs.Search.{owed_kept}
+use Rattle.sedpass.proofs.SearchLemmas.{begins_some, kept_cost, kept_each, longest_kept, none_kept, none_marked, shown_whole}
+use Rattle.sedpass.proofs.Words.{HasSpan, both_ways, least_both, least_up}
 use Rattle.sedpass.proofs.search.next_kept.Goals.{After-cut-end, else-start-len-via-then-start-len+else-not-is_null, else-start-len-via-else-start-len}
 use Rattle.sedpass.proofs.search.next_kept.Goals as goal
 
 pub returns-then-not-is_null : goal.returns-then-not-is_null
 returns-then-not-is_null c =
-    let m = length c.args.subject.prepared.now.arena.expr.nodes in
-    let n = length c.args.subject.text.now in
+    let p = c.args.subject.prepared.now in
+    let w = c.args.subject.text.now in
     let k = c.args.kept.now in
     let region = c.requires.kept.region in
     let seek = c.seek-start.ensures in
     let null = c.is_null.ensures in
-    let low : c.seek-start.result ≤ n = (let within = seek.within in omega (arith, within, region.inside)) in
-    let none = kept_none c.args.subject.prepared.now c.args.subject.text.now c.args.reverse_any.now.way.all_starts k.region.root k.region.end c.args.from c.seek-start.result c.is_null.result
-    region.table.expr.arena c.requires.all_starts (region.root.1 c.requires.all_starts) (c.if-start-len.true ∙ c.len.ensures.is) seek.passed null.null c.if-not-is_null.true in
-    let grows : c.args.steps.now ≤ c.is_null.new.steps = omega (arith, seek.cost.0, null.cost.0) in
-    let cost = none_cost m n c.args.from c.seek-start.result c.args.steps.now c.seek-start.new.steps c.is_null.new.steps _ _ (omega (arith, c.args.subject.prepared.now.is_prepared.last)) seek.after low seek.cost.1 null.cost.1 in
+    let low : c.seek-start.result ≤ length w = (let within = seek.order.1 in omega (arith, within, region.inside)) in
+    let passed = shown_whole (λ r t. AllMarked p.arena.expr.nodes w r t p.root false c.args.from c.seek-start.result) p w c.args.reverse_any.now k c.requires.kept c.requires.all_starts seek.passed in
+    let none = none_kept p w region.table.expr.arena c.args.from c.seek-start.result (c.if-start-len.true ∙ c.len.ensures.is) passed (λ span. both_ways _ c.if-not-is_null.true (null.null.1 span)) in
+    let grows : c.args.steps.now ≤ c.is_null.new.steps = omega (arith, seek.cost.0, null.cost.0.0) in
+    let some : 1 ≤ length p.arena.expr.nodes = omega (arith, p.is_prepared.last) in
+    let cost : c.is_null.new.steps + 0 ≤ c.args.steps.now + (owed_kept (length p.arena.expr.nodes) (length w) k.region c.args.from + 42 * length p.arena.expr.nodes) =
+    omega (arith, mul-le-mul_left (length w - c.args.from) some, seek.order.0, low, seek.cost.1, null.cost.0.1) in
     record {
       tables = record { forward_one = c.requires.forward_one; forward_one_shape = (refl, refl, refl, refl, refl); reverse_any_shape = seek.keeps.shape; space = seek.keeps.same.space };
       next = record { kept = seek.keeps.kept; answer = (tt, none, tt); counts = tt };
@@ -30,7 +34,7 @@ returns-then-not-is_null c =
 null_there : (c : After-cut-end) → (c.seek-start.result ≡ length c.args.subject.text.now → HasSpan c.args.subject.prepared.now.arena.expr.nodes c.args.subject.text.now c.args.subject.prepared.now.root c.seek-start.result c.seek-start.result)
     × (c.seek-start.new.steps ≤ c.else-start-len.steps) × (c.else-start-len.steps ≤ c.seek-start.new.steps + 1)
 null_there c = elim c.else-start-len.branch [
-  | else-start-len-via-then-start-len+else-not-is_null w ↦ rw w.steps-is (λ at. w.is_null.ensures.null.0 w.if-not-is_null.false, w.is_null.ensures.cost.0, w.is_null.ensures.cost.1)
+  | else-start-len-via-then-start-len+else-not-is_null w ↦ rw w.steps-is (λ at. w.is_null.ensures.null.0 w.if-not-is_null.false, w.is_null.ensures.cost.0.0, w.is_null.ensures.cost.0.1)
   | else-start-len-via-else-start-len w ↦ rw w.steps-is (λ at. absurd (w.if-start-len.false (at ∙ sym c.len.ensures.is)), omega arith, omega arith)
 ]
 
@@ -46,21 +50,24 @@ returns c =
     let cut = c.cut-end.ensures in
     let start = c.seek-start.result in
     let stop = c.cut-end.result in
-    let low : start ≤ length w = (let within = seek.within in omega (arith, within, region.inside)) in
+    let low : start ≤ length w = (let within = seek.order.1 in omega (arith, within, region.inside)) in
     let high : stop ≤ length w = (let within = cut.within in omega (arith, within, seek.keeps.same.end, region.inside)) in
     let on = cut.ceases.0 in
-    let root = region.root.1 c.requires.all_starts in
-    let begins = begins_some p w c.args.reverse_any.now.way.all_starts k.region.root k.region.end start region.table.expr.arena c.requires.all_starts root (region.whole c.requires.all_starts) low seek.found null.0 in
-    let found = kept_found p w c.args.reverse_any.now.way.all_starts k.region.root k.region.end c.seek-start.new.table.way.all_starts c.seek-start.new.self.region.root c.seek-start.new.self.region.end c.args.from start stop
-    region.table.expr.arena c.requires.all_starts root (ap (λ v. v.all_starts) seek.keeps.shape.0 ∙ c.requires.all_starts) (seek.keeps.same.root ∙ root) seek.after low seek.passed begins cut.ceases in
+    let arena = region.table.expr.arena in
+    let all = c.requires.all_starts in
+    let passed = shown_whole (λ r t. AllMarked p.arena.expr.nodes w r t p.root false c.args.from start) p w c.args.reverse_any.now k c.requires.kept all seek.passed in
+    let begins = begins_some p w arena start low
+    (λ lt. shown_whole (λ r t. ReachesEnd p.arena.expr.nodes w r t p.root start) p w c.args.reverse_any.now k c.requires.kept all ((seek.found (omega (arith, lt, region.whole all))).0 refl)) null.0 in
+    let ceases = shown_whole (λ r t. CeasesAt p.arena.expr.nodes w r t p.root start stop) p w c.seek-start.new.table c.seek-start.new.self seek.keeps.kept (ap (λ v. v.all_starts) seek.keeps.shape.0 ∙ all) cut.ceases in
+    let longest = longest_kept p w arena start stop begins.0 low begins.1 ceases in
     let keeps = keeps_then _ _ c.args.reverse_any.now c.seek-start.new.table c.cut-end.new.table k c.seek-start.new.self c.cut-end.new.self seek.keeps cut.keeps in
     let grows : c.args.steps.now ≤ c.cut-end.new.steps = omega (arith, seek.cost.0, null.1, cut.cost.0) in
-    let cost = kept_cost m (length w) c.args.from start stop c.args.steps.now c.seek-start.new.steps c.else-start-len.steps c.cut-end.new.steps _ _ _ (omega (arith, p.is_prepared.last)) seek.after on high seek.cost.1 null.2 cut.cost.1 in
+    let cost = kept_cost m (length w) c.args.from start stop c.args.steps.now c.seek-start.new.steps c.else-start-len.steps c.cut-end.new.steps _ _ _ (omega (arith, p.is_prepared.last)) seek.order.0 on high seek.cost.1 null.2 cut.cost.1 in
     record {
-      tables = record { forward_one = forward_one_still p c.args.forward_one.now c.cut-end.new.forward_one c.requires.forward_one cut.forward_one cut.shape; forward_one_shape = cut.shape; reverse_any_shape = keeps.shape; space = keeps.same.space };
+      tables = record { forward_one = cut.forward_one; forward_one_shape = cut.shape; reverse_any_shape = keeps.shape; space = keeps.same.space };
       next = record {
         kept = cut.keeps.kept;
-        answer = (found, tt, (on, high));
+        answer = (record { after = seek.order.0; spans = longest.0; longest = longest.1; leftmost = none_marked p w arena c.args.from start low passed }, tt, (on, high));
         counts = least_both c.args.steps.now c.else-start-len.steps c.cut-end.new.steps (start - c.args.from) (2 * (stop - start) + 1) (stop + 1 - c.args.from)
             (least_up c.args.steps.now c.seek-start.new.steps c.else-start-len.steps (start - c.args.from) seek.counts null.1) cut.counts (omega (arith, on));
       };

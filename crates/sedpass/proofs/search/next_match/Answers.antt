@@ -1,7 +1,7 @@
-use Rattle.std.proofs.Common.{◌≡◌, ◌≤◌, false, length, ap, refl, ◌∙◌, arith}
+use Rattle.std.proofs.Common.{◌≡◌, ◌+◌, ◌-◌, ◌*◌, ◌≤◌, mul-le-mul_left, false, length, ap, refl, ◌∙◌, arith}
 use Rattle.sedpass.proofs.Words.{expression_tree, Matches-forward}
 use Rattle.sedpass.proofs.KeptLemmas.{same_shape, space_then}
-use Rattle.sedpass.proofs.SearchLemmas.{ComesTo, comes_at_once, comes_tired, hit_cost, hit_each, later_answer, looks_later, nothing_cost, nothing_each, pass_paid, unbegun}
+use Rattle.sedpass.proofs.SearchLemmas.{ComesTo, comes_at_once, comes_tired, hit_cost, later_answer, looks_later, pass_paid, trials_each, tried_left, unbegun}
 use Rattle.sedpass.proofs.search.next_match.Goals.{After-begin_kept, then-not-seeking+then-seeking-len+in-Tired, else-not-seeking}
 use Rattle.sedpass.proofs.search.next_match.Goals as goal
 
@@ -26,11 +26,9 @@ returns-in-Hit-clause-cost c =
 
 pub returns-in-Hit-clause-each : goal.returns-in-Hit-clause-each
 returns-in-Hit-clause-each c =
-    let made = c.in-Hit.ensures.made in (
-      made.cost.0,
-      hit_each (length c.args.subject.prepared.now.arena.expr.nodes) (length c.args.subject.text.now) c.args.from c.in-Hit.first c.in-Hit.end c.args.seeking.now.tried c.try_all.new.tried c.args.steps.now c.try_all.new.steps
-          (omega (arith, c.args.subject.prepared.now.is_prepared.last)) made.answer.0.after (Matches-forward (expression_tree c.args.subject.prepared.now.arena.expr) c.args.subject.text.now _ _ made.answer.0.spans) made.answer.1 made.few made.cost.1,
-    )
+    let made = c.in-Hit.ensures.made in
+    let on = Matches-forward (expression_tree c.args.subject.prepared.now.arena.expr) c.args.subject.text.now _ _ made.answer.0.spans in
+    (made.cost.0, trials_each _ _ c.args.from _ (c.in-Hit.first + 1) c.args.seeking.now.tried c.args.steps.now c.try_all.new.steps (omega (arith, c.args.subject.prepared.now.is_prepared.last)) c.requires.from (omega (arith, on, made.answer.1)) made.few made.cost.1)
 
 pub returns-in-Nothing-clause-cost : goal.returns-in-Nothing-clause-cost
 returns-in-Nothing-clause-cost c =
@@ -39,13 +37,14 @@ returns-in-Nothing-clause-cost c =
     let made = c.in-Nothing.ensures.made in
     let low : c.args.seeking.now.tried ≤ n = omega (arith, c.if-seeking-len.true, c.len.ensures.is) in
     let old = unbegun m n c.args.seeking.now c.args.from c.if-not-seeking.true in
-    let cost = nothing_cost m n c.args.from c.args.seeking.now.tried c.try_all.new.tried c.args.steps.now c.try_all.new.steps (omega (arith, c.args.subject.prepared.now.is_prepared.last)) c.requires.from low (omega (arith, made.few, low)) made.cost.1 in
-    (made.cost.0, omega (arith, cost, old))
+    let left = tried_left m n c.args.seeking.now.tried c.try_all.new.tried c.args.steps.now c.try_all.new.steps (3 * c.args.from) (3 * (n + 1)) low (omega (arith, made.few, low)) made.cost.1 in
+    let some : 1 ≤ m = omega (arith, c.args.subject.prepared.now.is_prepared.last) in
+    (made.cost.0, omega (arith, left, mul-le-mul_left (n - c.args.from) some, old))
 
 pub returns-in-Nothing-clause-each : goal.returns-in-Nothing-clause-each
 returns-in-Nothing-clause-each c =
     let made = c.in-Nothing.ensures.made in
-    (made.cost.0, nothing_each _ _ c.args.from c.args.seeking.now.tried c.try_all.new.tried c.args.steps.now c.try_all.new.steps (omega (arith, c.args.subject.prepared.now.is_prepared.last)) c.requires.from made.few made.cost.1)
+    (made.cost.0, trials_each _ _ c.args.from c.try_all.new.tried _ c.args.seeking.now.tried c.args.steps.now c.try_all.new.steps (omega (arith, c.args.subject.prepared.now.is_prepared.last)) c.requires.from (omega arith) made.few made.cost.1)
 
 -- where the pass from the text's end goes on
 

@@ -1,7 +1,7 @@
 use Rattle.std.proofs.Common.{◌+◌, take}
 use Rattle.sedre.specs.Tree.{expression_tree}
 use Rattle.sedtext.specs.Links.{AreAlternatives}
-use Rattle.sedtext.proofs.BranchLemmas.{branches_last, branches_more}
+use Rattle.sedtext.proofs.BranchLemmas.{branches_more}
 use Rattle.sedtext.proofs.branches.branches_of.Goals as goal
 
 pub loop-turn-preserved : goal.loop-turn-preserved
@@ -14,8 +14,3 @@ loop-turn-preserved c =
           (c.lead-fixed.result + 1) c.loop-turn.invariant.left c.in_ok-push.ensures.items ways;
       within = ways.within.1;
     }
-
-pub returns : goal.returns
-returns c = record {
-  branches = branches_last c.args.expr.now.nodes (expression_tree c.args.expr.now) c.loop-turn.branches.items c.push-2.new.self.items c.loop-turn.chain c.loop-turn.invariant.left c.in_ok-push-2.ensures.items;
-}

@@ -1,8 +1,9 @@
+use Rattle.std.proofs.lemmas.Grind.{common_steps}
 use Rattle.std.proofs.Common.{◌≡◌, ◌-◌, length, Some, suc, drop, refl, sym, ◌∙◌, subst, arith}
 use Rattle.std.specs.Prelude.{slice_get}
 use Rattle.std.proofs.lemmas.Option.{slice_get_read}
 use Rattle.sedtext.specs.declared.links.Link.TheVariants.{Byte}
-use Rattle.sedtext.proofs.BranchLemmas.{AllLeadTo, lead_more, led_to, member_behind}
+use Rattle.sedtext.proofs.BranchLemmas.{AllLeadTo, lead_more, member_behind}
 use Rattle.sedtext.proofs.branches.set_at.Goals as goal
 
 pub loop-x-preserved : goal.loop-x-preserved
@@ -17,10 +18,10 @@ loop-x-preserved c =
     let bytes = rw c.deref-in-loop-x.ensures.value at c.lead.ensures.sets in
     record {
       within = omega arith;
-      lead = lead_more cs x c.args.offset chain set c.loop-x.members c.joined.result (omega arith) c.index-branches-x.is
+      lead = lead_more cs x c.args.offset chain set c.loop-x.members c.union-members.result (omega arith) c.index-branches-x.is
           (λ nodes w i at. member_behind nodes w c.args.offset c.lead.result chain.items set bytes (omega arith) is i at.0 at.1)
-          (subst (λ v. AllLeadTo (drop v cs) c.args.offset c.loop-x.members) next c.loop-x.invariant.lead) c.joined.ensures.members c.joined.ensures.more;
+          (subst (λ v. AllLeadTo (drop v cs) c.args.offset c.loop-x.members) next c.loop-x.invariant.lead) c.union-members.ensures.members;
     }
 
 pub returns : goal.returns
-returns c = led_to c.args.branches.now c.args.offset c.loop-x.x c.loop-x.members (omega arith) c.loop-x.invariant.lead
+returns c nodes e are w i j at = grind (arith, common_steps)

@@ -1,9 +1,6 @@
 use Rattle.std.proofs.Common.{rules}
-use Rattle.sedtext.proofs.LinkLemmas.{all_left, left_behind, left_inner, left_parts, none_left}
+use Rattle.sedtext.proofs.LinkLemmas.{left_behind, left_inner, left_parts}
 use Rattle.sedtext.proofs.links.continued.Goals as goal
-
-pub loop-index-init : goal.loop-index-init
-loop-index-init c = record { left = all_left _ _ _ c.in_ok-links.links.items _ _ (search rules) c.new-rest.ensures.items c.in_ok-push.ensures.items c.requires.inside; within = search rules }
 
 pub loop-index-smaller-in-Continue-branch-4 : goal.loop-index-smaller-in-Continue-branch-4
 loop-index-smaller-in-Continue-branch-4 c = (left_parts _ _ _ _ _ _ _ c.in-Some.ensures.items c.loop-index.invariant.left c.look-node.ensures.arena c.in-Seq.left c.in-Seq.right _ _ (cc) (rw c.index.ensures at c.in_ok-push-in-Seq.ensures.items) (rw c.index-in-Seq.ensures at c.in_ok-push-in-Seq-2.ensures.items)).1
@@ -31,6 +28,3 @@ loop-index-preserved c = record {
   left = (left_behind _ _ _ _ _ _ _ c.in-Some.ensures.items c.loop-index.invariant.left _ _ c.link_of.ensures.leads c.in_ok-push-in_default-node.ensures.items).0;
   within = search rules;
 }
-
-pub returns : goal.returns
-returns c = none_left _ _ _ _ _ (search rules) c.loop-index.invariant.left c.loop-index.invariant.within

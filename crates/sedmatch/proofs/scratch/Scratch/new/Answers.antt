@@ -21,5 +21,6 @@ invariant_of-result c =
         shared = shared.tables;
         few = omega (arith, edges, few);
       },
-      (c.in_ok-prepared.ensures.nodes, c.in_ok-prepared.ensures.facts),
+      c.in_ok-prepared.ensures.nodes,
+      c.in_ok-prepared.ensures.facts,
     )

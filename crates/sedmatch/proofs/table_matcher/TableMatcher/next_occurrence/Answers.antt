@@ -1,11 +1,54 @@
-use Rattle.std.proofs.Common.{length, ap, rules}
-use Rattle.sedre.specs.Tree.{expression_tree}
-use Rattle.sedtext.proofs.FollowingLemmas.{if_occurs}
-use Rattle.sedmatch.specs.Occurrences.{AnswersNext}
+use Rattle.std.proofs.Common.{◌≡◌, ◌∙◌, ℕ, zero, suc, ◌+◌, ◌-◌, ◌*◌, ◌≤◌, Bool, true, false, List, Option, Some, None, IfSome, IsTrue, refl, ap, arith, mul-le-mul_left, mul-add, length, rules}
+use Rattle.std.proofs.Math.Nat.{mul-le-mul_right}
+use Rattle.sedre.specs.Steps.{Takes, CostsWithin}
+use Rattle.sedre.specs.Tree.{WrittenExpression, expression_tree}
+use Rattle.sedtext.specs.Following.{LiesOn}
+use Rattle.sedpass.proofs.OccurrenceLemmas.{search_falls}
+use Rattle.sedmatch.proofs.OccurrenceLemmas.{owed_as}
+use Rattle.sedmatch.specs.Occurrences.{ServesFrom, ServesOn, owed, owed_after, owed_direct, AnswersNext}
 use Rattle.sedmatch.specs.Passes.{searched_expression}
-use Rattle.sedmatch.proofs.MatcherLemmas.{direct_is, direct_once, direct_owed, passes_are, serves_same}
-use Rattle.sedmatch.proofs.table_matcher.TableMatcher.next_occurrence.Goals as goal
+use Rattle.sedmatch.specs.declared.occurrences.Occurrences.{Occurrences}
+use Rattle.sedpass.specs.Search.{owed_after_search}
+use Rattle.sedtext.proofs.FollowingLemmas.{if_occurs}
+use Rattle.sedmatch.proofs.MatcherLemmas.{direct_is, passes_are}
 use Rattle.sedmatch.proofs.table_matcher.TableMatcher.next_occurrence.Goals.{in-Direct, in-Passes}
+use Rattle.sedmatch.proofs.table_matcher.TableMatcher.next_occurrence.Goals as goal
+
+-- a node at least pays for looks
+direct_owed : (m n : ℕ) (last : Option ℕ) (o : Occurrences) (r : Option (ℕ × ℕ)) (s t : ℕ) → 1 ≤ m → (last ≡ None → IsTrue o.is_fresh) → IfSome r (LiesOn n last) → CostsWithin s t (owed_direct n last) (owed_after_search (λ q. owed_direct n (Some q)) r) →
+    CostsWithin s t (owed m n last o) (owed_after m n r o)
+direct_owed m n None o None s t some fresh lies pays = (pays.0, omega (arith, mul-le-mul_right (n + 1) some, pays.1))
+direct_owed m n None o (Some f) s t some fresh lies pays = (pays.0, omega (arith, mul-le-mul_right (n + 1) some, owed_as m n f.1 o true (fresh refl), pays.1))
+direct_owed m n (Some q) o r s t some fresh lies pays = (pays.0, by o.is_fresh refl r lies pays.1)
+  where
+    by : (b : Bool) → o.is_fresh ≡ b → (r : Option (ℕ × ℕ)) → IfSome r (LiesOn n (Some q)) → t + owed_after_search (λ q. owed_direct n (Some q)) r ≤ s + owed_direct n (Some q) → t + owed_after m n r o ≤ s + owed m n (Some q) o
+    by true is None lies h = omega (arith, owed_as m n q o true is, h)
+    by true is (Some f) lies h = omega (arith, owed_as m n q o true is, owed_as m n f.1 o true is, h)
+    by false is None lies h = omega (arith, owed_as m n q o false is, mul-le-mul_right (n + 1 - q) some, h)
+    by false is (Some f) lies h =
+        let up : q ≤ f.1 = omega (arith, lies.2.1) in
+        let rest : n + 1 - q ≡ n + 1 - f.1 + (f.1 - q) = omega (arith, up, lies.1) in
+        let all : 86 * m * (n + 1 - q) ≡ 86 * m * (n + 1 - f.1) + 86 * m * (f.1 - q) = ap (λ x. 86 * m * x) rest ∙ mul-add (86 * m) (n + 1 - f.1) (f.1 - q) in
+        omega (arith, rest, all, mul-le-mul_right (f.1 - q) some, search_falls m n o.seeking q f.1 up, owed_as m n q o false is, owed_as m n f.1 o false is, h)
+
+one_call : (m n : ℕ) → 1 ≤ m → 12 * (n + 1) ≤ 64 * m * m * (n + 1) * (n + 1)
+one_call zero n some = omega (arith, some)
+one_call (suc m) n some =
+    let one : 1 ≤ n + 1 = omega arith in
+    let a = mul-le-mul_left (64 * suc m * suc m * (n + 1)) one in
+    let b : 1 ≤ suc m = omega arith in
+    let c = mul-le-mul_left (64 * suc m * (n + 1)) b in
+    omega (arith, a, c)
+
+-- and one call by itself
+direct_once : (m n : ℕ) (last : Option ℕ) (r : Option (ℕ × ℕ)) (s t : ℕ) → 1 ≤ m → CostsWithin s t (owed_direct n last) (owed_after_search (λ q. owed_direct n (Some q)) r) → Takes s t (64 * m * m * (n + 1) * (n + 1))
+direct_once m n None r s t some pays = (pays.0, (let h = pays.1 in let k = one_call m n some in omega (arith, h, k)))
+direct_once m n (Some q) r s t some pays = (pays.0, (let h = pays.1 in let k = one_call m n some in omega (arith, h, k)))
+
+-- what is kept serves on, where it was not looked at
+serves_same : (e : WrittenExpression) (w : List ℕ) (last : Option ℕ) (o : Occurrences) (r : Option (ℕ × ℕ)) → ServesFrom e w last o → ServesOn e w r o o
+serves_same e w last o None serves = ((refl, λ text es sought room. room), tt)
+serves_same e w last o (Some f) serves = ((refl, λ text es sought room. room), record { room = serves.room; fresh = λ h. cc; used = serves.used })
 
 answered : (c : goal.Joined-self) → AnswersNext c.args.self.now c.args.text.now c.args.last c.args.occurrences.now c.match-self.occurrences c.args.steps.now c.match-self.steps c.match-self.result
 answered c =
@@ -21,8 +64,8 @@ answered c =
             next = next.next e is;
             occurs = if_occurs (expression_tree e) c.args.text.now c.args.last r c.requires.last (next.next e is) next.lies;
             serves = serves_same e c.args.text.now c.args.last c.args.occurrences.now r c.requires.serves;
-            cost = direct_owed (length e.nodes) (length c.args.text.now) c.args.last c.args.occurrences.now r s t is.2 c.requires.serves.fresh next.lies next.cost;
-            once = direct_once (length e.nodes) (length c.args.text.now) c.args.last r s t is.2 next.cost;
+            cost = direct_owed (length e.nodes) (length c.args.text.now) c.args.last c.args.occurrences.now r s t is.2.arena.nonempty c.requires.serves.fresh next.lies next.cost;
+            once = direct_once (length e.nodes) (length c.args.text.now) c.args.last r s t is.2.arena.nonempty next.cost;
             counts = next.counts;
             passes = next.passes e is;
           }

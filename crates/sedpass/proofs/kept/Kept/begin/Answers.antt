@@ -1,5 +1,4 @@
-use Rattle.std.proofs.Common.{length, arith}
-use Rattle.sedpass.proofs.OwedLemmas.{owed_small}
+use Rattle.std.proofs.Common.{arith}
 use Rattle.sedpass.proofs.kept.Kept.begin.Goals as goal
 
 pub returns-clause-kept : goal.returns-clause-kept
@@ -20,6 +19,3 @@ returns-clause-kept c =
       live = λ q after before. absurd (omega (arith, after, before));
       edges = λ b above below. absurd (omega (arith, above, below));
     }
-
-pub returns-clause-owed : goal.returns-clause-owed
-returns-clause-owed c i up = owed_small (length c.args.subject.prepared.now.arena.expr.nodes) (record { root = c.args.root; end = c.args.end; low = c.args.end; from = c.args.end; to = c.args.end }) i

@@ -1,15 +1,14 @@
-use Rattle.std.proofs.Common.{◌+◌, ◌-◌, ◌*◌, ◌≤◌, length}
-use Rattle.sedpass.proofs.Words.{TakesAtLeast, CostsWithin}
-use Rattle.sedpass.specs.Table.{IsOffset, IsTable, SameShape}
+use Rattle.std.proofs.Common.{◌+◌, ◌-◌, ◌*◌, length}
+use Rattle.sedpass.proofs.Words.{Ascending, TakesAtLeast, CostsWithin}
+use Rattle.sedpass.specs.Table.{IsForwardOne, IsOffset, SameShape}
 use Rattle.sedpass.specs.Kept.{Follows, KeepsRegion, Meet, owed_region}
 use Rattle.sedpass.proofs.kept.Kept.cut.Given as goal
 
 abbrev pub invariant-loop-place : goal.invariant-loop-place
 invariant-loop-place l = record {
-  above : l.from ≤ l.place;
-  below : l.place ≤ l.self.region.end;
+  order : Ascending l.from l.place l.self.region.end;
   keeps : KeepsRegion l.subject.prepared.now l.subject.text.now l.initial.table l.table l.fn.self l.self;
-  forward_one : IsTable l.subject.prepared.now l.forward_one;
+  forward_one : IsForwardOne l.subject.prepared.now l.forward_one;
   forward_one_shape : SameShape l.initial.forward_one l.forward_one;
   offset : IsOffset l.forward_one l.offset;
   follows : Follows l.subject.prepared.now l.subject.text.now l.forward_one l.a l.from l.place l.offset;

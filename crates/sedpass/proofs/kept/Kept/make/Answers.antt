@@ -1,10 +1,10 @@
-use Rattle.std.proofs.Common.{◌≡◌, ◌≢◌, ℕ, ◌+◌, ◌-◌, ◌*◌, ◌/◌, ◌^◌, ◌≤◌, length, refl, ap, ◌∙◌, arith}
+use Rattle.std.proofs.Common.{◌≡◌, ◌≢◌, ℕ, ◌+◌, ◌-◌, ◌*◌, ◌/◌, ◌^◌, ◌≤◌, length, mul-le-mul_left, refl, ap, ◌∙◌, arith}
 use Rattle.sedre.specs.Steps.{Takes}
 use Rattle.sedpass.proofs.Words.{KeepsRows, row_of}
 use Rattle.sedpass.specs.Rows.{bits, leaves_row, ends_row}
 use Rattle.sedpass.specs.Kept.{EdgesFrom, PassesDownTo, SameKept}
 use Rattle.sedpass.proofs.RowLemmas.{copied_rows, keeps_then}
-use Rattle.sedpass.proofs.KeptLemmas.{block_cost, block_right, edges_more, edges_none, edges_same, kept_passed, make_cost, passes_with, same_kept, same_shape, same_by}
+use Rattle.sedpass.proofs.KeptLemmas.{block_right, edges_more, edges_none, edges_same, kept_passed, make_cost, region_kept, same_kept, same_shape, same_by}
 use Rattle.sedpass.proofs.Words.{div-mul-le_self, least_both, least_since}
 use Rattle.sedpass.proofs.kept.Kept.make.Goals.{After-max-least, then-place-end, else-place-end}
 use Rattle.sedpass.proofs.kept.Kept.make.Goals as goal
@@ -12,9 +12,6 @@ use Rattle.sedpass.proofs.kept.Kept.make.Goals as goal
 -- the rows of the block alone have changed
 abbrev Elsewhere : ℕ → ℕ → Type 0
 Elsewhere block q = (q ≢ 2 * block) × (q ≢ 2 * block + 1)
-
-pub loop-place-smaller : goal.loop-place-smaller
-loop-place-smaller c = omega (arith, div-mul-le_self (c.loop-place.place - 1) (c.loop-place.table.room - 1), c.loop-place-test.true)
 
 -- where the place is a block's right end, its row is kept
 edge_kept : (c : After-max-least) → PassesDownTo c.args.subject.prepared.now c.args.subject.text.now c.loop-place.table c.if-place-end.self c.loop-place.place c.loop-place.offset
@@ -43,11 +40,19 @@ edge_kept c =
           let copied = copied_rows m c.nodes-nodes.result (2 * block) (2 * block + 1) v.copy.new.self v.copy-then-place-end.new.self (row_of t.rows v.leaves_row.result) (row_of t.rows v.ends_row.result) c.nodes-nodes.ensures.value (λ e. omega arith) one.same two.keeps two.same in
           let leaves = v.leaves_row.ensures ∙ ap leaves_row v.state_at-state.ensures in
           let ends = v.ends_row.ensures ∙ ap ends_row v.state_at-state.ensures in
+          let same : SameKept k (record k { edges = v.copy-then-place-end.new.self }) = record { root = refl; end = refl; space = record { places = refl; edges = keeps.len; marks = keeps.lens } } in
           rw (v.self-is, v.steps-is) (
-            passes_with (Elsewhere block) p w t k v.copy-then-place-end.new.self place c.loop-place.offset keeps old.passes,
-            edges_more p w t.way k.region.root k.region.end width block k.edges v.copy-then-place-end.new.self (row_of t.rows (leaves_row q)) (row_of t.rows (ends_row q)) (omega (arith, some)) keeps
+            record {
+              region = region_kept p w t t k (record k { edges = v.copy-then-place-end.new.self }) (refl, refl, refl, refl, refl) old.passes.region.table same refl old.passes.region.within old.passes.region;
+              within = old.passes.within;
+              above = old.passes.above;
+              there = old.passes.there;
+              at = old.passes.at;
+              live = old.passes.live;
+            },
+            edges_more p w t.way.all_starts k.region.root k.region.end width block k.edges v.copy-then-place-end.new.self (row_of t.rows (leaves_row q)) (row_of t.rows (ends_row q)) (omega (arith, some)) keeps
                 (copied.0 ∙ ap (λ r. bits m (row_of t.rows r)) leaves, copied.1 ∙ ap (λ r. bits m (row_of t.rows r)) ends) (rw (← at) old.passes.at.1) (rw (← at) old.edges),
-            record { root = refl; end = refl; space = record { places = refl; edges = keeps.len; marks = keeps.lens } },
+            same,
             (omega (arith, one.cost.0, two.cost.0), omega (arith, c.nodes-nodes.ensures.value, one.cost.1, two.cost.1)),
           )
       | else-place-end v ↦ rw (v.self-is, v.steps-is) (
@@ -76,9 +81,9 @@ loop-place-preserved c =
     let now = c.pass-offset.ensures in
     let least = c.max-least.result in
     let on = c.loop-place-test.true in
+    let less : least + 1 ≤ c.loop-place.place = omega arith in
     record {
-      order = omega arith;
-      below = (let h = before.below in omega (arith, h));
+      order = (omega arith, omega (arith, before.order.1));
       end_is = now.down.same.end ∙ edge.2.end ∙ before.end_is;
       passes = now.down.passes;
       edges = edges_same c.args.subject.prepared.now c.args.subject.text.now c.loop-place.table c.pass-offset.new.table c.if-place-end.self c.pass-offset.new.self _ least
@@ -87,8 +92,8 @@ loop-place-preserved c =
       shape = same_shape c.edge_state-offset.new.table c.loop-place.table c.pass-offset.new.table before.shape now.down.shape;
       same = same_kept _ c.if-place-end.self c.pass-offset.new.self (same_kept _ c.loop-place.self c.if-place-end.self before.same edge.2) now.down.same;
       to = λ below. now.to;
-      cost = ((let h = before.cost.0 in let g = edge.3.0 in let f = now.cost.0 in omega (arith, h, g, f)), (let h = before.cost.1 in let g = block_cost _ least c.loop-place.place c.loop-place.steps c.if-place-end.steps c.pass-offset.new.steps (omega arith) edge.3.1 now.cost.1 in omega (arith, h, g)));
-      counts = least_both _ c.loop-place.steps _ _ (2 * (c.loop-place.place - least)) _ before.counts (least_since _ c.if-place-end.steps _ _ edge.3.0 now.counts) (let h = before.below in omega (arith, h));
+      cost = ((let h = before.cost.0 in let g = edge.3.0 in let f = now.cost.0 in omega (arith, h, g, f)), omega (arith, before.cost.1, edge.3.1, now.cost.1, mul-le-mul_left (4 * length c.args.subject.prepared.now.arena.expr.nodes) less));
+      counts = least_both _ c.loop-place.steps _ _ (2 * (c.loop-place.place - least)) _ before.counts (least_since _ c.if-place-end.steps _ _ edge.3.0 now.counts) (omega (arith, before.order.1));
     }
 
 pub returns-clause-keeps : goal.returns-clause-keeps
@@ -102,8 +107,7 @@ returns-clause-keeps c =
     record {
       kept = kept_passed p w c.loop-place.table c.loop-place.self _ c.loop-place.place c.loop-place.offset last.passes edges (omega arith) (omega arith) refl refl refl refl refl;
       shape = same_shape c.args.table.now c.edge_state-offset.new.table c.loop-place.table first.adds.shape last.shape;
-      same = same_kept c.args.self.now c.loop-place.self _
-          (same_kept c.args.self.now _ c.loop-place.self (same_by c.args.self.now _ (ap (λ r. r.root) first.region) (ap (λ r. r.end) first.region) first.states first.edges) last.same) (same_by c.loop-place.self _ refl refl refl refl);
+      same = same_kept c.args.self.now c.loop-place.self _ (same_kept c.args.self.now _ c.loop-place.self (same_by c.args.self.now _ refl refl refl refl) last.same) (same_by c.loop-place.self _ refl refl refl refl);
     }
 
 pub returns-clause-cost : goal.returns-clause-cost

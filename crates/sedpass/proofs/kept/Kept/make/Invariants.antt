@@ -1,13 +1,12 @@
-use Rattle.std.proofs.Common.{◌≡◌, ℕ, ◌-◌, ◌*◌, ◌<◌, ◌≤◌, length}
-use Rattle.sedpass.proofs.Words.{TakesAtLeast, CostsWithin}
+use Rattle.std.proofs.Common.{◌≡◌, ℕ, ◌-◌, ◌*◌, ◌<◌, length}
+use Rattle.sedpass.proofs.Words.{Ascending, TakesAtLeast, CostsWithin}
 use Rattle.sedpass.specs.Table.{SameShape}
 use Rattle.sedpass.specs.Kept.{EdgesFrom, PassesDownTo, SameKept}
 use Rattle.sedpass.proofs.kept.Kept.make.Given as goal
 
 abbrev pub invariant-loop-place : goal.invariant-loop-place
 invariant-loop-place l = record {
-  order : l.low ≤ l.place;
-  below : l.place ≤ l.end;
+  order : Ascending l.low l.place l.end;
   end_is : l.self.region.end ≡ l.end;
   passes : PassesDownTo l.subject.prepared.now l.subject.text.now l.table l.self l.place l.offset;
   edges : EdgesFrom l.subject.prepared.now l.subject.text.now l.table l.self l.place;

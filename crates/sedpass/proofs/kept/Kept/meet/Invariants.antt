@@ -1,14 +1,13 @@
 use Rattle.std.proofs.Common.{ℕ, ◌-◌, ◌*◌, ◌≤◌, length}
-use Rattle.sedpass.proofs.Words.{TakesAtLeast, CostsWithin}
-use Rattle.sedpass.specs.Table.{IsOffset, IsTable, SameShape}
+use Rattle.sedpass.proofs.Words.{Ascending, TakesAtLeast, CostsWithin}
+use Rattle.sedpass.specs.Table.{IsForwardOne, IsOffset, SameShape}
 use Rattle.sedpass.specs.Kept.{Follows, Meet}
 use Rattle.sedpass.proofs.kept.Kept.meet.Given as goal
 
 abbrev pub invariant-loop-place : goal.invariant-loop-place
 invariant-loop-place l = record {
-  above : l.from ≤ l.place;
-  below : l.place ≤ l.self.region.to;
-  forward_one : IsTable l.subject.prepared.now l.forward_one;
+  order : Ascending l.from l.place l.self.region.to;
+  forward_one : IsForwardOne l.subject.prepared.now l.forward_one;
   shape : SameShape l.initial.forward_one l.forward_one;
   offset : IsOffset l.forward_one l.offset;
   meets : (a i : ℕ) → a ≤ l.self.region.root → i ≤ l.from → Follows l.subject.prepared.now l.subject.text.now l.initial.forward_one a i l.from l.initial.offset →

@@ -1,12 +1,11 @@
 use Rattle.std.proofs.Common.{◌≡◌, ◌+◌, ◌-◌, ◌*◌, ◌<◌, ◌≤◌, length}
-use Rattle.sedpass.proofs.Words.{TakesAtLeast, CostsWithin}
+use Rattle.sedpass.proofs.Words.{Ascending, TakesAtLeast, CostsWithin}
 use Rattle.sedpass.specs.Kept.{ComesDown}
 use Rattle.sedpass.proofs.kept.Kept.pass.Given as goal
 
 abbrev pub invariant-loop-place : goal.invariant-loop-place
 invariant-loop-place l = record {
-  order : l.low ≤ l.place;
-  below : l.place ≤ l.high;
+  order : Ascending l.low l.place l.high;
   down : ComesDown l.subject.prepared.now l.subject.text.now l.initial.table l.table l.initial.self l.self l.place l.offset;
   to : l.place < l.high → l.place < l.self.region.to;
   steady : l.initial.table.count + (l.high - l.low) ≤ l.initial.table.room →

@@ -2,15 +2,7 @@ use Rattle.std.proofs.Common.{◌+◌, ◌-◌, ◌*◌, ◌/◌, ◌<◌, ◌�
 use Rattle.std.proofs.Math.Nat.{lt-div-mul-add}
 use Rattle.sedpass.proofs.OwedLemmas.{owed_made, owed_again, owed_left}
 use Rattle.sedpass.proofs.kept.Kept.ready.Goals.{then-at-self, else-at-self+then-at-self-2, then-at-self-2-via-then-at-self-2, then-at-self-2-via-else-at-self-2+then-self-at, else-at-self+else-at-self-2+else-self-at}
-use Rattle.sedpass.proofs.KeptLemmas.{keeps_same}
 use Rattle.sedpass.proofs.kept.Kept.ready.Goals as goal
-
-pub returns-clause-keeps : goal.returns-clause-keeps
-returns-clause-keeps c = elim c.if-at-self.branch [
-  | then-at-self w ↦ rw (w.self-is, w.table-is) w.make.ensures.keeps
-  | else-at-self+then-at-self-2 w ↦ rw (w.self-is, w.table-is) w.remake.ensures.keeps
-  | else-at-self+else-at-self-2+else-self-at w ↦ rw (w.self-is, w.table-is) (keeps_same c.args.subject.prepared.now c.args.subject.text.now c.args.table.now c.args.self.now c.requires.kept)
-]
 
 pub returns-clause-cost : goal.returns-clause-cost
 returns-clause-cost c =

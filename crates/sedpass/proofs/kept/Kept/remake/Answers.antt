@@ -1,4 +1,4 @@
-use Rattle.std.proofs.Common.{◌≡◌, ◌+◌, ◌-◌, ◌*◌, ◌/◌, ◌<◌, ◌≤◌, refl, sym, ap, ◌∙◌, subst, arith, length}
+use Rattle.std.proofs.Common.{◌≡◌, ◌+◌, ◌-◌, ◌*◌, ◌/◌, ◌<◌, ◌≤◌, refl, sym, subst, arith, length}
 use Rattle.sedpass.proofs.Words.{div-mul-le_self, lt-div-mul-add, TakesAtLeast, least_since}
 use Rattle.sedpass.specs.Kept.{EdgesFrom, again}
 use Rattle.sedpass.proofs.KeptLemmas.{added_few, edges_same, kept_passed, same_by, same_kept, same_shape}
@@ -20,13 +20,10 @@ returns c =
     let w = c.args.subject.text.now in
     let now = c.pass.ensures in
     let old = c.edge_state-offset.ensures in
-    let low = now.down.low ∙ ap (λ r. r.low) old.region in
-    let root = ap (λ r. r.root) old.region in
-    let end = ap (λ r. r.end) old.region in
     let shape = same_shape c.args.table.now c.empty.new.self c.pass.new.table c.empty.ensures.shape (same_shape c.empty.new.self c.edge_state-offset.new.table c.pass.new.table old.adds.shape now.down.shape) in
     let edges : EdgesFrom p w c.pass.new.table c.pass.new.self c.pass.new.self.region.low =
-    edges_same p w c.args.table.now c.pass.new.table c.args.self.now c.pass.new.self c.args.self.now.region.low c.pass.new.self.region.low shape (now.down.edges ∙ old.edges)
-    (now.down.same.root ∙ root) (now.down.same.end ∙ end) (omega (arith, low)) c.requires.kept.edges in
+    edges_same p w c.args.table.now c.pass.new.table c.args.self.now c.pass.new.self c.args.self.now.region.low c.pass.new.self.region.low shape now.down.edges
+    now.down.same.root now.down.same.end (omega (arith, now.down.low)) c.requires.kept.edges in
     let m = length p.arena.expr.nodes in
     let width = c.args.table.now.room - 1 in
     let after : c.args.place < c.args.place / width * width + width = lt-div-mul-add (omega (arith, c.requires.kept.region.table.room.rows.some)) in
@@ -34,11 +31,11 @@ returns c =
     let to = to_end c in
     record {
       keeps = record {
-        kept = kept_passed p w c.pass.new.table c.pass.new.self c.pass.new.self c.args.place c.pass.result now.down.passes edges (let h = c.requires.low in omega (arith, low, h)) now.down.from refl refl refl refl refl;
+        kept = kept_passed p w c.pass.new.table c.pass.new.self c.pass.new.self c.args.place c.pass.result now.down.passes edges (let h = c.requires.low in omega (arith, now.down.low, h)) now.down.from refl refl refl refl refl;
         shape = shape;
-        same = same_kept c.args.self.now _ c.pass.new.self (same_by c.args.self.now _ root end old.states old.edges) now.down.same;
+        same = same_kept c.args.self.now _ c.pass.new.self (same_by c.args.self.now _ refl refl refl refl) now.down.same;
       };
-      low = low;
+      low = now.down.low;
       from = now.down.from;
       to = omega (arith, to);
       cost = (

@@ -1,8 +1,8 @@
 use Rattle.std.proofs.Common.{◌≡◌, ◌-◌, subst, arith, length, not}
 use Rattle.sedpass.proofs.Words.{least_both, least_since}
-use Rattle.sedpass.specs.Kept.{AllMarked, KeepsRegion, ends_shown, owed_region}
-use Rattle.sedpass.proofs.KeptLemmas.{keeps_then, marked_then, shown_as}
-use Rattle.sedpass.proofs.OwedLemmas.{owed_falls, seek_on}
+use Rattle.sedpass.specs.Kept.{AllMarked, KeepsRegion, ends_shown}
+use Rattle.sedpass.proofs.KeptLemmas.{holds_then, keeps_then, shown_as}
+use Rattle.sedpass.proofs.OwedLemmas.{owed_falls}
 use Rattle.sedpass.proofs.kept.Kept.seek.Goals.{After-seek_in-found}
 use Rattle.sedpass.proofs.kept.Kept.seek.Goals as goal
 
@@ -12,12 +12,11 @@ keeps c = keeps_then _ _ c.args.table.now c.loop-place.table c.ready-to.new.tabl
 
 -- and no place is marked as asked up to the one found
 passed : (c : After-seek_in-found) → AllMarked c.args.subject.prepared.now.arena.expr.nodes c.args.subject.text.now c.args.self.now.region.root
-    (ends_shown c.args.table.now.way.all_starts (length c.args.subject.text.now) c.args.self.now.region.end) c.args.x (not c.args.marked) c.args.from c.seek_in-found.result
+    (ends_shown c.args.table.now.way.all_starts c.args.self.now.region.end) c.args.x (not c.args.marked) c.args.from c.seek_in-found.result
 passed c =
     let nodes = c.args.subject.prepared.now.arena.expr.nodes in
     let w = c.args.subject.text.now in
-    marked_then nodes w c.args.self.now.region.root c.args.x (ends_shown c.args.table.now.way.all_starts (length w) c.args.self.now.region.end) (not c.args.marked) c.args.from c.loop-place.place c.seek_in-found.result
-    c.loop-place.invariant.passed
+    holds_then _ c.args.from c.loop-place.place c.seek_in-found.result c.loop-place.invariant.passed
     (shown_as (λ r t. AllMarked nodes w r t c.args.x (not c.args.marked) c.loop-place.place c.seek_in-found.result) _ w c.args.table.now c.ready-to.new.table c.args.self.now c.ready-to.new.self (keeps c) c.seek_in-found.ensures.passed)
 
 pub loop-place-preserved : goal.loop-place-preserved
@@ -30,20 +29,17 @@ loop-place-preserved c =
     let seek = c.seek_in-found.ensures in
     let up = ready.to.1 in
     let is = ready.to.0 in
-    let at : c.seek_in-found.result ≡ c.ready-to.result = (let h = seek.within in let g = c.if-found-to.false in omega (arith, h, g, is)) in
+    let at : c.seek_in-found.result ≡ c.ready-to.result = omega (arith, seek.order.1, c.if-found-to.false, is) in
     let here = (goal.at.loop-place-preserved c).After-seek_in-found in
     record {
-      above = (let h = before.above in omega (arith, h, up));
-      below = (let h = ready.keeps.kept.region.within in omega (arith, h, is));
+      order = (omega (arith, before.order.0, up), omega (arith, ready.keeps.kept.region.within, is));
       keeps = keeps here;
-      passed = subst (λ y. AllMarked nodes w c.args.self.now.region.root (ends_shown c.args.table.now.way.all_starts (length w) c.args.self.now.region.end) c.args.x (not c.args.marked) c.args.from y) at (passed here);
+      passed = subst (λ y. AllMarked nodes w c.args.self.now.region.root (ends_shown c.args.table.now.way.all_starts c.args.self.now.region.end) c.args.x (not c.args.marked) c.args.from y) at (passed here);
       cost = (
         (let h = before.cost.0 in let g = ready.cost.0 in let f = seek.cost.0 in omega (arith, h, g, f)),
-        seek_on (owed_region m c.args.self.now.region c.args.from) (owed_region m c.loop-place.self.region c.loop-place.place) (owed_region m c.ready-to.new.self.region c.loop-place.place)
-            (owed_region m c.ready-to.new.self.region c.ready-to.result) c.loop-place.steps c.args.steps.now c.ready-to.new.steps c.seek_in-found.new.steps c.args.from c.loop-place.place c.ready-to.result
-            before.cost.1 ready.cost.1 (let h = seek.cost.1 in omega (arith, h, at)) (owed_falls m c.ready-to.new.self.region c.loop-place.place c.ready-to.result (omega (arith, up))) up,
+        omega (arith, before.cost.1, ready.cost.1, seek.cost.1, at, owed_falls m c.ready-to.new.self.region c.loop-place.place c.ready-to.result (omega (arith, up)), up),
       );
-      counts = least_both _ c.loop-place.steps _ _ (c.seek_in-found.result - c.loop-place.place) _ before.counts (least_since _ c.ready-to.new.steps _ _ ready.cost.0 seek.counts) (omega (arith, before.above, seek.after, at));
+      counts = least_both _ c.loop-place.steps _ _ (c.seek_in-found.result - c.loop-place.place) _ before.counts (least_since _ c.ready-to.new.steps _ _ ready.cost.0 seek.counts) (omega (arith, before.order.0, seek.order.0, at));
     }
 
 pub returns-then-found-to-clause-passed : goal.returns-then-found-to-clause-passed

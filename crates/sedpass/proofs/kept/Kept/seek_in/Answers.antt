@@ -1,7 +1,7 @@
-use Rattle.std.proofs.Common.{◌↔◌, IsTrue, arith, length, not}
+use Rattle.std.proofs.Common.{◌↔◌, IsTrue, arith, not}
 use Rattle.sedpass.specs.Kept.{ends_shown}
 use Rattle.sedpass.specs.Regions.{ReachesEnd}
-use Rattle.sedpass.proofs.KeptLemmas.{as_asked, kept_mark, marked_on, not_asked}
+use Rattle.sedpass.proofs.KeptLemmas.{as_asked, holds_on, kept_mark, not_asked}
 use Rattle.sedtext.proofs.CountLemmas.{least_both, least_counted}
 use Rattle.sedpass.proofs.kept.Kept.seek_in.Goals as goal
 
@@ -11,8 +11,8 @@ returns-then-get-marked-clause-found c before =
     let w = c.args.subject.text.now in
     let t = c.args.table.now in
     let k = c.args.self.now in
-    as_asked (ReachesEnd p.arena.expr.nodes w k.region.root (ends_shown t.way.all_starts (length w) k.region.end) c.args.x c.loop-place.place) c.get.result c.args.marked c.if-get-marked.true
-    (kept_mark p w t k c.args.x c.loop-place.place c.index.result.now c.ends_row-ends.result c.get.result c.requires.kept c.requires.x (omega (arith, c.loop-place.invariant.above, c.requires.from)) before c.index.ensures c.ends_row-ends.ensures c.get.ensures.mark)
+    as_asked (ReachesEnd p.arena.expr.nodes w k.region.root (ends_shown t.way.all_starts k.region.end) c.args.x c.loop-place.place) c.get.result c.args.marked c.if-get-marked.true
+    (kept_mark p w t k c.args.x c.loop-place.place c.index.result.now c.ends_row-ends.result c.get.result c.requires.kept c.requires.x (omega (arith, c.loop-place.invariant.order.0, c.requires.from)) before c.index.ensures c.ends_row-ends.ensures c.get.ensures.mark)
 
 pub loop-place-preserved : goal.loop-place-preserved
 loop-place-preserved c =
@@ -21,17 +21,16 @@ loop-place-preserved c =
     let t = c.args.table.now in
     let k = c.args.self.now in
     let old = c.loop-place.invariant in
-    let above = old.above in
+    let above = old.order.0 in
     let before = c.loop-place-test.true in
-    let here : IsTrue (not c.args.marked) ↔ ReachesEnd p.arena.expr.nodes w k.region.root (ends_shown t.way.all_starts (length w) k.region.end) c.args.x c.loop-place.place =
-    not_asked (ReachesEnd p.arena.expr.nodes w k.region.root (ends_shown t.way.all_starts (length w) k.region.end) c.args.x c.loop-place.place) c.get.result c.args.marked c.if-get-marked.false
+    let here : IsTrue (not c.args.marked) ↔ ReachesEnd p.arena.expr.nodes w k.region.root (ends_shown t.way.all_starts k.region.end) c.args.x c.loop-place.place =
+    not_asked (ReachesEnd p.arena.expr.nodes w k.region.root (ends_shown t.way.all_starts k.region.end) c.args.x c.loop-place.place) c.get.result c.args.marked c.if-get-marked.false
     (kept_mark p w t k c.args.x c.loop-place.place c.index.result.now c.ends_row-ends.result c.get.result c.requires.kept c.requires.x (omega (arith, above, c.requires.from)) before c.index.ensures c.ends_row-ends.ensures c.get.ensures.mark) in
     record {
-      above = omega (arith, above);
-      below = omega (arith, before);
-      passed = marked_on p.arena.expr.nodes w k.region.root c.args.x (ends_shown t.way.all_starts (length w) k.region.end) (not c.args.marked) c.args.from c.loop-place.place old.passed here;
-      cost = ((let h = old.cost.0 in let g = c.get.ensures.cost.0 in omega (arith, h, g)), (let h = old.cost.1 in let g = c.get.ensures.cost.1 in omega (arith, h, g)));
-      counts = least_both _ _ _ _ 1 _ old.counts (least_counted _ _ 1 1 c.get.ensures.counts (omega arith)) (omega (arith, above));
+      order = (omega (arith, above), omega (arith, before));
+      passed = holds_on _ c.args.from c.loop-place.place old.passed here;
+      cost = ((let h = old.cost.0 in let g = c.get.ensures.cost.0.0 in omega (arith, h, g)), (let h = old.cost.1 in let g = c.get.ensures.cost.0.1 in omega (arith, h, g)));
+      counts = least_both _ _ _ _ 1 _ old.counts (least_counted _ _ 1 1 c.get.ensures.cost (omega arith)) (omega (arith, above));
     }
 
 pub returns-clause-passed : goal.returns-clause-passed

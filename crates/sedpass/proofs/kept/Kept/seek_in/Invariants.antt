@@ -1,14 +1,13 @@
-use Rattle.std.proofs.Common.{◌-◌, ◌≤◌, length, not}
-use Rattle.sedpass.proofs.Words.{TakesAtLeast, CostsWithin}
+use Rattle.std.proofs.Common.{◌-◌, not}
+use Rattle.sedpass.proofs.Words.{Ascending, TakesAtLeast, CostsWithin}
 use Rattle.sedpass.specs.Kept.{AllMarked, ends_shown}
 use Rattle.sedpass.proofs.kept.Kept.seek_in.Given as goal
 
 abbrev pub invariant-loop-place : goal.invariant-loop-place
 invariant-loop-place l = record {
-  above : l.from ≤ l.place;
-  below : l.place ≤ l.self.region.to;
+  order : Ascending l.from l.place l.self.region.to;
   passed : AllMarked l.subject.prepared.now.arena.expr.nodes l.subject.text.now l.self.region.root
-      (ends_shown l.table.way.all_starts (length l.subject.text.now) l.self.region.end) l.x (not l.marked) l.from l.place;
+      (ends_shown l.table.way.all_starts l.self.region.end) l.x (not l.marked) l.from l.place;
   cost : CostsWithin l.initial.steps l.steps l.place l.from;
   counts : TakesAtLeast l.initial.steps l.steps (l.place - l.from);
 }

@@ -1,8 +1,9 @@
-use Rattle.std.proofs.Common.{◌≡◌, ◌<◌, ◌↔◌, sym, ap, ◌∙◌, subst, IsTrue, arith, false}
+use Rattle.std.proofs.Common.{◌≡◌, ◌↔◌, sym, ap, ◌∙◌, subst, IsTrue, arith, false}
 use Rattle.sedpass.proofs.Words.{HasSpan, one_start}
-use Rattle.sedpass.specs.Regions.{IsLastIn}
-use Rattle.sedpass.proofs.LeaveLemmas.{last_inside}
-use Rattle.sedpass.proofs.KeptLemmas.{kept_rows, mark_spans}
+use Rattle.sedpass.specs.Kept.{ends_shown}
+use Rattle.sedpass.specs.Regions.{IsLastIn, ReachesEnd}
+use Rattle.sedpass.proofs.LeaveLemmas.{last_inside, reaches_ends}
+use Rattle.sedpass.proofs.KeptLemmas.{kept_mark, kept_rows}
 use Rattle.sedpass.proofs.kept.Kept.spans.Goals as goal
 
 pub is_null-requires : goal.is_null-requires
@@ -21,12 +22,25 @@ get-requires c =
 pub returns-clause-spans : goal.returns-clause-spans
 returns-clause-spans c =
     let p = c.args.subject.prepared.now in
+    let nodes = p.arena.expr.nodes in
     let w = c.args.subject.text.now in
     let k = c.ready.new.self in
     let t = c.ready.new.table in
     let ready = c.ready.ensures in
-    let before : c.args.place < k.region.to = omega (arith, ready.to.0, ready.to.1) in
+    let kept = ready.keeps.kept in
+    let arena = kept.region.table.expr.arena in
+    let last = subst (λ r. IsLastIn nodes r c.args.x) (sym ready.keeps.same.root) c.requires.last in
+    let up = last_inside nodes w k.region.root (one_start 0) arena c.args.x last in
+    let shows = kept_mark p w t k c.args.x c.args.place c.index.result.now c.ends_row-ends.result c.get.result kept (omega (arith, kept.region.root.0, up)) ready.from (omega (arith, ready.to.0, ready.to.1))
+    c.index.ensures c.ends_row-ends.ensures c.get.ensures.mark in
     let one : t.way.all_starts ≡ false = ap (λ v. v.all_starts) ready.keeps.shape.0 ∙ c.requires.all_starts in
-    let last : IsLastIn p.arena.expr.nodes k.region.root c.args.x = subst (λ r. IsLastIn p.arena.expr.nodes r c.args.x) (sym ready.keeps.same.root) c.requires.last in
-    subst (λ e. IsTrue c.get.result ↔ HasSpan p.arena.expr.nodes w c.args.x c.args.place e) ready.keeps.same.end
-    (mark_spans p w t k c.args.x c.args.place c.index.result.now c.ends_row-ends.result c.get.result ready.keeps.kept one last ready.from before c.index.ensures c.ends_row-ends.ensures c.get.ensures.mark)
+    let marks = subst (λ b. IsTrue c.get.result ↔ ReachesEnd nodes w k.region.root (ends_shown b k.region.end) c.args.x c.args.place) one shows in
+    let both = reaches_ends nodes w k.region.root c.args.x c.args.place (one_start k.region.end) arena last in
+    subst (λ e. IsTrue c.get.result ↔ HasSpan nodes w c.args.x c.args.place e) ready.keeps.same.end (
+      λ h.
+          let there = both.0 (marks.0 h) in
+          let stop = there.1 in
+          let end : there.0 ≡ k.region.end = omega arith in
+          subst (λ v. HasSpan nodes w c.args.x c.args.place v) end there.2,
+      λ at. marks.1 (both.1 (k.region.end, (omega arith, omega arith), at)),
+    )

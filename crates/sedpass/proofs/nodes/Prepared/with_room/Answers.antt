@@ -1,5 +1,6 @@
-use Rattle.std.proofs.Common.{refl, rules}
+use Rattle.std.proofs.Common.{rules}
 use Rattle.sedre.specs.Tree.{null_string}
+use Rattle.sedpass.specs.Prepared.{IsFacts}
 use Rattle.sedpass.proofs.FactLemmas.{empty_expr, empty_prepared}
 use Rattle.sedpass.proofs.nodes.Prepared.with_room.Goals as goal
 
@@ -8,7 +9,8 @@ invariant_of-result c = rw (c.push_reserved-2.ensures.items, c.in_ok-nodes.ensur
 
 pub invariant_of-result-2 : goal.invariant_of-result-2
 invariant_of-result-2 c =
-    let shown = c.of_leaf.ensures null_string refl (search rules) (λ k. refl) refl refl in
+    let leaf = c.of_leaf.ensures in
+    let shown : IsFacts null_string 0 c.of_leaf.result = search rules in
     record {
       is_prepared =
           rw (c.push_reserved-2.ensures.items, c.in_ok-nodes.ensures.items, c.push_reserved.ensures.items, c.in_ok-facts.ensures.items)

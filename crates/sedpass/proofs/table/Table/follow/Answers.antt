@@ -1,18 +1,7 @@
-use Rattle.std.proofs.Common.{arith, sym, refl, true≢false, ◌∙◌}
-use Rattle.sedpass.proofs.Words.{least_both, least_counted, least_none}
+use Rattle.std.proofs.Common.{arith, refl}
+use Rattle.sedpass.proofs.Words.{least_both, least_counted}
 use Rattle.sedpass.proofs.ForwardLemmas.{follows_on}
 use Rattle.sedpass.proofs.table.Table.follow.Goals as goal
-
-pub loop-at-init : goal.loop-at-init
-loop-at-init c = record {
-  offset = c.requires.offset;
-  after = omega arith;
-  within = c.requires.order;
-  moved = λ over. absurd (true≢false (sym over ∙ c.requires.over));
-  passes = λ start pass. pass;
-  cost = (omega arith, omega arith);
-  counts = least_none _ _ (omega arith);
-}
 
 pub loop-at-preserved : goal.loop-at-preserved
 loop-at-preserved c =
@@ -26,6 +15,6 @@ loop-at-preserved c =
       moved = λ over. omega (arith, old.after, next.place);
       passes = λ start pass. follows_on c.args.prepared.now c.args.self.now c.args.text.now start c.byte-byte.result c.known-cell.result c.loop-at.at.place c.loop-at.at c.arrive-at.result refl
           (omega (arith, c.if-at-to.true, c.requires.to)) (old.passes start pass) one.byte (c.known-cell.ensures (omega (arith, c.if-cell-eq0.false))) (next.passes start);
-      cost = (omega (arith, old.cost.0, one.cost.0), omega (arith, old.cost.1, one.cost.1, next.place));
-      counts = least_both _ _ _ _ 1 _ old.counts (least_counted _ _ 1 1 one.counts (omega arith)) (omega (arith, old.after, next.place));
+      cost = (omega (arith, old.cost.0, one.cost.0.0), omega (arith, old.cost.1, one.cost.0.1, next.place));
+      counts = least_both _ _ _ _ 1 _ old.counts (least_counted _ _ 1 1 one.cost (omega arith)) (omega (arith, old.after, next.place));
     }

@@ -1,9 +1,9 @@
-use Rattle.std.proofs.Common.{◌*◌, ◌%◌, ◌^◌, ◌<◌, ◌∙◌, length, arith, ap, ℕ, ◌≡◌, ◌+◌, sym, mul-le-mul_left}
+use Rattle.std.proofs.Common.{rules, ◌*◌, ◌%◌, ◌^◌, ◌<◌, ◌∙◌, length, arith, ap, ℕ, ◌≡◌, sym}
 use Rattle.sedpass.proofs.Words.{Prepared, Table, get_or_default, row_of}
 use Rattle.sedpass.specs.Table.{state_of, code_of, FlagsShow, HasNewRow, IsTable}
 use Rattle.sedpass.proofs.RowLemmas.{bits_agree}
 use Rattle.sedpass.proofs.TableLemmas.{adds_none, few_offset, marks_show, shifted}
-use Rattle.sedpass.proofs.table.Table.intern.Goals.{After-is_clear, in_default-via-in-None-1, in_default-via-in-Some+else-index-root, in_default-via-in-Some+then-index-root+else-same, in_default-via-in-Some+then-index-root+then-same+else-same-2}
+use Rattle.sedpass.proofs.table.Table.intern.Goals.{After-is_clear}
 use Rattle.sedpass.proofs.table.Table.intern.Goals as goal
 
 -- the flags are those of a state with this row
@@ -16,31 +16,13 @@ shown c t q has =
 
 -- where the cells of a state begin, which has a code
 offset_is : (p : Prepared) (t : Table) → IsTable p t → (q : ℕ) → q < t.count → ((q * 2 ^ t.layout.shift) % 2 ^ 64 ≡ q * 2 ^ t.layout.shift) × ((q * 2 ^ t.layout.shift) % 2 ^ 64 < 536870912)
-offset_is p t table q there =
-    let inside : q < t.room = omega (arith, table.room.count) in
-    let is = shifted q t.room t.layout.shift inside table.room.rows.few table.layout.small in
-    (is, rw is (few_offset q t.room t.layout.shift inside table.room.rows.few table.layout.small))
+offset_is p t table q there = search (rules, shifted, few_offset)
 
 pub code_of-requires : goal.code_of-requires
 code_of-requires c = (offset_is c.args.prepared.now c.args.self.now c.requires.table c.in-Some.state c.in-Some.ensures).1
 
 pub code_of-requires-2 : goal.code_of-requires-2
 code_of-requires-2 c = (offset_is c.args.prepared.now c.add-state.new.self c.add-state.ensures.table c.add-state.result c.add-state.ensures.there).1
-
-pub loop-slot-preserved : goal.loop-slot-preserved
-loop-slot-preserved c =
-    let before = c.loop-slot.invariant.cost in
-    let look = c.add.ensures.cost in
-    let nodes = c.nodes-nodes.ensures.value in
-    record {
-      cost = elim c.in_default.branch [
-        | in_default-via-in-None-1 w ↦ rw w.steps-is (omega (arith, before.0, look), omega (arith, before.1, look))
-        | in_default-via-in-Some+else-index-root w ↦ rw w.steps-is (omega (arith, before.0, look), omega (arith, before.1, look))
-        | in_default-via-in-Some+then-index-root+else-same w ↦ (let one = w.same.ensures.cost in rw w.steps-is (omega (arith, before.0, look, one), omega (arith, nodes, before.1, look, one)))
-        | in_default-via-in-Some+then-index-root+then-same+else-same-2 w ↦
-            (let one = w.same.ensures.cost in let two = w.same-in-loop-slot.ensures.cost in rw w.steps-is (omega (arith, before.0, look, one, two), omega (arith, nodes, before.1, look, one, two)))
-      ];
-    }
 
 -- the state that is found has the row
 pub returns-in-loop-slot-clause-codes : goal.returns-in-loop-slot-clause-codes
@@ -68,32 +50,18 @@ returns-in-loop-slot-clause-codes c =
       };
     }
 
-pub returns-clause-cost : goal.returns-clause-cost
-returns-clause-cost c =
-    let up = mul-le-mul_left (2 * length c.args.prepared.now.arena.expr.nodes + 1) (c.loop-slot.auto.slot-end (omega arith)) in
-    let one = c.digest-entered.ensures.cost in
-    let two = c.digest-ended.ensures.cost in
-    let ends = c.get.ensures.cost in
-    let dead = c.is_clear.ensures.cost in
-    let find = c.loop-slot.invariant.cost in
-    let room = c.make_room.ensures.cost in
-    let add = c.add-state.ensures.cost in
-    (omega (arith, one.0, two.0, ends.0, dead.0, find.0, room.0, add.0), omega (arith, up, c.nodes-nodes.ensures.value, one.1, two.1, ends.1, dead.1, find.1, room.1, add.1))
-
 pub returns-clause-codes : goal.returns-clause-codes
 returns-clause-codes c =
     let add = c.add-state.ensures in
-    let place = c.make_room.ensures.place in
-    let has = place.made c.args.root _ add.has in
     record {
       table = add.table;
-      adds = place.adds c.add-state.new.self add.adds;
+      adds = add.adds;
       names = record {
         to = c.add-state.result;
         there = add.there;
         flags = record { ends = c.get.result; dead = c.is_clear.result };
-        shown = shown (goal.at.returns-clause-codes c).After-is_clear c.add-state.new.self c.add-state.result has;
+        shown = shown (goal.at.returns-clause-codes c).After-is_clear c.add-state.new.self c.add-state.result add.has;
         code = c.code_of-2.ensures ∙ ap (code_of (record { ends = c.get.result; dead = c.is_clear.result })) (offset_is c.args.prepared.now c.add-state.new.self add.table c.add-state.result add.there).0;
-        is = has;
+        is = add.has;
       };
     }

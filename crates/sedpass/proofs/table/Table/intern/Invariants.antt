@@ -1,8 +1,10 @@
-use Rattle.std.proofs.Common.{◌+◌, ◌*◌, length}
-use Rattle.sedtext.specs.Costs.{CostsWithin}
+use Rattle.std.proofs.Common.{◌+◌, ◌*◌, length, ◌≡◌, ◌≤◌}
 use Rattle.sedpass.proofs.table.Table.intern.Given as goal
 
 abbrev pub invariant-loop-slot : goal.invariant-loop-slot
 invariant-loop-slot l = record {
-  cost : CostsWithin l.initial.steps l.steps ((2 * length l.prepared.arena.expr.nodes + 1) * l.slot) ((2 * length l.prepared.arena.expr.nodes + 1) * l.at);
+  grows : l.initial.steps ≤ l.steps;
+  none : l.slot ≡ l.at → l.steps ≤ l.initial.steps;
+  one : l.slot ≡ l.at + 1 → l.steps ≤ l.initial.steps + (2 * length l.prepared.arena.expr.nodes + 1);
+  two : l.slot ≡ l.at + 2 → l.steps ≤ l.initial.steps + (4 * length l.prepared.arena.expr.nodes + 2);
 }

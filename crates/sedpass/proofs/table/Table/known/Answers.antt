@@ -8,13 +8,7 @@ use Rattle.sedpass.proofs.table.Table.known.Goals as goal
 there : (c : In-Some) → c.args.offset + c.in-Some.column < length c.args.self.now.cells.items
 there c = cell_there c.args.prepared.now c.args.self.now c.requires.table c.args.offset c.args.byte c.in-Some.column c.args.edge c.requires.offset c.in-Some.ensures
 
-pub index-requires : goal.index-requires
-index-requires c = omega (arith, there (goal.at.index-requires c).In-Some, c.args.self.now.cells.ok)
-
 pub returns-in-Some : goal.returns-in-Some
 returns-in-Some c some =
     known_cell c.args.prepared.now c.args.self.now c.requires.table c.args.offset c.args.byte c.in-Some.column c.args.edge c.requires.offset c.in-Some.ensures c.index.result.now (omega arith)
     (c.index.ensures ∙ get_or_default c.args.self.now.cells.items (c.args.offset + c.in-Some.column) c.index.result.now 0 (there (goal.at.returns-in-Some c).In-Some)) some
-
-pub returns-in-None : goal.returns-in-None
-returns-in-None c some = absurd (omega (arith, some))

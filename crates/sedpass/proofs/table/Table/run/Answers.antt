@@ -1,5 +1,5 @@
 use Rattle.std.proofs.Common.{◌+◌, ◌-◌, ◌*◌, ◌<◌, ◌≤◌, ◌∙◌, length, sym, ap, subst, inl, inr, arith, nat_eq}
-use Rattle.sedre.specs.Steps.{TakesAtLeast, TakesExactly}
+use Rattle.sedre.specs.Steps.{TakesAtLeast, IsCounted}
 use Rattle.sedpass.proofs.Words.{not-false, Way, eqb-true, eq-eqb, least_less, least_both}
 use Rattle.sedpass.specs.Rows.{nodes_of}
 use Rattle.sedpass.specs.Table.{BeginsIn, NamesState}
@@ -53,7 +53,7 @@ loop-here-preserved c =
 
 -- or it comes to the next place
 pub loop-here-preserved-then-not-here : goal.loop-here-preserved-then-not-here
-unfolding TakesAtLeast TakesExactly
+unfolding TakesAtLeast IsCounted
 loop-here-preserved-then-not-here c =
     let i = c.loop-here.invariant in
     let m = length c.args.prepared.now.arena.expr.nodes in
@@ -69,7 +69,7 @@ loop-here-preserved-then-not-here c =
     let way = next.codes.adds.shape in
     let at = c.arrive-here-then-not-here in
     let place = at.ensures.place in
-    let cost = fill_cost m from mid.place last c.loop-here.steps c.follow-here.new.steps c.byte-byte.new.steps c.next-code.new.steps one up.after up.cost.1 byte.cost.1 next.cost.1 in
+    let cost = fill_cost m from mid.place last c.loop-here.steps c.follow-here.new.steps c.byte-byte.new.steps c.next-code.new.steps one up.after up.cost.1 byte.cost.0.1 next.cost.1 in
     record {
       table = next.codes.table;
       shape = same_shape c.args.self.now c.loop-here.self c.next-code.new.self i.shape way;
@@ -78,8 +78,8 @@ loop-here-preserved-then-not-here c =
           goes_on c.args.prepared.now c.loop-here.self c.next-code.new.self c.args.text.now c.args.at c.byte-byte.result c.next-code.result (nat_eq mid.place last) mid at.result way.0 (up.passes c.args.at i.passes) byte.byte
           ((λ h. let e = eqb-true mid.place last h in omega (arith, e, is, inside)), (λ e. eq-eqb mid.place last (omega (arith, e, is))))
           next.codes.names (at.ensures.passes c.args.at);
-      cost = (omega (arith, i.cost.0, up.cost, byte.cost, next.cost), rw place (omega (arith, i.cost.1, cost)));
-      counts = omega (arith, place, i.passes.after, up.after, i.counts, up.counts, byte.counts, next.counts);
+      cost = (omega (arith, i.cost.0, up.cost, byte.cost.0, next.cost), rw place (omega (arith, i.cost.1, cost)));
+      counts = omega (arith, place, i.passes.after, up.after, i.counts, up.counts, byte.cost.1, next.counts);
     }
 
 pub returns-else-here-len-clause-longest : goal.returns-else-here-len-clause-longest

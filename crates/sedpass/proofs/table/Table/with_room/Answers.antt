@@ -1,16 +1,13 @@
-use Rattle.std.proofs.Common.{◌≡◌, ℕ, ◌*◌, ◌<◌, ◌≤◌, length, refl, subst, arith, replicate, vec_capacity}
+use Rattle.std.proofs.Common.{rules, ◌≡◌, ℕ, ◌*◌, ◌<◌, ◌≤◌, length, refl, subst, arith, replicate, vec_capacity}
 use Rattle.sedpass.proofs.Words.{PlaceKind, Table}
 use Rattle.sedpass.specs.Table.{beginning_at}
 use Rattle.sedpass.proofs.TableLemmas.{few_kinds, has_parts, none_noted}
-use Rattle.sedpass.proofs.table.Table.with_room.Goals.{After-vec-3, then-way, else-way}
+use Rattle.sedpass.proofs.table.Table.with_room.Goals.{After-vec-3}
 use Rattle.sedpass.proofs.table.Table.with_room.Goals as goal
 
 -- each beginning is among them
 beginnings_fit : (c : After-vec-3) → (root : ℕ) (kind : PlaceKind) → root < c.args.most → beginning_at c.args.way.all_starts root kind < c.if-way.kinds
-beginnings_fit c root kind low = elim c.if-way.branch [
-  | then-way w ↦ rw (w.kinds-is, w.if-way.true) (few_kinds kind.begin kind.end)
-  | else-way w ↦ rw (w.kinds-is, w.if-way.false) (let few = few_kinds kind.begin kind.end in omega (arith, few, low))
-]
+beginnings_fit c root kind low = search (rules, few_kinds)
 
 pub returns : goal.returns
 returns c =

@@ -1,5 +1,5 @@
 use Rattle.std.proofs.Common.{rules}
 use Rattle.sedre.proofs.table.Expr.look.Goals as goal
 
-pub returns-clause-counts : goal.returns-clause-counts
-returns-clause-counts c = search rules
+pub returns-clause-cost : goal.returns-clause-cost
+returns-clause-cost c = search rules

@@ -1,6 +1,6 @@
-use Rattle.std.proofs.Common.{ℕ, ◌<◌, ◌≤◌}
-use Rattle.sedtext.specs.Bytes.{MemberAt}
+use Rattle.memchr.specs.Find.{Nowhere, Passes}
+use Rattle.sedre.specs.Sets.{has}
 use Rattle.sedtext.proofs.counted.members.first_member.Given as goal
 
 abbrev pub invariant-loop-place : goal.invariant-loop-place
-invariant-loop-place l = (i : ℕ) → 0 ≤ i → i < l.place → MemberAt l.set l.bytes i → ⊥
+invariant-loop-place l = Nowhere (Passes (has l.set) l.bytes) 0 l.place

@@ -1,8 +1,8 @@
-use Rattle.std.proofs.Common.{◌≡◌, ◌+◌, ◌*◌, ◌/◌, ◌<◌, ◌∙◌, length, sym, arith}
+use Rattle.std.proofs.Common.{◌≡◌, ◌+◌, ◌*◌, ◌<◌, ◌∙◌, length, arith}
 use Rattle.std.specs.Prelude.{slice_index_or}
 use Rattle.std.proofs.lemmas.Grind.{common_steps}
 use Rattle.std.proofs.lemmas.List.{get_or_default}
-use Rattle.sedtext.proofs.WordLemmas.{marked_same, new_bit, row_bit, row_written, row_there}
+use Rattle.sedtext.proofs.WordLemmas.{row_written, row_there}
 use Rattle.sedtext.proofs.counted.rows.Rows.copy.Goals as goal
 
 pub loop-x-preserved : goal.loop-x-preserved
@@ -16,10 +16,3 @@ loop-x-preserved c =
 
 pub returns-clause-keeps : goal.returns-clause-keeps
 returns-clause-keeps c = row_written c.self.inside c.args.self.now c.self.view_is c.self.invariant c.loop-x.words.items c.args.row c.div_ceil-x-end.result (omega (arith, row_there c.self.inside c.args.self.now c.self.view_is c.self.invariant c.args.row c.requires.row)) c.loop-x.invariant.before (λ k high. c.loop-x.invariant.rest k (omega (arith, high)))
-
-pub returns-clause-same : goal.returns-clause-same
-returns-clause-same c k lt =
-    let words = c.loop-x.words.items in
-    new_bit c.self.inside c.args.self.now c.self.view_is c.self.invariant words c.args.row k c.requires.row (omega (arith, lt, c.requires.inside))
-    ∙ marked_same words c.other.inside.words.items (c.self.inside.width * c.args.row) (c.other.inside.width * c.args.other_row) k (c.loop-x.invariant.copied (k / 64) (omega arith))
-    ∙ sym (row_bit c.other.inside c.args.other.now c.other.view_is c.other.invariant c.args.other_row c.args.count c.requires.other_row c.requires.there k lt)

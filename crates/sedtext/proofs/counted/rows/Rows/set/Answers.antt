@@ -1,7 +1,7 @@
-use Rattle.std.proofs.Common.{◌≡◌, ◌+◌, ◌*◌, ◌/◌, ◌∙◌, arith}
-use Rattle.std.specs.Prelude.{slice_index_or, slice_set}
-use Rattle.std.proofs.lemmas.List.{get_or_default, get_or-set_other}
-use Rattle.sedtext.proofs.WordLemmas.{mark_written, row_written, row_there}
+use Rattle.std.proofs.Common.{◌+◌, ◌*◌, ◌/◌, arith}
+use Rattle.std.specs.Prelude.{slice_set}
+use Rattle.std.proofs.lemmas.List.{get_or-set_other}
+use Rattle.sedtext.proofs.WordLemmas.{row_written, row_there}
 use Rattle.sedtext.proofs.counted.rows.Rows.set.Goals as goal
 
 pub returns-clause-keeps : goal.returns-clause-keeps
@@ -13,12 +13,3 @@ returns-clause-keeps c =
     let there = row_there c.self.inside c.args.self.now c.self.view_is c.self.invariant c.args.row c.requires.row in
     row_written c.self.inside c.args.self.now c.self.view_is c.self.invariant (slice_set words at word) c.args.row width (omega arith)
     (λ k low. get_or-set_other words at k word 0 (λ e. omega (arith, low, e))) (λ k high. get_or-set_other words at k word 0 (λ e. omega (arith, high, there, e)))
-
-pub returns-clause-marks : goal.returns-clause-marks
-returns-clause-marks c =
-    let words = c.self.inside.words.items in
-    let at = c.self.inside.width * c.args.row + c.args.i / 64 in
-    let there = row_there c.self.inside c.args.self.now c.self.view_is c.self.invariant c.args.row c.requires.row in
-    let is : c.index.result.now ≡ slice_index_or words at 0 = c.index.ensures ∙ get_or_default words at c.index.result.now 0 (omega (arith, there)) in
-    mark_written c.self.inside c.args.self.now c.self.view_is c.self.invariant c.args.row c.args.i c.index.result.now c.put_bit-word.result c.args.mark c.requires.row c.requires.inside is
-    c.put_bit-word.ensures.same c.put_bit-word.ensures.other

@@ -1,7 +1,0 @@
-use Rattle.std.proofs.Common.{◌≤◌}
-use Rattle.std.specs.Prelude.{vec_capacity}
-use Rattle.sedmatch.proofs.OccurrenceLemmas.{AreFirst}
-use Rattle.sedmatch.proofs.occurrences.own_tables.Given as goal
-
-abbrev pub invariant-loop-x : goal.invariant-loop-x
-invariant-loop-x l = AreFirst l.fn.matchers l.x l.own.items × (l.count ≤ vec_capacity l.own)

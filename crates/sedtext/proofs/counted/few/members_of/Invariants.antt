@@ -1,5 +1,0 @@
-use Rattle.sedtext.proofs.FewLemmas.{AllGathered}
-use Rattle.sedtext.proofs.counted.few.members_of.Given as goal
-
-abbrev pub invariant-loop-byte : goal.invariant-loop-byte
-invariant-loop-byte l = AllGathered l.set l.byte l.few

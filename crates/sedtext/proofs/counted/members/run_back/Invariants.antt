@@ -1,9 +1,0 @@
-use Rattle.std.proofs.Common.{◌≤◌}
-use Rattle.sedtext.specs.Runs.{SetRepeats}
-use Rattle.sedtext.proofs.counted.members.run_back.Given as goal
-
-abbrev pub invariant-loop-place : goal.invariant-loop-place
-invariant-loop-place l = record {
-  low : l.from ≤ l.place;
-  copies : SetRepeats l.set l.bytes l.place l.to;
-}
