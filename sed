@@ -27,7 +27,7 @@ is_built() {
 }
 
 if ! is_built; then
-    echo 'sed: proving and building the program, which takes about 7 to 14 minutes on four processors' >&2
+    echo 'sed: proving and building the program, which takes about 7 to 18 minutes on four processors' >&2
     "$root/build" sed </dev/null >&2 || exit 127
 fi
 exec "$program" "$@"
