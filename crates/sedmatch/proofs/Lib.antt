@@ -1,6 +1,6 @@
 pub use Rattle.sedtext.proofs.MatchingLemmas
 pub use Rattle.sedtext.proofs.SpanLemmas
-pub mod MatcherLemmas
+pub mod Closing
 pub mod OccurrenceLemmas
 pub mod RoomLemmas
 pub mod StretchLemmas

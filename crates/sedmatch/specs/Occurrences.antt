@@ -8,15 +8,14 @@ use Rattle.sedtext.specs.Matching.{leftmost_longest}
 use Rattle.sedpass.specs.Kept.{KeptRoom}
 use Rattle.sedpass.specs.Search.{SearchServes, owed_behind}
 use Rattle.sedpass.specs.Table.{IsRoomy, IsTable}
-use Rattle.sedpass.specs.declared.nodes.Prepared.{Prepared}
 use Rattle.sedpass.specs.declared.search.Seeking.{Seeking}
 use Rattle.sedpass.specs.declared.table.Table.{Table}
 use Rattle.sedmatch.specs.Passes.{reverse_any_way}
 use Rattle.sedmatch.specs.declared.occurrences.Occurrences.{Occurrences}
 
--- the table is for such passes over the expression, however that was made ready
+-- the table is for such passes over the expression
 abbrev pub IsReverseAny : WrittenExpression → Table → Type 0
-IsReverseAny e t = (t.way ≡ reverse_any_way) × ((p : Prepared) → p.arena.expr ≡ e → IsTable p t)
+IsReverseAny e t = (t.way ≡ reverse_any_way) × IsTable e t
 
 -- the table in the list for the expression e, of number x, is for it, where there is one
 abbrev pub HasOwn : ℕ → WrittenExpression → List (Option Table) → Type 0
@@ -37,14 +36,10 @@ pub record RoomFor (text : ℕ) (es : List WrittenExpression) (o : Occurrences) 
 abbrev pub KeepsRoom : WrittenExpression → Occurrences → Occurrences → Type 0
 KeepsRoom e old new = (new.number ≡ old.number) × ((text : ℕ) (es : List WrittenExpression) → slice_get es old.number ≡ Some e → RoomFor text es old → RoomFor text es new)
 
--- the table serves the expression in the text, however that was made ready
-abbrev pub ServesIn : WrittenExpression → List ℕ → Seeking → Table → Type 0
-ServesIn e w s t = (p : Prepared) → p.arena.expr ≡ e → SearchServes p w t s
-
 -- the table in use, the expression's own or that of all, serves it in the text
 pub record HasTable (e : WrittenExpression) (w : List ℕ) (o : Occurrences) : Type 0 where
-  pub own : IsTrue o.by_own → (t : Table) × (slice_get o.own.items o.number ≡ Some (Some t)) × ServesIn e w o.seeking t
-  pub shared : o.by_own ≡ false → ServesIn e w o.seeking o.shared
+  pub own : IsTrue o.by_own → (t : Table) × (slice_get o.own.items o.number ≡ Some (Some t)) × SearchServes e w t o.seeking
+  pub shared : o.by_own ≡ false → SearchServes e w o.shared o.seeking
 
 -- there is as much room as before, also for this expression in this text, and a table serves it there
 pub record IsReady (e : WrittenExpression) (w : List ℕ) (old new : Occurrences) : Type 0 where

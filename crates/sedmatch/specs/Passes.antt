@@ -3,16 +3,14 @@
 use Rattle.std.specs.Prelude.{◌≡◌, ℕ, ◌+◌, ◌-◌, ◌*◌, ◌/◌, ◌≤◌, ◌↔◌, Bool, true, List, length, IfSome, IsTrue}
 use Rattle.sedre.specs.Tree.{WrittenExpression, expression_tree}
 use Rattle.sedre.specs.Steps.{Takes, TakesAtLeast}
-use Rattle.sedtext.specs.Beginnings.{AllBegin}
 use Rattle.sedtext.specs.Caps.{IsReport}
 use Rattle.sedtext.specs.Following.{LooksPast}
 use Rattle.sedtext.specs.Groups.{SpansOfGroups}
-use Rattle.sedtext.specs.Required.{IsRequired}
 use Rattle.sedtext.specs.Spans.{SomeFound}
+use Rattle.sedpass.specs.Prepared.{IsAnalysis}
 use Rattle.sedpass.specs.Decide.{AreRoomy, AreTables, HasSpace, spans_in}
 use Rattle.sedpass.specs.Table.{IsRoomy}
 use Rattle.sedpass.specs.Walks.{EntersGroups}
-use Rattle.sedpass.specs.declared.nodes.Prepared.{Prepared}
 use Rattle.sedpass.specs.declared.rows.Way.{Way}
 use Rattle.sedmatch.specs.Direct.{IsDirect}
 use Rattle.sedmatch.specs.declared.passes.Passes.{Passes}
@@ -24,28 +22,14 @@ use Rattle.sedmatch.specs.declared.table_matcher.SearchMethod.TheVariants.{Direc
 abbrev pub reverse_any_way : Way
 reverse_any_way = record { mirrored = true; all_starts = true }
 
--- the expression was made ready, and what was found out of its matches is right
-pub record IsSought (e : WrittenExpression) (p : Prepared) : Type 0 where
-  pub expr : p.arena.expr ≡ e
-  pub begins : AllBegin (expression_tree e) p.begins
-  pub required : IsRequired (expression_tree e) p.required
-
 -- what was found out is right, and the tables are for the expression, where it has some of its own
 abbrev pub ArePasses : WrittenExpression → Passes → Type 0
-ArePasses e p = IsSought e p.prepared × IfSome p.own (AreTables p.prepared)
+ArePasses e p = IsAnalysis e p.analysis × IfSome p.own (AreTables e)
 
--- what was found out is the same, and its own tables are still for it
-abbrev pub KeepsPasses : Passes → Passes → Type 0
-KeepsPasses old new = (new.prepared ≡ old.prepared) × IfSome new.own (AreTables new.prepared)
-
--- the expression that is searched, and that it is searched rightly
-abbrev pub searched_expression : SearchMethod → WrittenExpression
-searched_expression (Direct e form) = e
-searched_expression (ByPasses p) = p.value.prepared.arena.expr
-
-abbrev pub IsEngine : SearchMethod → Type 0
-IsEngine (Direct e form) = IsDirect e form
-IsEngine (ByPasses p) = ArePasses p.value.prepared.arena.expr p.value
+-- the expression is searched rightly so
+abbrev pub IsSearchedBy : WrittenExpression → SearchMethod → Type 0
+IsSearchedBy e (Direct form) = IsDirect e form
+IsSearchedBy e (ByPasses p) = ArePasses e p.value
 
 -- Passes can be made there over texts of at most `max_text` bytes, for expressions of at most `max_nodes` nodes, by the tables that
 -- serve all.

@@ -11,7 +11,7 @@
 //! [`find`] seeks an expression that is used once, with its groups. It makes it ready for passes in the room of the scratch.
 //!
 //! All of them work in the room of a [`Scratch`], and take no memory.
-#![tactic(auto, unfolding(sedre::specs::Steps::TakesAtLeast, sedre::specs::Steps::IsCounted))]
+#![tactic(auto, using(crate::proofs::Closing::closing), unfolding(sedre::specs::Steps::TakesAtLeast, sedre::specs::Steps::IsCounted))]
 
 mod direct;
 mod occurrences;

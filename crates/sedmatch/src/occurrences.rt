@@ -9,7 +9,6 @@ ghost use Rattle.sedpass.specs.Search.{MaySearch, Searched, owed_after_search, o
 ghost use Rattle.sedpass.specs.Table.{IsForwardOne, SameShape};
 ghost use Rattle.sedpass.specs.declared.table.Table.{Table};
 ghost use Rattle.sedmatch.specs.Occurrences.{HasTable, IsReady, RoomAt, RoomFor, ServesFrom, AnswersNext, owed_search};
-ghost use Rattle.sedmatch.specs.Passes.{IsSought};
 
 use crate::Span;
 use crate::passes::{REVERSE_ANY, has_blocks};
@@ -106,12 +105,12 @@ impl Occurrences {
 
     /// Chooses the table that serves the expression, where nothing was sought by passes yet.
     fn make_ready(&mut self, prepared: &Prepared, text: &Text)
-        requires room { RoomAt (length text.now) self.old.number prepared.now.arena.expr self.old }
-        requires used { self.old.is_fresh ≡ false → HasTable prepared.now.arena.expr text.now self.old }
-        ensures ready { IsReady prepared.now.arena.expr text.now self.old self.new }
+        requires room { RoomAt (length text.now) self.old.number prepared.now self.old }
+        requires used { self.old.is_fresh ≡ false → HasTable prepared.now text.now self.old }
+        ensures ready { IsReady prepared.now text.now self.old self.new }
         ensures used { self.new.is_fresh ≡ false }
         ensures same { self.old.is_fresh ≡ false → self.new ≡ self.old }
-        ensures owed { let m = length prepared.now.arena.expr.nodes in let n = length text.now in
+        ensures owed { let m = length prepared.now.nodes in let n = length text.now in
             IsTrue self.old.is_fresh → owed_behind m n self.new.seeking 0 + 43 * m ≤ 308 * m * (n + 1) }
     {
         if !self.is_fresh {
@@ -149,6 +148,7 @@ pub fn is_null_at(span: Option<Span>, at: usize) -> bool
 
 /// The next occurrence after the one that ended at `last`, or the first one, by these tables: a byte further where the next match is
 /// that of the null string there.
+#[tactic(auto, using(crate::proofs::OccurrenceLemmas::nexts), unfolding(sedre::specs::Steps::TakesAtLeast, sedre::specs::Steps::IsCounted))]
 fn next_with(
     prepared: &Prepared,
     text: &Text,
@@ -158,21 +158,20 @@ fn next_with(
     last: Option<usize>,
     steps: &mut Steps,
 ) -> Option<Span>
-    requires sought { IsSought prepared.now.arena.expr prepared.now }
     requires last { EndsWithin (length text.now) last }
     requires ready { MaySearch prepared.now text.now forward_one.old reverse_any.old seeking.old }
     ensures searched { Searched prepared.now text.now forward_one.old forward_one.new reverse_any.old reverse_any.new seeking.old seeking.new }
-    ensures next { result ≡ next_span (leftmost_longest (expression_tree prepared.now.arena.expr) text.now) (length text.now) last }
-    ensures occurs { IfSome result (OccursAfter (expression_tree prepared.now.arena.expr) text.now last) }
-    ensures cost { let m = length prepared.now.arena.expr.nodes in let n = length text.now in
+    ensures next { result ≡ next_span (leftmost_longest (expression_tree prepared.now) text.now) (length text.now) last }
+    ensures occurs { IfSome result (OccursAfter (expression_tree prepared.now) text.now last) }
+    ensures cost { let m = length prepared.now.nodes in let n = length text.now in
         CostsWithin steps.old steps.new (owed_search m n last seeking.old) (owed_after_search (owed_behind m n seeking.new) result) }
-    ensures once { let m = length prepared.now.arena.expr.nodes in let n = length text.now in
+    ensures once { let m = length prepared.now.nodes in let n = length text.now in
         Takes steps.old steps.new (64 * m * m * (n + 1) * (n + 1)) }
     ensures counts { IfSome result (λ f. TakesAtLeast steps.old steps.new (f.1 - unwrap_or last 0)) }
 {
     let subject = Subject { prepared, text };
     let Some(at) = last else {
-        let start = skip_to_literal(&prepared.required, text, 0, steps)?;
+        let start = skip_to_literal(prepared.required(), text, 0, steps)?;
         return next_match(subject, forward_one, reverse_any, seeking, start, steps);
     };
     let first = next_match(subject, forward_one, reverse_any, seeking, at, steps);
@@ -194,13 +193,12 @@ pub fn next_by(
     last: Option<usize>,
     steps: &mut Steps,
 ) -> Option<Span>
-    requires sought { IsSought prepared.now.arena.expr prepared.now }
     requires forward_one { IsForwardOne prepared.now forward_one.old }
     requires last { EndsWithin (length text.now) last }
-    requires serves { ServesFrom prepared.now.arena.expr text.now last occurrences.old }
+    requires serves { ServesFrom prepared.now text.now last occurrences.old }
     ensures forward_one { IsForwardOne prepared.now forward_one.new }
     ensures forward_one_shape { SameShape forward_one.old forward_one.new }
-    ensures answered { AnswersNext prepared.now.arena.expr text.now last occurrences.old occurrences.new steps.old steps.new result }
+    ensures answered { AnswersNext prepared.now text.now last occurrences.old occurrences.new steps.old steps.new result }
 {
     occurrences.make_ready(prepared, text);
     let seeking = &mut occurrences.seeking;

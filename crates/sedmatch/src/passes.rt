@@ -3,20 +3,19 @@ ghost use Rattle.std.specs.Prelude.{◌≡◌, ℕ, List, ◌+◌, ◌-◌, ◌*
 ghost use Rattle.sedre.specs.Arena.{IsExpr};
 ghost use Rattle.sedre.specs.Tree.{WrittenExpression, expression_tree};
 ghost use Rattle.sedre.specs.Steps.{Takes};
-ghost use Rattle.sedtext.specs.Beginnings.{AllBegin};
 ghost use Rattle.sedtext.specs.Following.{LooksPast};
 ghost use Rattle.sedtext.specs.Links.{IsChain};
 ghost use Rattle.sedtext.specs.Places.{Ascending};
 ghost use Rattle.sedtext.specs.Spans.{SomeFound, Matches};
 ghost use Rattle.sedpass.specs.Decide.{AreTables, HasDesk, KeepsGroupRoom, SameRooms};
-ghost use Rattle.sedmatch.specs.Passes.{ArePasses, IsDeskFor, KeepsDesk, KeepsPasses, AnswersGroups, AnswersMatch};
+ghost use Rattle.sedmatch.specs.Passes.{ArePasses, IsDeskFor, KeepsDesk, AnswersGroups, AnswersMatch};
 
 use crate::Span;
 use crate::scratch::Desk;
 use crate::table_room::TableRoom;
 use sedpass::groups::{GroupRoom, GroupSpans, Tables, decide};
 use sedpass::kept::{Kept, Subject};
-use sedpass::nodes::Prepared;
+use sedpass::nodes::{Analysis, Prepared};
 use sedpass::rows::Way;
 use sedre::{Expr, Steps};
 use sedtext::beginnings::{Begins, how_begins, next_start};
@@ -25,11 +24,11 @@ use sedtext::links::Link;
 use sedtext::required::{find_required, skip_to_literal};
 use std::alloc::{AllocError, Global};
 
-/// An expression that is searched by passes.
+/// What passes over an expression need.
 #[derive(Drop)]
 pub struct Passes {
-    /// The expression, made ready for them.
-    pub prepared: Prepared,
+    /// What was found out of it.
+    pub analysis: Analysis,
     /// Its own tables, if there is room for them.
     pub own: Option<Tables>,
 }
@@ -43,8 +42,8 @@ pub const REVERSE_ANY: Way = Way {
 /// How many states such a table has, where it serves one expression.
 pub const OWN_STATES: usize = 513;
 
-/// How many tables an expression has: three in [`Tables`], and `reverse_any` for all occurrences in a text.
-const TABLES: usize = 4;
+/// How many tables an expression has: four in [`Tables`], and `reverse_any` for all occurrences in a text.
+const TABLES: usize = 5;
 
 /// How many bytes so many states take in all tables of an expression, at most.
 pub fn size_of(nodes: usize, states: usize) -> usize {
@@ -64,17 +63,19 @@ pub fn new_passes(
     requires chain { IsChain expr.now.nodes (expression_tree expr.now) chain.now }
     ensures { IfOk result (ArePasses expr.now) }
 {
-    let mut prepared = Prepared::new(alloc, expr, steps)?;
-    prepared.begins = how_begins(alloc, expr, chain, steps)?;
-    prepared.required = find_required(alloc, chain)?;
-    let (states, nodes) = (room.states.clamp(2, 513), prepared.nodes());
+    let nodes = expr.nodes();
+    let mut analysis = Analysis::with_room(alloc, nodes)?;
+    analysis.fit(expr, steps);
+    analysis.begins = how_begins(alloc, expr, chain, steps)?;
+    analysis.required = find_required(alloc, chain)?;
+    let states = room.states.clamp(2, 513);
     let mut own = None;
     if size_of(nodes, states) <= room.bytes {
         let mut tables = Tables::with_room(alloc, states, nodes)?;
-        tables.fit(&prepared);
+        tables.fit(&Prepared::of(expr, &analysis));
         own = Some(tables);
     }
-    Ok(Passes { prepared, own })
+    Ok(Passes { analysis, own })
 }
 
 /// Whether any match begins at a place or later, by these tables.
@@ -85,20 +86,19 @@ fn matches_with(
     from: usize,
     steps: &mut Steps,
 ) -> bool
-    requires begins { AllBegin (expression_tree prepared.now.arena.expr) prepared.now.begins }
     requires tables { AreTables prepared.now tables.old }
     requires from { from ≤ length text.now }
     ensures tables { AreTables prepared.now tables.new }
     ensures room { SameRooms tables.old tables.new }
-    ensures matches { IsTrue result ↔ SomeFound (expression_tree prepared.now.arena.expr) text.now from }
-    ensures passes { IsTrue result → LooksPast (expression_tree prepared.now.arena.expr) text.now from steps.old steps.new }
-    ensures cost { Takes steps.old steps.new (43 * length prepared.now.arena.expr.nodes * (length text.now + 1)) }
+    ensures matches { IsTrue result ↔ SomeFound (expression_tree prepared.now) text.now from }
+    ensures passes { IsTrue result → LooksPast (expression_tree prepared.now) text.now from steps.old steps.new }
+    ensures cost { Takes steps.old steps.new (43 * length prepared.now.nodes * (length text.now + 1)) }
 {
-    let Some(start) = next_start(&prepared.begins, text, from, steps) else {
+    let Some(start) = next_start(prepared.begins(), text, from, steps) else {
         return false;
     };
     let (any, one) = (&mut tables.forward_any, &mut tables.forward_one);
-    match &prepared.begins {
+    match prepared.begins() {
         // The first place alone is a start, and a pass from it can end early.
         Begins::AtStart => one.run(prepared, text, start, steps).end.is_some(),
         _ => any.run(prepared, text, start, steps).end.is_some(),
@@ -107,6 +107,7 @@ fn matches_with(
 
 /// Whether any match begins at `from` or later.
 pub fn matches_by(
+    expr: &Expr,
     passes: &mut Passes,
     text: &Text,
     from: usize,
@@ -114,14 +115,14 @@ pub fn matches_by(
     steps: &mut Steps,
 ) -> bool
     requires from { from ≤ length text.now }
-    requires passes { ArePasses passes.old.prepared.arena.expr passes.old }
-    requires desk { IsDeskFor passes.old.prepared.arena.expr text.now desk.old }
-    ensures passes { KeepsPasses passes.old passes.new }
+    requires passes { ArePasses expr.now passes.old }
+    requires desk { IsDeskFor expr.now text.now desk.old }
+    ensures passes { ArePasses expr.now passes.new }
     ensures desk { KeepsDesk desk.old desk.new }
-    ensures answered { AnswersMatch passes.old.prepared.arena.expr text.now from steps.old steps.new result }
+    ensures answered { AnswersMatch expr.now text.now from steps.old steps.new result }
 {
-    let prepared = &passes.prepared;
-    let Some(start) = skip_to_literal(&prepared.required, text, from, steps) else {
+    let prepared = &Prepared::of(expr, &passes.analysis);
+    let Some(start) = skip_to_literal(prepared.required(), text, from, steps) else {
         return false;
     };
     if let Some(own) = &mut passes.own {
@@ -160,15 +161,15 @@ fn groups_with(
     steps: &mut Steps,
 ) -> GroupSpans
     requires order { Ascending span.0 span.1 (length subject.text.now) }
-    requires spans { Matches (expression_tree subject.prepared.now.arena.expr) subject.text.now span.0 span.1 }
+    requires spans { Matches (expression_tree subject.prepared.now) subject.text.now span.0 span.1 }
     requires desk { HasDesk subject tables.old room.old.kept }
     requires none { room.old.tasks.items ≡ [] }
-    requires tasks { 2 * length subject.prepared.now.arena.expr.nodes ≤ vec_capacity room.old.tasks }
+    requires tasks { 2 * length subject.prepared.now.nodes ≤ vec_capacity room.old.tasks }
     ensures room { KeepsGroupRoom subject.entry tables.old tables.new room.old room.new }
     ensures none { room.new.tasks.items ≡ [] }
-    ensures answered { AnswersGroups subject.entry.prepared.now.arena.expr subject.entry.text.now span steps.old steps.new result }
+    ensures answered { AnswersGroups subject.entry.prepared.now subject.entry.text.now span steps.old steps.new result }
 {
-    if subject.prepared.arena.groups() == 0 {
+    if subject.prepared.groups() == 0 {
         return whole_alone(span);
     }
     decide(subject, tables, room, span.0, span.1, steps)
@@ -177,10 +178,10 @@ fn groups_with(
 /// The same by the tables that serve all.
 pub fn shared_groups(subject: Subject, span: Span, desk: &mut Desk, steps: &mut Steps) -> GroupSpans
     requires order { Ascending span.0 span.1 (length subject.text.now) }
-    requires spans { Matches (expression_tree subject.prepared.now.arena.expr) subject.text.now span.0 span.1 }
-    requires desk { IsDeskFor subject.prepared.now.arena.expr subject.text.now desk.old }
+    requires spans { Matches (expression_tree subject.prepared.now) subject.text.now span.0 span.1 }
+    requires desk { IsDeskFor subject.prepared.now subject.text.now desk.old }
     ensures desk { KeepsDesk desk.old desk.new }
-    ensures answered { AnswersGroups subject.entry.prepared.now.arena.expr subject.entry.text.now span steps.old steps.new result }
+    ensures answered { AnswersGroups subject.entry.prepared.now subject.entry.text.now span steps.old steps.new result }
 {
     desk.shared.fit(subject.prepared);
     groups_with(subject, &mut desk.shared, span, &mut desk.room, steps)
@@ -188,6 +189,7 @@ pub fn shared_groups(subject: Subject, span: Span, desk: &mut Desk, steps: &mut 
 
 /// The groups of a match that begins and ends at these places.
 pub fn groups_by(
+    expr: &Expr,
     passes: &mut Passes,
     text: &Text,
     span: Span,
@@ -195,14 +197,14 @@ pub fn groups_by(
     steps: &mut Steps,
 ) -> GroupSpans
     requires order { Ascending span.0 span.1 (length text.now) }
-    requires spans { Matches (expression_tree passes.old.prepared.arena.expr) text.now span.0 span.1 }
-    requires passes { ArePasses passes.old.prepared.arena.expr passes.old }
-    requires desk { IsDeskFor passes.old.prepared.arena.expr text.now desk.old }
-    ensures passes { KeepsPasses passes.old passes.new }
+    requires spans { Matches (expression_tree expr.now) text.now span.0 span.1 }
+    requires passes { ArePasses expr.now passes.old }
+    requires desk { IsDeskFor expr.now text.now desk.old }
+    ensures passes { ArePasses expr.now passes.new }
     ensures desk { KeepsDesk desk.old desk.new }
-    ensures answered { AnswersGroups passes.old.prepared.arena.expr text.now span steps.old steps.new result }
+    ensures answered { AnswersGroups expr.now text.now span steps.old steps.new result }
 {
-    let prepared = &passes.prepared;
+    let prepared = &Prepared::of(expr, &passes.analysis);
     let subject = Subject { prepared, text };
     if let Some(own) = &mut passes.own {
         if has_blocks(&desk.room.kept, own.reverse_one.room, text.len()) {

@@ -3,7 +3,7 @@ ghost use Rattle.std.specs.Prelude.{◌≡◌, ◌^◌, ◌≤◌, IfOk};
 
 use crate::passes::REVERSE_ANY;
 use sedpass::groups::{GroupRoom, Tables};
-use sedpass::nodes::Prepared;
+use sedpass::nodes::Analysis;
 use sedpass::table::Table;
 use sedpass::width::width_for;
 use std::alloc::{AllocError, Global};
@@ -29,8 +29,8 @@ pub struct Desk {
 pub struct Scratch {
     /// Where passes are made.
     pub(crate) desk: Desk,
-    /// Room to make an expression ready that is used once.
-    pub(crate) prepared: Prepared,
+    /// Room for what is found out of an expression that is used once.
+    pub(crate) analysis: Analysis,
 }
 
 impl Model for Scratch {
@@ -43,7 +43,7 @@ impl Model for Scratch {
 
     ghost view = { λ s. record { text = s.desk.max_text; nodes = s.desk.max_nodes } };
 
-    ghost invariant = { λ s. IsDesk s.desk × (s.desk.max_nodes ≤ s.prepared.arena.room) × (s.desk.max_nodes ≤ vec_capacity s.prepared.facts) };
+    ghost invariant = { λ s. IsDesk s.desk × (s.desk.max_nodes ≤ vec_capacity s.analysis.facts) };
 }
 
 impl Scratch {
@@ -56,7 +56,7 @@ impl Scratch {
         ensures { IfOk result (λ s. (s.text ≡ max_text) × (s.nodes ≡ max_nodes)) }
     {
         let block = width_for(max_text);
-        let prepared = Prepared::with_room(alloc, max_nodes)?;
+        let analysis = Analysis::with_room(alloc, max_nodes)?;
         let desk = Desk {
             room: GroupRoom::new(alloc, max_text, max_text / block + 1, max_nodes)?,
             reverse_any: Table::with_room(alloc, REVERSE_ANY, block + 1, max_nodes)?,
@@ -64,7 +64,7 @@ impl Scratch {
             max_text,
             max_nodes,
         };
-        Ok(Scratch { desk, prepared })
+        Ok(Scratch { desk, analysis })
     }
 
     /// Lets the room go, as `TableMatcher::close` does a matcher.

@@ -14,7 +14,7 @@ ghost use Rattle.sedpass.specs.Search.{owed_after_search};
 ghost use Rattle.sedpass.specs.Walks.{EntersGroups};
 ghost use Rattle.sedmatch.specs.Direct.{IsDirect};
 ghost use Rattle.sedmatch.specs.Occurrences.{IsReverseAny, ServesFrom, ServesOn, AnswersNext, owed, owed_after, owed_direct};
-ghost use Rattle.sedmatch.specs.Passes.{ArePasses, IsDeskFor, KeepsDesk, KeepsPasses};
+ghost use Rattle.sedmatch.specs.Passes.{ArePasses, IsDeskFor, KeepsDesk};
 
 use crate::Span;
 use crate::direct::{DirectForm, direct_form_of, direct_matches, direct_span};
@@ -25,6 +25,7 @@ use crate::passes::{
 use crate::scratch::{Desk, Scratch};
 use crate::stretches::find_first;
 use crate::table_room::TableRoom;
+use sedpass::nodes::Prepared;
 use sedpass::table::Table;
 use sedre::{Expr, Steps};
 use sedtext::beginnings::Begins;
@@ -37,20 +38,21 @@ use std::marker::Model;
 /// How an expression is searched.
 #[derive(Drop)]
 pub enum SearchMethod {
-    /// By a look at the text: the expression, and the form of its matches.
-    Direct(Expr, DirectForm),
+    /// By a look at the text, since its matches have this form.
+    Direct(DirectForm),
     /// By passes.
     Passes(Box<Passes>),
 }
 
 /// An expression that is sought many times: what was found out of it, and of texts, serves at all later texts.
 ///
-/// All room is taken in [`TableMatcher::new`]. An expression that a look at the text settles has no table, any other three, as far as
+/// All room is taken in [`TableMatcher::new`]. An expression that a look at the text settles has no table, any other four, as far as
 /// the room that is given goes; their memory is touched as states of passes are found. Where an expression is used once,
 /// [`crate::find`] is the better choice: it needs no table.
 #[derive(Drop)]
 pub struct TableMatcher {
-    engine: SearchMethod,
+    expr: Expr,
+    method: SearchMethod,
 }
 
 impl Model for TableMatcher {
@@ -58,11 +60,11 @@ impl Model for TableMatcher {
 
     ghost Value = { WrittenExpression };
 
-    ghost use Rattle.sedmatch.specs.Passes.{IsEngine, searched_expression};
+    ghost use Rattle.sedmatch.specs.Passes.{IsSearchedBy};
 
-    ghost view = { λ m. searched_expression m.engine };
+    ghost view = { λ m. m.expr };
 
-    ghost invariant = { λ m. IsEngine m.engine };
+    ghost invariant = { λ m. IsSearchedBy m.expr m.method };
 }
 
 /// The next occurrence by a look at the text.
@@ -91,6 +93,7 @@ fn next_direct(
 
 /// The next occurrence by passes.
 fn next_by_passes(
+    expr: &Expr,
     passes: &mut Passes,
     text: &Text,
     last: Option<usize>,
@@ -98,15 +101,15 @@ fn next_by_passes(
     desk: &mut Desk,
     steps: &mut Steps,
 ) -> Option<Span>
-    requires passes { ArePasses passes.old.prepared.arena.expr passes.old }
-    requires desk { IsDeskFor passes.old.prepared.arena.expr text.now desk.old }
+    requires passes { ArePasses expr.now passes.old }
+    requires desk { IsDeskFor expr.now text.now desk.old }
     requires last { EndsWithin (length text.now) last }
-    requires serves { ServesFrom passes.old.prepared.arena.expr text.now last occurrences.old }
-    ensures passes { KeepsPasses passes.old passes.new }
+    requires serves { ServesFrom expr.now text.now last occurrences.old }
+    ensures passes { ArePasses expr.now passes.new }
     ensures desk { KeepsDesk desk.old desk.new }
-    ensures answered { AnswersNext passes.old.prepared.arena.expr text.now last occurrences.old occurrences.new steps.old steps.new result }
+    ensures answered { AnswersNext expr.now text.now last occurrences.old occurrences.new steps.old steps.new result }
 {
-    let prepared = &passes.prepared;
+    let prepared = &Prepared::of(expr, &passes.analysis);
     if let Some(own) = &mut passes.own {
         let forward_one = &mut own.forward_one;
         return next_by(prepared, text, forward_one, occurrences, last, steps);
@@ -128,14 +131,15 @@ impl TableMatcher {
         ensures { IfOk result (λ m. m ≡ expr.now) }
     {
         let chain = chain_of(alloc, expr, steps)?;
-        let engine = match direct_form_of(alloc, expr, &chain, steps)? {
-            Some(form) => SearchMethod::Direct(expr.copy(alloc)?, form),
+        let method = match direct_form_of(alloc, expr, &chain, steps)? {
+            Some(form) => SearchMethod::Direct(form),
             None => {
                 let passes = new_passes(alloc, expr, &chain, room, steps)?;
                 SearchMethod::Passes(Box::new(alloc, passes)?)
             }
         };
-        Ok(TableMatcher { engine })
+        let expr = expr.copy(alloc)?;
+        Ok(TableMatcher { expr, method })
     }
 
     /// Lets it go. By this call what it holds is proved to be let go of once, and not in each crate above.
@@ -150,10 +154,10 @@ impl TableMatcher {
 
     /// How many bytes its own tables take at most, with the one for all occurrences in a text.
     pub fn size_of_tables(&self) -> usize {
-        match &self.engine {
-            SearchMethod::Direct(_, _) => 0,
+        match &self.method {
+            SearchMethod::Direct(_) => 0,
             SearchMethod::Passes(passes) => match &passes.own {
-                Some(own) => size_of(passes.prepared.nodes(), own.forward_any.room),
+                Some(own) => size_of(self.expr.nodes(), own.forward_any.room),
                 None => 0,
             },
         }
@@ -163,11 +167,11 @@ impl TableMatcher {
     pub(crate) fn reverse_table(&self, alloc: Global) -> Result<Option<Table>, AllocError>
         ensures { IfOk result (λ t. IfSome t (IsReverseAny self.now)) }
     {
-        match &self.engine {
+        match &self.method {
             SearchMethod::Passes(passes) if passes.own.is_some() => {
-                let prepared = &passes.prepared;
-                let mut table = Table::with_room(alloc, REVERSE_ANY, OWN_STATES, prepared.nodes())?;
-                table.fit(prepared);
+                let nodes = self.expr.nodes();
+                let mut table = Table::with_room(alloc, REVERSE_ANY, OWN_STATES, nodes)?;
+                table.fit(&Prepared::of(&self.expr, &passes.analysis));
                 Ok(Some(table))
             }
             _ => Ok(None),
@@ -178,10 +182,7 @@ impl TableMatcher {
     pub fn nodes(&self) -> usize
         ensures { result ≡ length self.now.nodes }
     {
-        match &self.engine {
-            SearchMethod::Direct(expr, _) => expr.nodes(),
-            SearchMethod::Passes(passes) => passes.prepared.nodes(),
-        }
+        self.expr.nodes()
     }
 
     /// A place of a text of many lines before which no line has a match, each line taken as a text of its own; None where no
@@ -192,15 +193,15 @@ impl TableMatcher {
         ensures cost { Takes steps.old steps.new (25 * (length text.now + 1)) }
         ensures counts { IfSome result (λ k. TakesAtLeast steps.old steps.new k) }
     {
-        match &self.engine {
-            SearchMethod::Direct(_, form) => match form {
+        match &self.method {
+            SearchMethod::Direct(form) => match form {
                 DirectForm::Stretch(stretch) => find_first(stretch, text, 0, steps),
                 DirectForm::Literal(finder) => find_literal(text, finder, 0, steps),
                 DirectForm::FixedRun(_, _) => Some(0),
             },
             SearchMethod::Passes(passes) => {
-                let prepared = &passes.prepared;
-                match (&prepared.required, &prepared.begins) {
+                let analysis = &passes.analysis;
+                match (&analysis.required, &analysis.begins) {
                     (Some(required), _) => find_literal(text, &required.finder, 0, steps),
                     (None, Begins::Before(sieve)) => sift(text, sieve, 0, steps),
                     _ => Some(0),
@@ -227,9 +228,10 @@ impl TableMatcher {
         ensures cost { Takes steps.old steps.new (64 * length self.old.nodes * (length text.now + 1)) }
     {
         let desk = &mut scratch.desk;
-        match &mut self.engine {
-            SearchMethod::Direct(_, form) => direct_matches(form, text, from, steps),
-            SearchMethod::Passes(passes) => matches_by(passes, text, from, desk, steps),
+        let expr = &self.expr;
+        match &mut self.method {
+            SearchMethod::Direct(form) => direct_matches(form, text, from, steps),
+            SearchMethod::Passes(passes) => matches_by(expr, passes, text, from, desk, steps),
         }
     }
 
@@ -263,10 +265,12 @@ impl TableMatcher {
         ensures counts { IfSome result (λ f. TakesAtLeast steps.old steps.new (f.1 - f.0)) }
         ensures passes { CanEndEarly (expression_tree self.old) → IfSome result (λ f. TakesAtLeast steps.old steps.new (bytes_passed last f)) }
     {
-        match &mut self.engine {
-            SearchMethod::Direct(_, form) => next_direct(form, text, last, steps),
+        let expr = &self.expr;
+        match &mut self.method {
+            SearchMethod::Direct(form) => next_direct(form, text, last, steps),
             SearchMethod::Passes(passes) => {
-                next_by_passes(passes, text, last, occurrences, &mut scratch.desk, steps)
+                let desk = &mut scratch.desk;
+                next_by_passes(expr, passes, text, last, occurrences, desk, steps)
             },
         }
     }
@@ -296,10 +300,10 @@ impl TableMatcher {
         ensures counts { TakesAtLeast steps.old steps.new (spans_in result - 1) }
         ensures entered { EntersGroups (expression_tree self.old) text.now start end steps.old steps.new }
     {
-        let span = (start, end);
-        match &mut self.engine {
-            SearchMethod::Direct(_, _) => whole_alone(span),
-            SearchMethod::Passes(passes) => groups_by(passes, text, span, &mut scratch.desk, steps),
+        let (span, expr, desk) = ((start, end), &self.expr, &mut scratch.desk);
+        match &mut self.method {
+            SearchMethod::Direct(_) => whole_alone(span),
+            SearchMethod::Passes(passes) => groups_by(expr, passes, text, span, desk, steps),
         }
     }
 }

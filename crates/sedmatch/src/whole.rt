@@ -9,6 +9,7 @@ ghost use Rattle.sedpass.specs.Walks.{EntersGroups};
 use crate::passes::shared_groups;
 use crate::scratch::Scratch;
 use sedpass::kept::Subject;
+use sedpass::nodes::Prepared;
 use sedpass::search::next_kept;
 use sedre::{Expr, Steps};
 use sedtext::{Found, Text};
@@ -42,8 +43,8 @@ pub fn find(
     ensures counts { IfSome result (λ f. TakesAtLeast steps.old steps.new (f.end - f.start)) }
     ensures entered { IfSome result (λ f. EntersGroups (expression_tree expr.now) text.now f.start f.end steps.old steps.new) }
 {
-    scratch.prepared.fit(expr, steps);
-    let prepared = &scratch.prepared;
+    scratch.analysis.fit(expr, steps);
+    let prepared = &Prepared::of(expr, &scratch.analysis);
     let subject = Subject { prepared, text };
     let desk = &mut scratch.desk;
     let forward_one = &mut desk.shared.forward_one;
@@ -51,7 +52,7 @@ pub fn find(
     forward_one.fit(subject.prepared);
     reverse_any.fit(subject.prepared);
     let kept = &mut desk.room.kept;
-    kept.begin(subject, reverse_any, prepared.root, text.len());
+    kept.begin(subject, reverse_any, prepared.root(), text.len());
     let span = next_kept(subject, forward_one, reverse_any, kept, from, steps)?;
     let groups = shared_groups(subject, span, desk, steps);
     let (start, end) = span;

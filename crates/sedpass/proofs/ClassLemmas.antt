@@ -1,5 +1,5 @@
 -- How classes of bytes are found.
-use Rattle.std.proofs.Common.{rules, ◌≡◌, ℕ, ◌+◌, ◌*◌, ◌<◌, ◌≤◌, Bool, true, false, List, length, Some, IsTrue, arith, slice_get, slice_index_or, slice_set}
+use Rattle.std.proofs.Common.{rules, ◌≡◌, ℕ, ◌+◌, ◌*◌, ◌<◌, ◌≤◌, Bool, true, false, List, length, Some, IsTrue, slice_get, slice_index_or, slice_set}
 use Rattle.sedpass.proofs.Words.{from_bool, cases_eq, same_Some}
 use Rattle.sedre.specs.Sets.{has}
 use Rattle.sedpass.specs.Classes.{IsNumbering, IsFiner}
@@ -12,8 +12,7 @@ abbrev pub key_of : List ℕ → List Bool → ℕ → ℕ
 key_of classes members byte = 2 * at classes byte + from_bool (has members byte)
 
 pub bit_low : (b : Bool) → from_bool b ≤ 1
-bit_low true = omega arith
-bit_low false = omega arith
+bit_low b = search rules
 
 -- the first n bytes have the numbers of their keys
 abbrev pub AreGiven : (ℕ → ℕ) → List ℕ → List ℕ → ℕ → ℕ → Type 0
@@ -34,14 +33,9 @@ pub record AreParted (sets : List (List Bool)) (n : ℕ) (of : List ℕ) (count 
 
 pub parted_more : (sets : List (List Bool)) (n : ℕ) (members alone : List Bool) (old of : List ℕ) (count next : ℕ) → slice_get sets n ≡ Some members → AreParted sets n old count alone → IsFiner old members of next →
     AreParted sets (n + 1) of next alone
-parted_more sets n members alone old of count next is parted finer = record {
-  wide = finer.wide;
-  each = parted.each;
-  few = finer.few;
-  below = finer.below;
-  alike = search (rules, finer, same_Some, cases_eq);
-  apart = λ b other low low' marked e. parted.apart b other low low' marked (finer.alike other b low' low e).0;
-}
+parted_more sets n members alone old of count next is parted more =
+    let apart : (b other : ℕ) → b < 256 → other < 256 → IsTrue (slice_index_or alone b false) → at of other ≡ at of b → other ≡ b = λ b other low low' marked e. parted.apart b other low low' marked (more.alike other b low' low e).0 in
+    search (rules, same_Some, cases_eq)
 
 -- a set of one byte that is marked parts nothing more
 pub alone_more : (sets : List (List Bool)) (n : ℕ) (members alone : List Bool) (b : ℕ) (of : List ℕ) (count : ℕ) → slice_get sets n ≡ Some members → ((c : ℕ) → IsTrue (has members c) → c ≡ b) →

@@ -1,5 +1,5 @@
 -- The bits of a set of groups.
-use Rattle.std.proofs.Common.{rules, ◌≡◌, ℕ, zero, suc, ◌-◌, ◌*◌, ◌%◌, ◌^◌, ◌<◌, ◌≤◌, Bool, true, false, ◌&&◌, ◌||◌, not, IsTrue, refl, ap, ◌∙◌, ⊎_elim, min, arith, bit_and, bit_or, w16, eqb, nat_lt}
+use Rattle.std.proofs.Common.{rules, ◌≡◌, ℕ, zero, suc, ◌-◌, ◌*◌, ◌%◌, ◌^◌, ◌<◌, ◌≤◌, ◌&&◌, ◌||◌, not, IsTrue, ap, inl, inr, arith, bit_and, bit_or, w16, eqb, nat_lt}
 use Rattle.std.proofs.lemmas.Grind.{common_steps}
 use Rattle.sedpass.proofs.Words.{bit_at, trailing_zeros, and-false, mod-eq_of_lt, bit_at_or, bit_at_and, bit_at_not, bit_at-lt, bit_at-zero, bit_at-pow_same, bit_at-pow_other, bit_at_above, bit_at_ones, bit_at-trailing_zeros, and_le_r, ne_eqb, and_parts, and_from, cases_lt, cases_eq, eqb-true, eq-eqb, lt-ltb, ltb-true, GroupSet}
 use Rattle.std.proofs.Math.Pow.{pow_mono}
@@ -17,40 +17,24 @@ two_bits P p q r s (suc zero) (suc zero) small small' = s
 two_bits P p q r s (suc (suc a)) b small small' = absurd (omega (arith, small))
 two_bits P p q r s a (suc (suc b)) small small' = absurd (omega (arith, small'))
 
-both_not : (l x y : Bool) → (l && (x && not y)) ≡ ((l && x) && not (l && y))
-both_not true x y = refl
-both_not false x y = refl
-
-under : (l x y : Bool) → (l ≡ true → x ≡ y) → (l && x) ≡ (l && y)
-under true x y same = same refl
-under false x y same = refl
-
 pub holds_union : (a b k : ℕ) → holds (of_bits (bit_or a b)) k ≡ (holds (of_bits a) k || holds (of_bits b) k)
 holds_union a b k = search (rules, bit_at_or, two_bits, bit_at-lt)
 
 pub holds_without : (a b k : ℕ) → b < 65536 → holds (of_bits (bit_and a (65535 - b))) k ≡ (holds (of_bits a) k && not (holds (of_bits b) k))
 holds_without a b k small =
-    under (nat_lt k 10) (eqb (bit_at (bit_and a (65535 - b)) k) 1) (eqb (bit_at a k) 1 && not (eqb (bit_at b k) 1))
-    (λ low.
-    let less = ltb-true k 10 low in
-    let turned : bit_at (65535 - b) k ≡ 1 - bit_at b k = bit_at_not w16 b k small (omega arith) in
-    ap (λ x. eqb x 1) (bit_at_and a (65535 - b) k ∙ ap (min (bit_at a k)) turned) ∙ two_bits (λ x y. eqb (min x (1 - y)) 1 ≡ (eqb x 1 && not (eqb y 1))) refl refl refl refl (bit_at a k) (bit_at b k) (bit_at-lt a k) (bit_at-lt b k))
-    ∙ both_not (nat_lt k 10) (eqb (bit_at a k) 1) (eqb (bit_at b k) 1)
+    let turned : k < 10 → bit_at (65535 - b) k ≡ 1 - bit_at b k = λ low. bit_at_not w16 b k small (omega arith) in
+    grind (arith, common_steps, ltb-true, bit_at_and, bit_at-lt)
 
 pub holds_one : (k n : ℕ) → 1 ≤ k → k ≤ 9 → holds (of_bits (1 * 2 ^ k % 65536)) n ≡ (reported n && eqb k n)
 holds_one k n low high = grind (arith, common_steps, pow_mono, mod-eq_of_lt, bit_at-pow_same, lt-ltb, eq-eqb, bit_at-pow_other, ne_eqb, and-false, cases_eq)
-
-bit_true : (n k : ℕ) → eqb (bit_at n k) 1 ≡ true → bit_at n k ≡ 1
-bit_true n k h = eqb-true (bit_at n k) 1 h
 
 pub meet_in : (a b : ℕ) → a < 65536 → (bit_and (bit_and a b) 1023 ≡ 0 → ⊥) → (k : ℕ) × IsTrue (holds (of_bits a) k) × IsTrue (holds (of_bits b) k)
 meet_in a b small some =
     let n = bit_and (bit_and a b) 1023 in
     let most : n ≤ 1023 = and_le_r (bit_and a b) 1023 in
-    let found = bit_at-trailing_zeros w16 n (omega arith) (omega arith) in
     let k = trailing_zeros w16 n in
-    let bit : bit_at n k ≡ 1 = found.1 in
-    let low : k < 10 = ⊎_elim (λ (lt : k < 10). lt) (λ (ge : 10 ≤ k). absurd (omega (arith, bit, bit_at_above n 10 k (omega arith) ge))) (cases_lt k 10) in
+    let bit : bit_at n k ≡ 1 = (bit_at-trailing_zeros w16 n (omega arith) (omega arith)).1 in
+    let low : k < 10 = elim (cases_lt k 10) [ inl lt ↦ lt | inr ge ↦ absurd (omega (arith, bit, bit_at_above n 10 k (omega arith) ge)) ] in
     let whole = bit_at_and (bit_and a b) 1023 k in
     let parts = bit_at_and a b k in
     let one : bit_at a k ≡ 1 = omega (arith, bit, whole, parts, bit_at-lt a k) in
@@ -60,7 +44,6 @@ meet_in a b small some =
 pub in_both : (a b k : ℕ) → IsTrue (holds (of_bits a) k) → IsTrue (holds (of_bits b) k) → bit_and (bit_and a b) 1023 ≡ 0 → ⊥
 in_both a b k one other none =
     let low = ltb-true k 10 (and_parts (nat_lt k 10) (eqb (bit_at a k) 1) one).0 in
-    let x = bit_true a k (and_parts (nat_lt k 10) (eqb (bit_at a k) 1) one).1 in
-    let y = bit_true b k (and_parts (nat_lt k 10) (eqb (bit_at b k) 1) other).1 in
-    let ones : bit_at 1023 k ≡ 1 = bit_at_ones 10 k low in
-    omega (arith, x, y, ones, bit_at_and (bit_and a b) 1023 k, bit_at_and a b k, ap (λ n. bit_at n k) none, bit_at-zero k)
+    let x = eqb-true (bit_at a k) 1 (and_parts (nat_lt k 10) (eqb (bit_at a k) 1) one).1 in
+    let y = eqb-true (bit_at b k) 1 (and_parts (nat_lt k 10) (eqb (bit_at b k) 1) other).1 in
+    omega (arith, x, y, bit_at_ones 10 k low, bit_at_and (bit_and a b) 1023 k, bit_at_and a b k, ap (λ n. bit_at n k) none, bit_at-zero k)

@@ -1,6 +1,6 @@
 -- How a part is left, by what follows it in its node, and what a node is left to that nothing follows.
-use Rattle.std.proofs.Common.{◌≡◌, ℕ, ◌+◌, ◌-◌, ◌<◌, ◌≤◌, ◌⊎◌, ◌↔◌, true, List, length, reverse, Some, refl, sym, ap, ◌∙◌, subst, inl, inr, ⊎_elim, arith, slice_get}
-use Rattle.sedpass.proofs.Words.{cases_lt, IsArena, IsPart, HasTwoParts, WrittenExpression, tree_at, mirror_node, seen, seen-node, old_node, Node, Seq, Alt, Group, Star, Opt, Starts, no_copy, HasSpan, BeginsWith, IsStart, Enters, at_root, with_whole, after_left, again, CanEnd, Matches-forward, close_at, same_node, HasSpan-mirror}
+use Rattle.std.proofs.Common.{rules, ◌≡◌, ℕ, ◌+◌, ◌-◌, ◌≤◌, ◌⊎◌, ◌↔◌, true, List, length, reverse, Some, refl, inl, arith, slice_get}
+use Rattle.sedpass.proofs.Words.{IsArena, IsPart, HasTwoParts, WrittenExpression, tree_at, mirror_node, seen, seen-node, old_node, Node, Seq, Alt, Group, Star, Opt, Starts, no_copy, HasSpan, BeginsWith, IsStart, Enters, at_root, with_whole, after_left, again, CanEnd, Matches-forward, close_at, same_node, HasSpan-mirror}
 use Rattle.sedpass.specs.Regions.{EndsWith, CanLeave, at_end, with_end, before_right, before_copies, ReachesEnd, EndsPastIn, Opposite, IsLastPart, IsLastIn, all_of, last_of}
 
 -- how the part c of the node at y is left at i
@@ -14,78 +14,44 @@ OutOf nodes w r t y c i (Opt a first) = CanLeave nodes w r t y i
 OutOf nodes w r t y c i other = ⊥
 
 EndsWith-part : (node : Node) (c : ℕ) → EndsWith node c → IsPart node c
-EndsWith-part (Seq a b) c h = inr h
-EndsWith-part other c h = h
+EndsWith-part node c h = grind arith
 
 IsLastPart-ends : (node : Node) (c : ℕ) → IsLastPart node c → EndsWith node c
-IsLastPart-ends (Star a first) c h = absurd h
-IsLastPart-ends other c h = h
+IsLastPart-ends node c h = grind arith
 
 module _ (nodes : List Node) (w : List ℕ) (r : ℕ) (t : Starts) (arena : IsArena nodes) where
   -- a part that ends where its node does
   OutOf-with_end : (y c i : ℕ) (node : Node) → slice_get nodes y ≡ Some node → EndsWith node c → CanLeave nodes w r t y i → OutOf nodes w r t y c i node
-  OutOf-with_end y c i (Seq a b) is ends l = inl (ends, l)
-  OutOf-with_end y c i (Alt a b) is ends l = l
-  OutOf-with_end y c i (Group k a) is ends l = l
   OutOf-with_end y c i (Star a first) is ends l = (i, l, close_at nodes w y (Star a first) arena is i i no_copy)
-  OutOf-with_end y c i (Opt a first) is ends l = l
-  OutOf-with_end y c i other is ends l = ends
-
-  -- the same way out of another node with the part, which is this one
-  moved : (y z c i : ℕ) (node other : Node) → slice_get nodes y ≡ Some node → slice_get nodes z ≡ Some other → IsPart node c → IsPart other c → OutOf nodes w r t z c i other → OutOf nodes w r t y c i node
-  moved y z c i node other is is' part part' out =
-      let both = same_node nodes arena z y c other node is' is part' part in
-      subst (λ v. OutOf nodes w r t v c i node) both.0 (subst (λ n. OutOf nodes w r t z c i n) both.1 out)
+  OutOf-with_end y c i other is ends l = search rules
 
   -- a part is left through its node alone
   pub CanLeave-part : (y : ℕ) → y ≤ r → (c i : ℕ) (node : Node) → slice_get nodes y ≡ Some node → IsPart node c → CanLeave nodes w r t c i → OutOf nodes w r t y c i node
-  CanLeave-part y le c i node is part (at_end _ _ last stop) =
-      let below : c < y = arena.below y c node is part in
-      absurd (omega arith)
+  CanLeave-part y le c i node is part (at_end _ _ last stop) = search rules
   CanLeave-part y le c i node is part (with_end z _ _ other is' ends l) =
-      moved y z c i node other is is' part (EndsWith-part other c ends) (OutOf-with_end z c i other is' ends l)
-  CanLeave-part y le c i node is part (before_right z _ _ k a b is' left l at) =
-      moved y z c i node (Seq a b) is is' part (inl left) (inr (left, (k, l, at)))
-  CanLeave-part y le c i node is part (before_copies z _ _ k a first is' inner l at) =
-      moved y z c i node (Star a first) is is' part inner (k, l, at)
+      search (rules, same_node nodes arena z y c other node is' is, EndsWith-part other c ends, OutOf-with_end z c i other is' ends l)
+  CanLeave-part y le c i node is part (before_right z _ _ k a b is' left l at) = search (rules, same_node nodes arena z y c (Seq a b) node is' is (inl left) part)
+  CanLeave-part y le c i node is part (before_copies z _ _ k a first is' inner l at) = search (rules, same_node nodes arena z y c (Star a first) node is' is inner part)
 
   -- only r and nodes below it are left, r at the ends alone, and nothing after the last end
   pub CanLeave-all : (x i : ℕ) → CanLeave nodes w r t x i → (x ≤ r) × (x ≡ r → IsStart t i) × (i ≤ t.last)
-  CanLeave-all x i (at_end _ _ last stop) = (omega arith, λ _. stop, omega arith)
-  CanLeave-all x i (with_end z _ _ other is' ends l) =
-      let up = CanLeave-all z i l in
-      let below : x < z = arena.below z x other is' (EndsWith-part other x ends) in
-      (omega (arith, up.0), λ same. absurd (omega (arith, up.0, same)), up.2)
+  CanLeave-all x i (at_end _ _ last stop) = search rules
+  CanLeave-all x i (with_end z _ _ other is' ends l) = search (rules, CanLeave-all z i l, arena.below z x other is' (EndsWith-part other x ends))
   CanLeave-all x i (before_right z _ _ k a b is' left l at) =
-      let up = CanLeave-all z k l in
-      let below : x < z = arena.below z x (Seq a b) is' (inl left) in
-      let on = Matches-forward (tree_at nodes b.index) w i k at in
-      (omega (arith, up.0), λ same. absurd (omega (arith, up.0, same)), omega (arith, up.2))
+      search (rules, CanLeave-all z k l, arena.below z x (Seq a b) is' (inl left), Matches-forward (tree_at nodes b.index) w i k at)
   CanLeave-all x i (before_copies z _ _ k a first is' inner l at) =
-      let up = CanLeave-all z k l in
-      let below : x < z = arena.below z x (Star a first) is' inner in
-      let on = Matches-forward (tree_at nodes z) w i k at in
-      (omega (arith, up.0), λ same. absurd (omega (arith, up.0, same)), omega (arith, up.2))
+      search (rules, CanLeave-all z k l, arena.below z x (Star a first) is' inner, Matches-forward (tree_at nodes z) w i k at)
 
   pub CanLeave-to : (x i : ℕ) → CanLeave nodes w r t x i → i ≤ t.last
   CanLeave-to x i l = (CanLeave-all x i l).2
 
   -- a part that ends wherever its node does is left where the node is
   OutOf-last : (y c i : ℕ) (node : Node) → HasTwoParts node → IsLastPart node c → OutOf nodes w r t y c i node → CanLeave nodes w r t y i
-  OutOf-last y c i (Seq a b) two last (inl out) = out.1
-  OutOf-last y c i (Seq a b) two last (inr out) = absurd (two (out.0 ∙ sym last))
-  OutOf-last y c i (Alt a b) two last out = out
-  OutOf-last y c i (Group k a) two last out = out
-  OutOf-last y c i (Star a first) two last out = absurd last
-  OutOf-last y c i (Opt a first) two last out = out
-  OutOf-last y c i other two last out = absurd out
+  OutOf-last y c i node two last out = grind arith
 
   pub last_inside : (x : ℕ) → IsLastIn nodes r x → x ≤ r
   last_inside x (all_of _ same) = omega arith
-  last_inside x (last_of y _ node is last up) =
-      let top = last_inside y up in
-      let below : x < y = arena.below y x node is (EndsWith-part node x (IsLastPart-ends node x last)) in
-      omega arith
+  last_inside x (last_of y _ node is last up) = search (rules, last_inside y up, arena.below y x node is, EndsWith-part node x, IsLastPart-ends node x last)
 
   -- a node that nothing follows is left at the ends, and nowhere else
   pub CanLeave-last : (x i : ℕ) → IsLastIn nodes r x → IsStart t i → CanLeave nodes w r t x i
@@ -104,81 +70,56 @@ reaches_ends nodes w r x p t arena last = (λ h. (h.0, last-leaves nodes w r t a
 
 -- a node ends with a byte or without
 pub ends_at : (nodes : List Node) (w : List ℕ) (r x q : ℕ) (s : Starts) → EndsPastIn nodes w r s x q ↔ (CanEnd nodes w r s x q ⊎ (Enters nodes w r s x q × HasSpan nodes w x q q))
-ends_at nodes w r x q s = (
-  λ h.
-      let on = Matches-forward (tree_at nodes x) w h.0 q h.2 in
-      ⊎_elim
-      (λ (lt : h.0 < q). inl (h.0, lt, h.1, h.2))
-      (λ (ge : q ≤ h.0).
-      let same : h.0 ≡ q = omega arith in
-      inr (subst (λ v. Enters nodes w r s x v) same h.1, subst (λ v. HasSpan nodes w x v q) same h.2))
-      (cases_lt h.0 q),
-  λ h. elim h [ inl ends ↦ (ends.0, ends.2, ends.3) | inr null ↦ (q, null.0, null.1) ],
-)
+ends_at nodes w r x q s = (λ h. search (rules, Matches-forward (tree_at nodes x) w h.0 q h.2), λ h. search rules)
 
 -- a part that begins where the node does ends where the mirrored one does, and the other way about
 sides : (node : Node) (c : ℕ) → (BeginsWith node c → EndsWith (mirror_node node) c) × (EndsWith node c → BeginsWith (mirror_node node) c)
-sides (Seq a b) c = (λ h. h, λ h. h)
-sides other c = (λ h. h, λ h. h)
+sides node c = grind arith
 
 pub twice : (node : Node) → mirror_node (mirror_node node) ≡ node
-twice (Seq a b) = refl
-twice other = refl
+twice node = grind arith
 
 -- the ends t of the expression are the starts s of the mirrored one
 module _ (e : WrittenExpression) (w : List ℕ) (r : ℕ) (s t : Starts) (arena : IsArena e.nodes) (opposite : Opposite (length w) s t) (inside : t.last ≤ length w) where
   -- the node as it is, of the mirrored one
   unmirrored : (y : ℕ) (node : Node) → slice_get (seen true e).nodes y ≡ Some node → slice_get e.nodes y ≡ Some (mirror_node node)
-  unmirrored y node is =
-      let old = old_node e.nodes y node is in
-      old.1 ∙ ap (λ (n : Node). Some n) (sym (twice old.0) ∙ ap mirror_node old.2)
+  unmirrored y node is = search (rules, old_node, twice)
+
+  -- how far a place is from the other end
+  far : (k : ℕ) → k ≤ length w → (g : ℕ) × (k + g ≡ length w) × (g + k ≡ length w)
+  far k low = (length w - k, omega arith, omega arith)
+
+  span_in : (x i k d g : ℕ) → i + d ≡ length w → k + g ≡ length w → HasSpan e.nodes w x i k ↔ HasSpan (seen true e).nodes (reverse w) x g d
+  span_in x i k d g = HasSpan-mirror e (seen true e) w (reverse w) x i k d g refl refl
 
   -- a way out is a way in from the other end
   pub CanLeave-mirror : (x i d : ℕ) → i + d ≡ length w → CanLeave e.nodes w r t x i → Enters (seen true e).nodes (reverse w) r s x d
   CanLeave-mirror x i d sum (at_end _ _ last stop) = at_root x d last ((opposite i d sum).1 stop)
-  CanLeave-mirror x i d sum (with_end y _ _ node is ends l) =
-      with_whole y x d (mirror_node node) (seen-node true e y node is) ((sides node x).1 ends) (CanLeave-mirror y i d sum l)
+  CanLeave-mirror x i d sum (with_end y _ _ node is ends l) = search (rules, with_whole, seen-node true e y node is, sides node x, CanLeave-mirror y i d sum l)
   CanLeave-mirror x i d sum (before_right y _ _ k a b is left l at) =
-      let top = CanLeave-to e.nodes w r t arena y k l in
-      let g = length w - k in
-      let middle : k + g ≡ length w = omega arith in
-      after_left y x g d b a (seen-node true e y (Seq a b) is) left (CanLeave-mirror y k g middle l)
-      ((HasSpan-mirror e (seen true e) w (reverse w) b.index i k d g refl refl sum middle).0 at)
+      let m = far k (let top = CanLeave-to e.nodes w r t arena y k l in omega arith) in
+      after_left y x m.0 d b a (seen-node true e y (Seq a b) is) left (CanLeave-mirror y k m.0 m.1 l) ((span_in b.index i k d m.0 sum m.1).0 at)
   CanLeave-mirror x i d sum (before_copies y _ _ k a first is inner l at) =
-      let top = CanLeave-to e.nodes w r t arena y k l in
-      let g = length w - k in
-      let middle : k + g ≡ length w = omega arith in
-      again y x g d a first (seen-node true e y (Star a first) is) inner (CanLeave-mirror y k g middle l)
-      ((HasSpan-mirror e (seen true e) w (reverse w) y i k d g refl refl sum middle).0 at)
+      let m = far k (let top = CanLeave-to e.nodes w r t arena y k l in omega arith) in
+      again y x m.0 d a first (seen-node true e y (Star a first) is) inner (CanLeave-mirror y k m.0 m.1 l) ((span_in y i k d m.0 sum m.1).0 at)
 
   pub CanLeave-unmirror : (x d i : ℕ) → i + d ≡ length w → Enters (seen true e).nodes (reverse w) r s x d → CanLeave e.nodes w r t x i
   CanLeave-unmirror x d i sum (at_root _ _ last start) = at_end x i last ((opposite i d sum).0 start)
-  CanLeave-unmirror x d i sum (with_whole y _ _ node is begins enters) =
-      with_end y x i (mirror_node node) (unmirrored y node is) ((sides node x).0 begins) (CanLeave-unmirror y d i sum enters)
+  CanLeave-unmirror x d i sum (with_whole y _ _ node is begins enters) = search (rules, with_end, unmirrored y node is, sides node x, CanLeave-unmirror y d i sum enters)
   CanLeave-unmirror x d i sum (after_left y _ g _ a b is right enters at) =
-      let on = Matches-forward (tree_at (seen true e).nodes a.index) (reverse w) g d at in
-      let k = length w - g in
-      let middle : k + g ≡ length w = omega arith in
-      before_right y x i k b a (unmirrored y (Seq a b) is) right (CanLeave-unmirror y g k middle enters)
-      ((HasSpan-mirror e (seen true e) w (reverse w) a.index i k d g refl refl sum middle).1 at)
+      let m = far g (let on = Matches-forward (tree_at (seen true e).nodes a.index) (reverse w) g d at in omega arith) in
+      before_right y x i m.0 b a (unmirrored y (Seq a b) is) right (CanLeave-unmirror y g m.0 m.2 enters) ((span_in a.index i m.0 d g sum m.2).1 at)
   CanLeave-unmirror x d i sum (again y _ g _ a first is inner enters at) =
-      let on = Matches-forward (tree_at (seen true e).nodes y) (reverse w) g d at in
-      let k = length w - g in
-      let middle : k + g ≡ length w = omega arith in
-      before_copies y x i k a first (unmirrored y (Star a first) is) inner (CanLeave-unmirror y g k middle enters)
-      ((HasSpan-mirror e (seen true e) w (reverse w) y i k d g refl refl sum middle).1 at)
+      let m = far g (let on = Matches-forward (tree_at (seen true e).nodes y) (reverse w) g d at in omega arith) in
+      before_copies y x i m.0 a first (unmirrored y (Star a first) is) inner (CanLeave-unmirror y g m.0 m.2 enters) ((span_in y i m.0 d g sum m.2).1 at)
 
   -- so a mark is one of a pass of the mirrored expression over the text read from its end
   pub reaches_mirror : (x p d : ℕ) → p + d ≡ length w → ReachesEnd e.nodes w r t x p ↔ EndsPastIn (seen true e).nodes (reverse w) r s x d
   reaches_mirror x p d sum = (
     λ h.
-        let top = CanLeave-to e.nodes w r t arena x h.0 h.2 in
-        let g = length w - h.0 in
-        let end : h.0 + g ≡ length w = omega arith in
-        (g, CanLeave-mirror x h.0 g end h.2, (HasSpan-mirror e (seen true e) w (reverse w) x p h.0 d g refl refl sum end).0 h.1),
+        let m = far h.0 (let top = CanLeave-to e.nodes w r t arena x h.0 h.2 in omega arith) in
+        (m.0, CanLeave-mirror x h.0 m.0 m.1 h.2, (span_in x p h.0 d m.0 sum m.1).0 h.1),
     λ h.
-        let on = Matches-forward (tree_at (seen true e).nodes x) (reverse w) h.0 d h.2 in
-        let k = length w - h.0 in
-        let end : k + h.0 ≡ length w = omega arith in
-        (k, (HasSpan-mirror e (seen true e) w (reverse w) x p k d h.0 refl refl sum end).1 h.2, CanLeave-unmirror x h.0 k end h.1),
+        let m = far h.0 (let on = Matches-forward (tree_at (seen true e).nodes x) (reverse w) h.0 d h.2 in omega arith) in
+        (m.0, (span_in x p m.0 d h.0 sum m.2).1 h.2, CanLeave-unmirror x h.0 m.0 m.2 h.1),
   )

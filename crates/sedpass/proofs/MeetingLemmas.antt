@@ -1,6 +1,6 @@
 -- Where a pass forwards over a part and a pass backwards over what holds the part meet, a match of the part goes on and
 -- the end is reached.
-use Rattle.std.proofs.Common.{◌≡◌, ℕ, zero, suc, ◌+◌, ◌-◌, ◌<◌, ◌≤◌, ◌⊎◌, ◌↔◌, Bool, List, length, Some, refl, sym, ◌∙◌, subst, inl, inr, ⊎_elim, arith, slice_get}
+use Rattle.std.proofs.Common.{◌≡◌, ℕ, zero, suc, ◌+◌, ◌-◌, ◌<◌, ◌≤◌, ◌⊎◌, ◌↔◌, Bool, List, length, Some, refl, sym, ◌∙◌, inl, inr, ⊎_elim, arith, slice_get, rules}
 use Rattle.sedpass.proofs.Words.{cases_lt, slice_get_within, IsArena, IsPart, tree_at, Node, NodeId, Empty, Set, Begin, End, Seq, Alt, Group, Star, Opt, Starts, CopiesLead, no_copy, one_more, LastCut, LastCopy, only, then_copy, IsRepetitionOf, HasSpan, BeginsWith, IsStart, one_start, Enters, at_root, with_whole, after_left, again, Matches-forward, CopiesLead-forward, CopiesLead-append, open_at, close_at, Enters-inside, star_copies, BeginsWith-part, node_at}
 use Rattle.sedpass.specs.Regions.{CanLeave, with_end, before_right, before_copies, ReachesEnd, IsLastIn, all_of, MeetsAt, CeasesAt, NextCopy, IsRunOf, repeated, in_group}
 use Rattle.sedtext.proofs.FixedRunLemmas.{CopiesLead-join}
@@ -11,13 +11,11 @@ CopiesLead-cross : (R : ℕ → ℕ → Type 0) (P : ℕ → Type 0) (G : Type 0
     ((u v : ℕ) → P u → R u v → CopiesLead R k v → u ≤ j → j < v → G) → ((u v : ℕ) → u < v → P u → R u v → P v) →
     (l : ℕ) → CopiesLead R k l → P l → l ≤ j → j < k → G
 CopiesLead-cross R P G j k each next l no_copy p low high = absurd (omega arith)
-CopiesLead-cross R P G j k each next l (one_more _ m lt r rest) p low high =
-    elim (cases_lt j m) [ inl here ↦ each l m p r rest low here | inr later ↦ CopiesLead-cross R P G j k each next m rest (next l m lt p r) later high ]
+CopiesLead-cross R P G j k each next l (one_more _ m lt r rest) p low high = grind (arith, each l m p r rest low, CopiesLead-cross R P G j k each next m rest (next l m lt p r))
 
 -- a copy, which may be empty, and copies after it
 CopiesLead-before : (R : ℕ → ℕ → Type 0) (k q p : ℕ) → p ≤ q → R p q → CopiesLead R k q → CopiesLead R k p
-CopiesLead-before R k q p on r rest =
-    elim (cases_lt p q) [ inl lt ↦ one_more p q lt r rest | inr ge ↦ let same : q ≡ p = omega arith in subst (λ v. CopiesLead R k v) same rest ]
+CopiesLead-before R k q p on r rest = search (rules, one_more)
 
 -- copies that lead on begin with one
 first_copy : (R : ℕ → ℕ → Type 0) (j i : ℕ) → CopiesLead R j i → i < j → (l : ℕ) × (i < l) × R i l × CopiesLead R j l
@@ -34,22 +32,14 @@ module _ (nodes : List Node) (w : List ℕ) (r : ℕ) (t : Starts) (a : ℕ) (s 
   wider y x (Seq b c) is begins p q at (inl out) = absurd (arena.distinct y (Seq b c) is (begins ∙ sym out.0))
   wider y x (Seq b c) is begins p q at (inr out) =
       let on = Matches-forward (tree_at nodes c.index) w q out.1.0 out.1.2 in
-      (out.1.0, on, close_at nodes w y (Seq b c) arena is p out.1.0 (q, subst (λ v. HasSpan nodes w v p q) (sym begins) at, out.1.2), out.1.1)
-  wider y x (Alt b c) is begins p q at out = (
-    q,
-    omega arith,
-    close_at nodes w y (Alt b c) arena is p q (elim begins [ inl l ↦ inl (subst (λ v. HasSpan nodes w v p q) (sym l) at) | inr m ↦ inr (subst (λ v. HasSpan nodes w v p q) (sym m) at) ]),
-    out,
-  )
-  wider y x (Group g b) is begins p q at out =
-      (q, omega arith, close_at nodes w y (Group g b) arena is p q (subst (λ v. HasSpan nodes w v p q) (sym begins) at), out)
+      (out.1.0, on, close_at nodes w y (Seq b c) arena is p out.1.0 (q, rw begins at, out.1.2), out.1.1)
+  wider y x (Alt b c) is begins p q at out = (q, omega arith, close_at nodes w y (Alt b c) arena is p q (search (rules, begins)), out)
+  wider y x (Group g b) is begins p q at out = (q, omega arith, close_at nodes w y (Group g b) arena is p q (rw begins at), out)
   wider y x (Star b first) is begins p q at out =
       let on = Matches-forward (tree_at nodes y) w q out.0 out.2 in
-      let copies = open_at nodes w y (Star b first) arena is q out.0 out.2 in
-      let copy = subst (λ v. HasSpan nodes w v p q) (sym begins) at in
-      (out.0, on, close_at nodes w y (Star b first) arena is p out.0 (CopiesLead-before (HasSpan nodes w b.index) out.0 q p (Matches-forward (tree_at nodes x) w p q at) copy copies), out.1)
-  wider y x (Opt b first) is begins p q at out =
-      (q, omega arith, close_at nodes w y (Opt b first) arena is p q (inr (subst (λ v. HasSpan nodes w v p q) (sym begins) at)), out)
+      let copies = CopiesLead-before (HasSpan nodes w b.index) out.0 q p (Matches-forward (tree_at nodes x) w p q at) (rw begins at) (open_at nodes w y (Star b first) arena is q out.0 out.2) in
+      (out.0, on, close_at nodes w y (Star b first) arena is p out.0 copies, out.1)
+  wider y x (Opt b first) is begins p q at out = (q, omega arith, close_at nodes w y (Opt b first) arena is p q (inr (rw begins at)), out)
   wider y x other is begins p q at out = absurd begins
 
   -- a match of a from a start up to p ends at q or later, where a is left
@@ -57,38 +47,29 @@ module _ (nodes : List Node) (w : List ℕ) (r : ℕ) (t : Starts) (a : ℕ) (s 
   Onwards p q = (i : ℕ) × (k : ℕ) × IsStart s i × (i ≤ p) × (q ≤ k) × HasSpan nodes w a i k × CanLeave nodes w r t a k
 
   onto : (p p' q q' : ℕ) → p' ≤ p → q ≤ q' → Onwards p' q' → Onwards p q
-  onto p p' q q' low high all = (all.0, all.1, all.2, omega (arith, low, all.3), omega (arith, high, all.4), all.5, all.6)
+  onto p p' q q' low high all = search rules
 
   -- sound: a node in a that is entered at p, spans p to q and is left at q is in a match of a, at whose end a is left
   pub meets_on : (x p : ℕ) → Enters nodes w a s x p → (q : ℕ) → HasSpan nodes w x p q → CanLeave nodes w r t x q → Onwards p q
-  meets_on x p (at_root _ _ last begin) q at leaves =
-      (p, q, begin, omega arith, omega arith, subst (λ v. HasSpan nodes w v p q) last at, subst (λ v. CanLeave nodes w r t v q) last leaves)
+  meets_on x p (at_root _ _ last begin) q at leaves = search (rules, at, leaves, begin)
   meets_on x p (with_whole y _ _ node is begins enters) q at leaves =
       let up = Enters-inside nodes w a s arena y p enters in
-      let out = CanLeave-part nodes w r t arena y (omega arith) x q node is (BeginsWith-part node x begins) leaves in
-      let wide = wider y x node is begins p q at out in
+      let wide = wider y x node is begins p q at (CanLeave-part nodes w r t arena y (omega arith) x q node is (BeginsWith-part node x begins) leaves) in
       onto p p q wide.0 (omega arith) wide.1 (meets_on y p enters wide.0 wide.2 wide.3)
   meets_on x p (after_left y _ i _ b c is right enters left) q at leaves =
       let up = Enters-inside nodes w a s arena y i enters in
       let before = Matches-forward (tree_at nodes b.index) w i p left in
       ⊎_elim
       (λ (last : (c.index ≡ x) × CanLeave nodes w r t y q).
-      let whole = close_at nodes w y (Seq b c) arena is i q (p, left, subst (λ v. HasSpan nodes w v p q) (sym right) at) in
-      onto p i q q before (omega arith) (meets_on y i enters q whole last.1))
-      (λ (first : (b.index ≡ x) × ((k : ℕ) × CanLeave nodes w r t y k × HasSpan nodes w c.index q k)).
-      absurd (arena.distinct y (Seq b c) is (first.0 ∙ sym right)))
+      onto p i q q before (omega arith) (meets_on y i enters q (close_at nodes w y (Seq b c) arena is i q (p, left, rw right at)) last.1))
+      (λ (first : (b.index ≡ x) × ((k : ℕ) × CanLeave nodes w r t y k × HasSpan nodes w c.index q k)). absurd (arena.distinct y (Seq b c) is (first.0 ∙ sym right)))
       (CanLeave-part nodes w r t arena y (omega arith) x q (Seq b c) is (inr right) leaves)
   meets_on x p (again y _ i _ b first is inner enters copied) q at leaves =
       let up = Enters-inside nodes w a s arena y i enters in
       let out = CanLeave-part nodes w r t arena y (omega arith) x q (Star b first) is inner leaves in
-      let before = Matches-forward (tree_at nodes y) w i p copied in
-      let behind = Matches-forward (tree_at nodes y) w q out.0 out.2 in
-      let head = open_at nodes w y (Star b first) arena is i p copied in
-      let tail = open_at nodes w y (Star b first) arena is q out.0 out.2 in
-      let copy = subst (λ v. HasSpan nodes w v p q) (sym inner) at in
-      let from_p = CopiesLead-before (HasSpan nodes w b.index) out.0 q p (Matches-forward (tree_at nodes x) w p q at) copy tail in
-      let whole = close_at nodes w y (Star b first) arena is i out.0 (CopiesLead-join (HasSpan nodes w b.index) out.0 p i head from_p) in
-      onto p i q out.0 before behind (meets_on y i enters out.0 whole out.1)
+      let tail = CopiesLead-before (HasSpan nodes w b.index) out.0 q p (Matches-forward (tree_at nodes x) w p q at) (rw inner at) (open_at nodes w y (Star b first) arena is q out.0 out.2) in
+      let whole = close_at nodes w y (Star b first) arena is i out.0 (CopiesLead-join (HasSpan nodes w b.index) out.0 p i (open_at nodes w y (Star b first) arena is i p copied) tail) in
+      onto p i q out.0 (Matches-forward (tree_at nodes y) w i p copied) (Matches-forward (tree_at nodes y) w q out.0 out.2) (meets_on y i enters out.0 whole out.1)
 
   -- complete: a span that passes p, at whose end its node is left, has a set at p that is marked
   module _ (p : ℕ) where
@@ -100,13 +81,12 @@ module _ (nodes : List Node) (w : List ℕ) (r : ℕ) (t : Starts) (a : ℕ) (s 
     passes (suc n) x less inside = let there = node_at nodes x inside in by (λ c below. passes n c (omega arith) (omega arith)) there.0 there.1
       where
         by : ((c : ℕ) → c < x → Passed c) → (node : Node) → slice_get nodes x ≡ Some node → Passed x
-        by on Empty is i k enters leaves at low high = let f = open_at nodes w x Empty arena is i k at in absurd (omega arith)
+        by on Empty is i k enters leaves at low high = absurd (omega (arith, open_at nodes w x Empty arena is i k at))
         by on (Set members) is i k enters leaves at low high =
-            let f = open_at nodes w x (Set members) arena is i k at in
-            let same : i ≡ p = (let end = f.3 in omega arith) in
-            (x, members, is, subst (λ v. Enters nodes w a s x v) same enters, (k, subst (λ v. HasSpan nodes w x v k) same at, leaves))
-        by on Begin is i k enters leaves at low high = let f = open_at nodes w x Begin arena is i k at in absurd (omega arith)
-        by on End is i k enters leaves at low high = let f = open_at nodes w x End arena is i k at in absurd (omega arith)
+            let same : i ≡ p = omega (arith, (open_at nodes w x (Set members) arena is i k at).3) in
+            (x, members, is, rw (← same) enters, (k, rw (← same) at, leaves))
+        by on Begin is i k enters leaves at low high = absurd (omega (arith, open_at nodes w x Begin arena is i k at))
+        by on End is i k enters leaves at low high = absurd (omega (arith, open_at nodes w x End arena is i k at))
         by on (Seq b c) is i k enters leaves at low high =
             let f = open_at nodes w x (Seq b c) arena is i k at in
             elim (cases_lt p f.0) [
@@ -137,11 +117,8 @@ pub meets-goes_on : (nodes : List Node) (w : List ℕ) (r a p : ℕ) (s t : Star
     ↔ ((i : ℕ) × (k : ℕ) × IsStart s i × (i ≤ p) × (p < k) × HasSpan nodes w a i k × CanLeave nodes w r t a k)
 meets-goes_on nodes w r a p s t arena inside within = (
   λ h.
-      let q = h.4.0 in
-      let next = (open_at nodes w h.0 (Set h.1) arena h.2 p q h.4.1).3 in
-      let all = meets_on nodes w r t a s arena within h.0 p h.3 q h.4.1 h.4.2 in
-      let high = all.4 in
-      (all.0, all.1, all.2, all.3, omega arith, all.5, all.6),
+      let all = meets_on nodes w r t a s arena within h.0 p h.3 h.4.0 h.4.1 h.4.2 in
+      (all.0, all.1, all.2, all.3, omega (arith, all.4, (open_at nodes w h.0 (Set h.1) arena h.2 p h.4.0 h.4.1).3), all.5, all.6),
   λ h. passes nodes w r t a s arena within p (suc a) a (omega arith) inside h.0 h.1 (at_root a h.0 refl h.2) h.6 h.5 h.3 h.4,
 )
 
@@ -150,48 +127,32 @@ pub meets_whole : (nodes : List Node) (w : List ℕ) (r p : ℕ) (s t : Starts) 
     MeetsAt nodes w r t r s p ↔ ((i : ℕ) × (k : ℕ) × IsStart s i × (i ≤ p) × (p < k) × HasSpan nodes w r i k × IsStart t k)
 meets_whole nodes w r p s t arena inside =
     let both = meets-goes_on nodes w r r p s t arena inside (omega arith) in
-    let root = all_of r refl in (
-      λ h.
-          let g = both.0 h in
-          (g.0, g.1, g.2, g.3, g.4, g.5, last-leaves nodes w r t arena r g.1 root g.6),
-      λ h. both.1 (h.0, h.1, h.2, h.3, h.4, h.5, CanLeave-last nodes w r t arena r h.1 root h.6),
-    )
+    let root = all_of r refl in
+    (λ h. search (rules, both.0 h, last-leaves nodes w r t arena r (both.0 h).1 root), λ h. search (rules, both.1, h, CanLeave-last nodes w r t arena r h.1 root))
 
 -- no set is marked at the last end or after it
 pub set_early : (nodes : List Node) (w : List ℕ) (r c p : ℕ) (t : Starts) (members : List Bool) → IsArena nodes → slice_get nodes c ≡ Some (Set members) → ReachesEnd nodes w r t c p → p < t.last
-set_early nodes w r c p t members arena is h =
-    let next = (open_at nodes w c (Set members) arena is p h.0 h.1).3 in
-    let late = CanLeave-to nodes w r t arena c h.0 h.2 in
-    omega arith
+set_early nodes w r c p t members arena is h = omega (arith, (open_at nodes w c (Set members) arena is p h.0 h.1).3, CanLeave-to nodes w r t arena c h.0 h.2)
 
 -- the first place from i on after which A and B hold of none is the greatest of which they do
 first_stop : (A B M : ℕ → Type 0) (i p k : ℕ) → i ≤ k → A k → B k → i ≤ p → ((q : ℕ) → i ≤ q → q ≤ p → M q ↔ ((l : ℕ) × (q < l) × A l × B l)) →
     ((q : ℕ) → i ≤ q → q < p → M q) → (M p → ⊥) → A p × B p × ((l : ℕ) → A l → B l → l ≤ p)
 first_stop A B M i p k low left right on shows more over =
     let most : (l : ℕ) → A l → B l → l ≤ p = λ l first second. elim (cases_lt p l) [ inl lt ↦ absurd (over ((shows p on (omega arith)).1 (l, lt, first, second))) | inr ge ↦ ge ] in
-    ⊎_elim
-    (λ (later : i < p).
-    let g = (shows (p - 1) (omega arith) (omega arith)).0 (more (p - 1) (omega arith) (omega arith)) in
-    let lt = g.1 in
-    let top = most g.0 g.2 g.3 in
-    let same : g.0 ≡ p = omega arith in
-    (subst A same g.2, subst B same g.3, most))
-    (λ (ge : p ≤ i).
-    let top = most k left right in
-    let same : k ≡ p = omega arith in
-    (subst A same left, subst B same right, most))
-    (cases_lt i p)
+    elim (cases_lt i p) [
+      | inl later ↦
+          let g = (shows (p - 1) (omega arith) (omega arith)).0 (more (p - 1) (omega arith) (omega arith)) in
+          let same : g.0 ≡ p = omega (arith, most g.0 g.2 g.3, g.1) in
+          (rw same at g.2, rw same at g.3, most)
+      | inr ge ↦ let same : k ≡ p = omega (arith, most k left right) in (rw same at left, rw same at right, most)
+    ]
 
 -- a pass over the node c, which is left exactly where Q, that goes on while the passes meet
 module _ (nodes : List Node) (w : List ℕ) (r c : ℕ) (t : Starts) (arena : IsArena nodes) (inside : c < length nodes) (within : c ≤ r) (Q : ℕ → Type 0) (leaves : (k : ℕ) → CanLeave nodes w r t c k ↔ Q k) where
   pub meets_from : (i p : ℕ) → i ≤ p → MeetsAt nodes w r t c (one_start i) p ↔ ((k : ℕ) × (p < k) × HasSpan nodes w c i k × Q k)
   meets_from i p low =
       let both = meets-goes_on nodes w r c p (one_start i) t arena inside within in (
-        λ h.
-            let g = both.0 h in
-            let start = g.2 in
-            let same : g.0 ≡ i = omega arith in
-            (g.1, g.4, subst (λ v. HasSpan nodes w c v g.1) same g.5, (leaves g.1).0 g.6),
+        λ h. let g = both.0 h in let same : g.0 ≡ i = omega (arith, g.2) in (g.1, g.4, rw same at g.5, (leaves g.1).0 g.6),
         λ h. both.1 (i, h.0, (omega arith, omega arith), low, h.1, h.2, (leaves h.0).1 h.3),
       )
 
@@ -201,11 +162,7 @@ module _ (nodes : List Node) (w : List ℕ) (r c : ℕ) (t : Starts) (arena : Is
 
 -- a part of a node that nothing follows is in the arena, and no later than r
 pub part_within : (nodes : List Node) (w : List ℕ) (r x c : ℕ) (node : Node) → IsArena nodes → IsLastIn nodes r x → slice_get nodes x ≡ Some node → IsPart node c → (c < length nodes) × (c ≤ r)
-part_within nodes w r x c node arena last is part =
-    let top = slice_get_within nodes x node is in
-    let up = last_inside nodes w r (one_start 0) arena x last in
-    let below = arena.below x c node is part in
-    (omega arith, omega arith)
+part_within nodes w r x c node arena last is part = omega (arith, slice_get_within nodes x node is, last_inside nodes w r (one_start 0) arena x last, arena.below x c node is part)
 
 module _ (nodes : List Node) (w : List ℕ) (r j x : ℕ) (a b : NodeId) (arena : IsArena nodes) (last : IsLastIn nodes r x) (is : slice_get nodes x ≡ Some (Seq a b)) where
   -- the left part is left exactly where the right one leads on to the end
@@ -214,9 +171,7 @@ module _ (nodes : List Node) (w : List ℕ) (r j x : ℕ) (a b : NodeId) (arena 
     λ l. ⊎_elim
         (λ (out : (b.index ≡ a.index) × CanLeave nodes w r (one_start j) x k). absurd (arena.distinct x (Seq a b) is (sym out.0)))
         (λ (out : (a.index ≡ a.index) × ((q : ℕ) × CanLeave nodes w r (one_start j) x q × HasSpan nodes w b.index k q)).
-        let stop = last-leaves nodes w r (one_start j) arena x out.1.0 last out.1.1 in
-        let same : out.1.0 ≡ j = omega arith in
-        subst (λ v. HasSpan nodes w b.index k v) same out.1.2)
+        let same : out.1.0 ≡ j = omega (arith, last-leaves nodes w r (one_start j) arena x out.1.0 last out.1.1) in rw same at out.1.2)
         (CanLeave-part nodes w r (one_start j) arena x (last_inside nodes w r (one_start j) arena x last) a.index k (Seq a b) is (inl refl) l),
     λ at. before_right x a.index k j a b is refl (CanLeave-last nodes w r (one_start j) arena x j last (omega arith, omega arith)) at,
   )
@@ -232,8 +187,7 @@ module _ (nodes : List Node) (w : List ℕ) (r j x : ℕ) (a b : NodeId) (arena 
       ((q : ℕ) → i ≤ q → q < p → M q) → (M p → ⊥) → LastCut (HasSpan nodes w a.index) (HasSpan nodes w b.index) i j p
   cut_at i p M at low shows more over =
       let f = open_at nodes w x (Seq a b) arena is i j at in
-      let on = Matches-forward (tree_at nodes a.index) w i f.0 f.1 in
-      let stop = first_stop (HasSpan nodes w a.index i) (λ k. HasSpan nodes w b.index k j) M i p f.0 on f.1 f.2 low shows more over in
+      let stop = first_stop (HasSpan nodes w a.index i) (λ k. HasSpan nodes w b.index k j) M i p f.0 (Matches-forward (tree_at nodes a.index) w i f.0 f.1) f.1 f.2 low shows more over in
       record { left = stop.0; right = stop.1; greatest = stop.2 }
 
   -- so a pass over a that goes on while they meet stops at the greatest cut
@@ -246,9 +200,8 @@ module _ (nodes : List Node) (w : List ℕ) (r j x : ℕ) (a : NodeId) (first : 
   copy_leaves k = (
     λ l.
         let out = CanLeave-part nodes w r (one_start j) arena x (last_inside nodes w r (one_start j) arena x last) a.index k (Star a first) is refl l in
-        let stop = last-leaves nodes w r (one_start j) arena x out.0 last out.1 in
-        let same : out.0 ≡ j = omega arith in
-        open_at nodes w x (Star a first) arena is k j (subst (λ v. HasSpan nodes w x k v) same out.2),
+        let same : out.0 ≡ j = omega (arith, last-leaves nodes w r (one_start j) arena x out.0 last out.1) in
+        open_at nodes w x (Star a first) arena is k j (rw same at out.2),
     λ copies. before_copies x a.index k j a first is refl (CanLeave-last nodes w r (one_start j) arena x j last (omega arith, omega arith)) (close_at nodes w x (Star a first) arena is k j copies),
   )
 
@@ -257,31 +210,24 @@ module _ (nodes : List Node) (w : List ℕ) (r j x : ℕ) (a : NodeId) (first : 
   stops_at_copy i p at some stops =
       let R = HasSpan nodes w a.index in
       let one = first_copy R j i (open_at nodes w x (Star a first) arena is i j at) some in
-      let lt = one.1 in
       let inside = part_within nodes w r x a.index (Star a first) arena last is refl in
-      let stop = stops_at nodes w r a.index (one_start j) arena inside.0 inside.1 (CopiesLead R j) copy_leaves i p one.0 (omega arith) one.2 one.3 stops in
-      let most = stop.2 one.0 one.2 one.3 in
-      record { after = omega arith; within = CopiesLead-forward R j p stop.1; copy = stop.0; rest = stop.1; greatest = stop.2 }
+      let stop = stops_at nodes w r a.index (one_start j) arena inside.0 inside.1 (CopiesLead R j) copy_leaves i p one.0 (omega (arith, one.1)) one.2 one.3 stops in
+      record { after = omega (arith, one.1, stop.2 one.0 one.2 one.3); within = CopiesLead-forward R j p stop.1; copy = stop.0; rest = stop.1; greatest = stop.2 }
 
 -- the last copy begins where the walk from copy to copy comes to the end
 pub copy_walk : (R : ℕ → ℕ → Type 0) (i j k c : ℕ) → NextCopy R i j k → ((k < j) × LastCopy R j k c) ⊎ ((k ≡ j) × (c ≡ i)) → LastCopy R j i c
 copy_walk R i j k c next (inl more) = then_copy i k c next.after more.0 next.copy next.rest (λ l up copy rest. next.greatest l copy rest) more.1
-copy_walk R i j k c next (inr done) =
-    let lt = next.after in
-    subst (λ v. LastCopy R j i v) (sym done.1) (only i (omega arith) (subst (λ v. R i v) done.0 next.copy))
+copy_walk R i j k c next (inr done) = rw done.1 (only i (omega (arith, next.after)) (rw done.0 at next.copy))
 
 -- a node that is marked at each place from i up to p, and takes a byte, spans that part copy after copy
 run_copies : (nodes : List Node) (w : List ℕ) (r c : ℕ) (t : Starts) (members : List Bool) → IsArena nodes → slice_get nodes c ≡ Some (Set members) →
     (n i q : ℕ) → q ≡ i + n → ((l : ℕ) → i ≤ l → l < q → ReachesEnd nodes w r t c l) → CopiesLead (HasSpan nodes w c) q i
-run_copies nodes w r c t members arena is zero i q sum marked =
-    let same : i ≡ q = omega arith in
-    subst (λ v. CopiesLead (HasSpan nodes w c) v i) same no_copy
+run_copies nodes w r c t members arena is zero i q sum marked = let same : i ≡ q = omega arith in rw same no_copy
 run_copies nodes w r c t members arena is (suc n) i q sum marked =
     let here = marked (i + n) (omega arith) (omega arith) in
-    let next = (open_at nodes w c (Set members) arena is (i + n) here.0 here.1).3 in
-    let same : here.0 ≡ q = omega arith in
+    let same : here.0 ≡ q = omega (arith, (open_at nodes w c (Set members) arena is (i + n) here.0 here.1).3) in
     CopiesLead-append (HasSpan nodes w c) (i + n) i q (run_copies nodes w r c t members arena is n i (i + n) refl (λ l low up. marked l low (omega arith)))
-    (omega arith) (subst (λ v. HasSpan nodes w c (i + n) v) same here.1)
+    (omega arith) (rw (← same) here.1)
 
 -- the repetition in a run: it is entered, left and spanned as the run is
 module _ (nodes : List Node) (w : List ℕ) (r : ℕ) (t : Starts) (root : ℕ) (s : Starts) (c : ℕ) (arena : IsArena nodes) where
@@ -311,8 +257,7 @@ module _ (nodes : List Node) (w : List ℕ) (r j x : ℕ) (a b : NodeId) (arena 
       let y = star.0 in
       let of = star.1 in (
         λ h.
-            let copies = run_copies nodes w r c (one_start j) members arena is_set (q - i) i q (omega arith) marked in
-            let at = (star_copies nodes w y c i q arena of).1 copies in
+            let at = (star_copies nodes w y c i q arena of).1 (run_copies nodes w r c (one_start j) members arena is_set (q - i) i q (omega arith) marked) in
             let enters = again y c i q of.0 of.1 of.2 of.3 (star.2 i (at_root a.index i refl (omega arith, omega arith))) at in
             (meets-cut nodes w r j x a b arena last is i q low).0 (c, members, is_set, enters, h),
         λ g.
@@ -321,9 +266,8 @@ module _ (nodes : List Node) (w : List ℕ) (r j x : ℕ) (a b : NodeId) (arena 
             let copies = (star_copies nodes w y c i l arena of).0 (star.4 i l g.2) in
             CopiesLead-cross (HasSpan nodes w c) (λ u. Unit {0}) (ReachesEnd nodes w r (one_start j) c q) q l
             (λ u v _ copy rest up on.
-            let next = (open_at nodes w c (Set members) arena is_set u v copy).3 in
-            let same : u ≡ q = omega arith in
-            (v, subst (λ p. HasSpan nodes w c p v) same copy, before_copies y c v l of.0 of.1 of.2 of.3 leaves ((star_copies nodes w y c v l arena of).1 rest)))
+            let same : u ≡ q = omega (arith, (open_at nodes w c (Set members) arena is_set u v copy).3) in
+            (v, rw (← same) copy, before_copies y c v l of.0 of.1 of.2 of.3 leaves ((star_copies nodes w y c v l arena of).1 rest)))
             (λ u v lt _ copy. tt)
             i copies tt low g.1,
       )

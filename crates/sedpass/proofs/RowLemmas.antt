@@ -1,8 +1,8 @@
 -- How the marks at a place follow from what the leaves took, and what a row shows.
-use Rattle.std.proofs.Common.{rules, length-set, ◌≡◌, ◌≢◌, ℕ, ◌+◌, ◌<◌, ◌≤◌, ◌⊎◌, ◌↔◌, Bool, List, length, Option, Some, None, IsTrue, refl, sym, ap, ◌∙◌, subst, inl, inr, ⊎_elim, true≢false, true, false, ◌&&◌, ◌||◌, arith, slice_get, slice_index_or, slice_set, eqb, nat_lt, reverse}
-use Rattle.sedpass.proofs.Words.{slice_get_within, get_or-set_same, get_or-set_other, and_parts, and_from, cases_lt, cases_eq, eqb-true, eq-eqb, lt-ltb, IsArena, IsPart, WrittenExpression, tree_at, mirror_node, seen, seen-node, old_node, Node, NodeId, Empty, Set, Begin, End, Seq, Alt, Group, Star, Opt, Starts, CopiesLead, byte_is_in, enter_parts, takes_any, AgreeBelow, KeepsRows, row_of, HasSpan, IsStart, one_start, SomeSpan, BeginsWith, Marked, Enters, at_root, with_whole, after_left, again, CanEnd, Matches-forward, CopiesLead-append, CopiesLead-last, open_at, close_at, takes_some, FromNode, Enters-from, Enters-part, Enters-inside, Enters-root, BeginsWith-part, both-iff, either-iff}
+use Rattle.std.proofs.Common.{rules, length-set, ◌≡◌, ◌≢◌, ℕ, ◌+◌, ◌<◌, ◌≤◌, ◌⊎◌, ◌↔◌, Bool, List, length, Option, Some, None, IsTrue, refl, sym, ◌∙◌, subst, inl, inr, true≢false, true, false, ◌&&◌, ◌||◌, arith, slice_get, slice_index_or, slice_set, eqb, reverse}
+use Rattle.sedpass.proofs.Words.{slice_get_within, get_or-set_same, get_or-set_other, and_parts, and_from, cases_eq, eqb-true, eq-eqb, lt-ltb, IsArena, IsPart, WrittenExpression, tree_at, mirror_node, seen, seen-node, old_node, Node, NodeId, Empty, Set, Begin, End, Seq, Alt, Group, Star, Opt, Starts, enter_parts, takes_any, AgreeBelow, KeepsRows, row_of, HasSpan, IsStart, one_start, SomeSpan, BeginsWith, Marked, Enters, at_root, with_whole, after_left, again, CanEnd, Matches-forward, CopiesLead-append, CopiesLead-last, open_at, close_at, takes_some, FromNode, Enters-from, Enters-part, Enters-inside, Enters-root, BeginsWith-part, both-iff, either-iff, same_Some}
 use Rattle.sedpass.specs.Regions.{EndsPastIn, Opposite, ReachesEnd, MeetsAt}
-use Rattle.sedpass.specs.Rows.{Took, SameBytes, NoneEntered, InTree, is_tree, part_of, IsNodeRange, TreeBelow, TreeFrom, AreNull, ended_by, AreWide, bits, ShowTook, RowOfPlace, LeafAt, EndKept, ShowFrom, RowFrom, RowLeadsTo}
+use Rattle.sedpass.specs.Rows.{Took, SameBytes, NoneEntered, InTree, is_tree, part_of, IsNodeRange, TreeBelow, TreeFrom, AreNull, ended_by, AreWide, bits, ShowTook, RowOfPlace, LeafAt, EndKept, ShowFrom, RowFrom}
 use Rattle.sedpass.proofs.LeaveLemmas.{ends_at, reaches_mirror}
 use Rattle.sedpass.proofs.MeetingLemmas.{meets_whole}
 
@@ -32,66 +32,54 @@ module _ (nodes : List Node) (w : List ℕ) (r : ℕ) (s : Starts) (arena : IsAr
       (i : ℕ) × (i < j) × Enters nodes w r s x i × HasSpan nodes w x i j
   one_copy x j a first le is end =
       let from = Enters-part nodes w r s arena x le a.index end.0 (Star a first) is refl end.2 in
-      let on = Matches-forward (tree_at nodes x) w from.0 end.0 from.2 in
-      let less = end.1 in
       let copies = CopiesLead-append (HasSpan nodes w a.index) end.0 from.0 j (open_at nodes w x (Star a first) arena is from.0 end.0 from.2) end.1 end.3 in
-      (from.0, omega arith, from.1, close_at nodes w x (Star a first) arena is from.0 j copies)
+      (from.0, omega (arith, end.1, Matches-forward (tree_at nodes x) w from.0 end.0 from.2), from.1, close_at nodes w x (Star a first) arena is from.0 j copies)
 
   -- and its last copy ends with it
   last_copy : (x i j : ℕ) (a : NodeId) (first : Bool) → slice_get nodes x ≡ Some (Star a first) → Enters nodes w r s x i → HasSpan nodes w x i j → (i ≡ j) ⊎ CanEnd nodes w r s a.index j
-  last_copy x i j a first is e at =
-      ⊎_elim
-      (λ (none : i ≡ j). inl none)
-      (λ (last : (k : ℕ) × CopiesLead (HasSpan nodes w a.index) k i × (k < j) × HasSpan nodes w a.index k j).
-      inr (last.0, last.2, again x a.index i last.0 a first is refl e (close_at nodes w x (Star a first) arena is i last.0 last.1), last.3))
-      (CopiesLead-last (HasSpan nodes w a.index) j i (open_at nodes w x (Star a first) arena is i j at))
+  last_copy x i j a first is e at = elim (CopiesLead-last (HasSpan nodes w a.index) j i (open_at nodes w x (Star a first) arena is i j at)) [
+    | inl none ↦ inl none
+    | inr last ↦ inr (last.0, last.2, again x a.index i last.0 a first is refl e (close_at nodes w x (Star a first) arena is i last.0 last.1), last.3)
+  ]
 
   -- upwards: the mark of a node that ends with a byte, by those of its parts
   module _ (took : List Bool → Bool) (null ended : ℕ → Bool) (x j : ℕ) (le : x ≤ r) where
     ended_is : (node : Node) → slice_get nodes x ≡ Some node → ((m : List Bool) → node ≡ Set m → IsTrue (took m) ↔ Took nodes w r s j x m) →
         ((c : ℕ) → IsPart node c → IsTrue (null c) ↔ HasSpan nodes w c j j) → ((c : ℕ) → IsPart node c → IsTrue (ended c) ↔ CanEnd nodes w r s c j) → IsTrue (ended_by took null ended node) ↔ CanEnd nodes w r s x j
-    ended_is Empty is takes nulls ends = not_true (CanEnd nodes w r s x j) (λ h. let f = open_at nodes w x Empty arena is h.0 j h.3 in let less = h.1 in omega arith)
-    ended_is Begin is takes nulls ends = not_true (CanEnd nodes w r s x j) (λ h. let f = open_at nodes w x Begin arena is h.0 j h.3 in let less = h.1 in omega (arith, f.1))
-    ended_is End is takes nulls ends = not_true (CanEnd nodes w r s x j) (λ h. let f = open_at nodes w x End arena is h.0 j h.3 in let less = h.1 in omega (arith, f.0, f.1))
-    ended_is (Set m) is takes nulls ends =
-        let truth = takes m refl in (
-          λ h. let here = truth.0 h in
-              let taken = takes_some (slice_get w here.0) m here.3 in
-              (here.0, omega arith, here.2, close_at nodes w x (Set m) arena is here.0 j (taken.0, taken.1, taken.2, sym here.1)),
-          λ h. let f = open_at nodes w x (Set m) arena is h.0 j h.3 in truth.1 (h.0, sym f.3, h.2, subst (λ o. IsTrue (byte_is_in o m)) (sym f.1) f.2),
-        )
+    ended_is Empty is takes nulls ends = not_true (CanEnd nodes w r s x j) (λ h. omega (arith, h.1, open_at nodes w x Empty arena is h.0 j h.3))
+    ended_is Begin is takes nulls ends = not_true (CanEnd nodes w r s x j) (λ h. omega (arith, h.1, (open_at nodes w x Begin arena is h.0 j h.3).1))
+    ended_is End is takes nulls ends = not_true (CanEnd nodes w r s x j) (λ h. let f = open_at nodes w x End arena is h.0 j h.3 in omega (arith, h.1, f.0, f.1))
+    ended_is (Set m) is takes nulls ends = (
+      λ h. let here = (takes m refl).0 h in
+          let taken = takes_some (slice_get w here.0) m here.3 in
+          (here.0, omega arith, here.2, close_at nodes w x (Set m) arena is here.0 j (taken.0, taken.1, taken.2, sym here.1)),
+      λ h. let f = open_at nodes w x (Set m) arena is h.0 j h.3 in (takes m refl).1 (h.0, sym f.3, h.2, rw f.1 f.2),
+    )
     ended_is (Seq a b) is takes nulls ends =
         let truth = either-iff (ended b.index) (ended a.index && null b.index) (CanEnd nodes w r s b.index j) (CanEnd nodes w r s a.index j × HasSpan nodes w b.index j j) (ends b.index (inr refl))
         (both-iff (ended a.index) (null b.index) (CanEnd nodes w r s a.index j) (HasSpan nodes w b.index j j) (ends a.index (inl refl)) (nulls b.index (inr refl))) in (
-          λ h. ⊎_elim
-              (λ (right : CanEnd nodes w r s b.index j).
-              let from = after_seq x right.0 a b le is right.2 in
-              let on = Matches-forward (tree_at nodes a.index) w from.0 right.0 from.2 in
-              let less = right.1 in
-              (from.0, omega arith, from.1, close_at nodes w x (Seq a b) arena is from.0 j (right.0, from.2, right.3)))
-              (λ (left : CanEnd nodes w r s a.index j × HasSpan nodes w b.index j j).
-              let end = left.0 in
-              (end.0, end.1, with_seq x end.0 a b le is end.2, close_at nodes w x (Seq a b) arena is end.0 j (j, end.3, left.1)))
-              (truth.0 h),
+          λ h. elim (truth.0 h) [
+            | inl right ↦
+                let from = after_seq x right.0 a b le is right.2 in
+                (from.0, omega (arith, right.1, Matches-forward (tree_at nodes a.index) w from.0 right.0 from.2), from.1, close_at nodes w x (Seq a b) arena is from.0 j (right.0, from.2, right.3))
+            | inr left ↦ (left.0.0, left.0.1, with_seq x left.0.0 a b le is left.0.2, close_at nodes w x (Seq a b) arena is left.0.0 j (j, left.0.3, left.1))
+          ],
           λ h. let f = open_at nodes w x (Seq a b) arena is h.0 j h.3 in
-              let on = Matches-forward (tree_at nodes b.index) w f.0 j f.2 in
-              truth.1 (⊎_elim
-              (λ (lt : f.0 < j). inl (f.0, lt, after_left x b.index h.0 f.0 a b is refl h.2 f.1, f.2))
-              (λ (ge : j ≤ f.0).
-              let e : f.0 ≡ j = omega arith in
-              inr ((h.0, h.1, with_whole x a.index h.0 (Seq a b) is refl h.2, subst (λ k. HasSpan nodes w a.index h.0 k) e f.1), subst (λ k. HasSpan nodes w b.index k j) e f.2))
-              (cases_lt f.0 j)),
+              truth.1 (elim (cases_eq f.0 j) [
+                | inl e ↦ inr ((h.0, h.1, with_whole x a.index h.0 (Seq a b) is refl h.2, rw e at f.1), rw e at f.2)
+                | inr ne ↦ inl (f.0, omega (arith, ne, Matches-forward (tree_at nodes b.index) w f.0 j f.2), after_left x b.index h.0 f.0 a b is refl h.2 f.1, f.2)
+              ]),
         )
     ended_is (Alt a b) is takes nulls ends =
         let truth = either-iff (ended a.index) (ended b.index) (CanEnd nodes w r s a.index j) (CanEnd nodes w r s b.index j) (ends a.index (inl refl)) (ends b.index (inr refl)) in (
-          λ h. ⊎_elim
-              (λ (l : CanEnd nodes w r s a.index j). up_with x j a.index (Alt a b) le is (inl refl) (λ i f. f) (λ i at. close_at nodes w x (Alt a b) arena is i j (inl at)) l)
-              (λ (m : CanEnd nodes w r s b.index j). up_with x j b.index (Alt a b) le is (inr refl) (λ i f. f) (λ i at. close_at nodes w x (Alt a b) arena is i j (inr at)) m)
-              (truth.0 h),
-          λ h. truth.1 (⊎_elim
-              (λ (l : HasSpan nodes w a.index h.0 j). inl (h.0, h.1, with_whole x a.index h.0 (Alt a b) is (inl refl) h.2, l))
-              (λ (m : HasSpan nodes w b.index h.0 j). inr (h.0, h.1, with_whole x b.index h.0 (Alt a b) is (inr refl) h.2, m))
-              (open_at nodes w x (Alt a b) arena is h.0 j h.3)),
+          λ h. elim (truth.0 h) [
+            | inl l ↦ up_with x j a.index (Alt a b) le is (inl refl) (λ i f. f) (λ i at. close_at nodes w x (Alt a b) arena is i j (inl at)) l
+            | inr m ↦ up_with x j b.index (Alt a b) le is (inr refl) (λ i f. f) (λ i at. close_at nodes w x (Alt a b) arena is i j (inr at)) m
+          ],
+          λ h. truth.1 (elim (open_at nodes w x (Alt a b) arena is h.0 j h.3) [
+            | inl l ↦ inl (h.0, h.1, with_whole x a.index h.0 (Alt a b) is (inl refl) h.2, l)
+            | inr m ↦ inr (h.0, h.1, with_whole x b.index h.0 (Alt a b) is (inr refl) h.2, m)
+          ]),
         )
     ended_is (Group k a) is takes nulls ends = (
       λ h. up_with x j a.index (Group k a) le is refl (λ i f. f) (λ i at. close_at nodes w x (Group k a) arena is i j at) ((ends a.index refl).0 h),
@@ -99,20 +87,21 @@ module _ (nodes : List Node) (w : List ℕ) (r : ℕ) (s : Starts) (arena : IsAr
     )
     ended_is (Star a first) is takes nulls ends = (
       λ h. one_copy x j a first le is ((ends a.index refl).0 h),
-      λ h. (ends a.index refl).1 (elim (last_copy x h.0 j a first is h.2 h.3) [ inl none ↦ absurd (let less = h.1 in omega arith) | inr end ↦ end ]),
+      λ h. (ends a.index refl).1 (elim (last_copy x h.0 j a first is h.2 h.3) [ inl none ↦ absurd (omega (arith, h.1, none)) | inr end ↦ end ]),
     )
     ended_is (Opt a first) is takes nulls ends = (
       λ h. up_with x j a.index (Opt a first) le is refl (λ i f. f) (λ i at. close_at nodes w x (Opt a first) arena is i j (inr at)) ((ends a.index refl).0 h),
-      λ h. (ends a.index refl).1
-          (elim (open_at nodes w x (Opt a first) arena is h.0 j h.3) [ inl none ↦ absurd (let less = h.1 in omega arith) | inr at ↦ (h.0, h.1, with_whole x a.index h.0 (Opt a first) is refl h.2, at) ]),
+      λ h. (ends a.index refl).1 (elim (open_at nodes w x (Opt a first) arena is h.0 j h.3) [
+        | inl none ↦ absurd (omega (arith, h.1, none))
+        | inr at ↦ (h.0, h.1, with_whole x a.index h.0 (Opt a first) is refl h.2, at)
+      ]),
     )
 
   -- downwards: the mark of a part that is entered, by that of its node
   module _ (x p : ℕ) (le : x ≤ r) (here : Bool) (enters : IsTrue here ↔ Enters nodes w r s x p) where
     -- a part that is entered with its node alone
     with_node : (c : ℕ) (node : Node) → slice_get nodes x ≡ Some node → BeginsWith node c → (FromNode nodes w r s x c p node → Enters nodes w r s x p) → IsTrue here ↔ Enters nodes w r s c p
-    with_node c node is begins alone =
-        (λ h. with_whole x c p node is begins (enters.0 h), λ h. enters.1 (alone (Enters-part nodes w r s arena x le c p node is (BeginsWith-part node c begins) h)))
+    with_node c node is begins alone = search (rules, with_whole, Enters-part, BeginsWith-part)
 
     right_part : (a b : NodeId) → slice_get nodes x ≡ Some (Seq a b) → (null ended : Bool) → (IsTrue null ↔ HasSpan nodes w a.index p p) → (IsTrue ended ↔ CanEnd nodes w r s a.index p) →
         IsTrue (ended || (here && null)) ↔ Enters nodes w r s b.index p
@@ -120,13 +109,10 @@ module _ (nodes : List Node) (w : List ℕ) (r : ℕ) (s : Starts) (arena : IsAr
         let truth = either-iff ended (here && null) (CanEnd nodes w r s a.index p) (Enters nodes w r s x p × HasSpan nodes w a.index p p) ends (both-iff here null (Enters nodes w r s x p) (HasSpan nodes w a.index p p) enters nulls) in (
           λ h. elim (truth.0 h) [ inl end ↦ after_left x b.index end.0 p a b is refl (with_seq x end.0 a b le is end.2) end.3 | inr none ↦ after_left x b.index p p a b is refl none.0 none.1 ],
           λ h. let from = after_seq x p a b le is h in
-              let on = Matches-forward (tree_at nodes a.index) w from.0 p from.2 in
-              truth.1 (⊎_elim
-              (λ (lt : from.0 < p). inl (from.0, lt, with_whole x a.index from.0 (Seq a b) is refl from.1, from.2))
-              (λ (ge : p ≤ from.0).
-              let e : from.0 ≡ p = omega arith in
-              inr (subst (λ k. Enters nodes w r s x k) e from.1, subst (λ k. HasSpan nodes w a.index k p) e from.2))
-              (cases_lt from.0 p)),
+              truth.1 (elim (cases_eq from.0 p) [
+                | inl e ↦ inr (rw e at from.1, rw e at from.2)
+                | inr ne ↦ inl (from.0, omega (arith, ne, Matches-forward (tree_at nodes a.index) w from.0 p from.2), with_whole x a.index from.0 (Seq a b) is refl from.1, from.2)
+              ]),
         )
 
     copy_part : (a : NodeId) (first : Bool) → slice_get nodes x ≡ Some (Star a first) → (ended : Bool) → (IsTrue ended ↔ CanEnd nodes w r s a.index p) → IsTrue (here || ended) ↔ Enters nodes w r s a.index p
@@ -140,17 +126,13 @@ module _ (nodes : List Node) (w : List ℕ) (r : ℕ) (s : Starts) (arena : IsAr
 -- where no leaf is entered no match goes on
 pub dead : (nodes : List Node) (w : List ℕ) (r p i k : ℕ) (s : Starts) → IsArena nodes → r < length nodes → NoneEntered nodes w r s p → IsStart s i → i ≤ p → p < k → HasSpan nodes w r i k → ⊥
 dead nodes w r p i k s arena inside none start low high at =
-    let met = (meets_whole nodes w r p s (one_start k) arena inside).1 (i, k, start, low, high, at, (omega arith, omega arith)) in
-    none met.0 met.1 met.2 met.3
+    let met = (meets_whole nodes w r p s (one_start k) arena inside).1 (i, k, start, low, high, at, (omega arith, omega arith)) in none met.0 met.1 met.2 met.3
 
 -- What the scans keep.
 
 InTree-inside : (nodes : List Node) → IsArena nodes → (r x : ℕ) → InTree nodes r x → x ≤ r
 InTree-inside nodes arena r x (is_tree _ e) = omega arith
-InTree-inside nodes arena r x (part_of y _ node is part up) =
-    let high = InTree-inside nodes arena r y up in
-    let less = arena.below y x node is part in
-    omega arith
+InTree-inside nodes arena r x (part_of y _ node is part up) = omega (arith, InTree-inside nodes arena r y up, arena.below y x node is part)
 
 -- only nodes in r are entered
 pub enters_tree : (nodes : List Node) (w : List ℕ) (r : ℕ) (s : Starts) (x j : ℕ) → Enters nodes w r s x j → InTree nodes r x
@@ -162,18 +144,10 @@ enters_tree nodes w r s x j (again y _ i _ a first is inner e at) = part_of y x 
 -- a node in r is r, or a part of one above it
 pub tree_shown : (nodes : List Node) → IsArena nodes → (r x : ℕ) → InTree nodes r x → TreeFrom nodes r (x + 1) x
 tree_shown nodes arena r x (is_tree _ e) = (is_tree x e, inl e)
-tree_shown nodes arena r x (part_of y _ node is part up) =
-    let less = arena.below y x node is part in
-    (part_of y x node is part up, inr (y, node, omega arith, (InTree-inside nodes arena r y up), is, part))
+tree_shown nodes arena r x (part_of y _ node is part up) = (part_of y x node is part up, inr (y, node, omega (arith, arena.below y x node is part), InTree-inside nodes arena r y up, is, part))
 
 tree_step : (nodes : List Node) (r x : ℕ) (node : Node) → slice_get nodes x ≡ Some node → (c : ℕ) → TreeFrom nodes r x c → TreeFrom nodes r (x + 1) c ⊎ IsPart node c
 tree_step nodes r x node is c shown = search rules
-
-pub set_other : (marks after : List Bool) (x c : ℕ) (v : Bool) → (c ≡ x → ⊥) → after ≡ slice_set marks x v → slice_index_or after c false ≡ slice_index_or marks c false
-set_other marks after x c v ne is = ap (λ l. slice_index_or l c false) is ∙ get_or-set_other marks x c v false ne
-
-pub set_same : (marks after : List Bool) (x : ℕ) (v : Bool) → x < length marks → after ≡ slice_set marks x v → slice_index_or after x false ≡ v
-set_same marks after x v inside is = ap (λ l. slice_index_or l x false) is ∙ get_or-set_same marks x v false inside
 
 mark_one : (marks after : List Bool) (x : ℕ) (v : Bool) (S R P : ℕ → Type 0) → after ≡ slice_set marks x v → x < length marks → (IsTrue v ↔ P x) → ((c : ℕ) → R c → S c ⊎ (c ≡ x)) →
     Marked marks S P → Marked after R P
@@ -181,28 +155,20 @@ mark_one marks after x v S R P is inside truth more marked c shown = search rule
 
 module _ (nodes : List Node) (w : List ℕ) (r x p : ℕ) (s : Starts) (node : Node) (arena : IsArena nodes) (inside : r < length nodes) (there : InTree nodes r x) (is : slice_get nodes x ≡ Some node)
     (null : ℕ → Bool) (nulls : AreNull nodes w p null) where
-  in_tree : x ≤ r
-  in_tree = InTree-inside nodes arena r x there
-
-  null_part : (c : ℕ) → IsPart node c → IsTrue (null c) ↔ HasSpan nodes w c p p
-  null_part c part = let less = arena.below x c node is part in let low = in_tree in nulls c (omega arith)
-
   -- one turn of the scan upwards
   pub up : (took : List Bool → Bool) (v : Bool) (marks after : List Bool) → ((m : List Bool) → node ≡ Set m → IsTrue (took m) ↔ Took nodes w r s p x m) →
       x < length marks → v ≡ ended_by took null (λ c. slice_index_or marks c false) node → after ≡ slice_set marks x v →
       Marked marks (TreeBelow nodes r x) (λ c. CanEnd nodes w r s c p) → Marked after (TreeBelow nodes r (x + 1)) (λ c. CanEnd nodes w r s c p)
   up took v marks after takes_it long value is_after marked =
-      let law = ended_is nodes w r s arena took null (λ c. slice_index_or marks c false) x p in_tree node is takes_it null_part (λ c part. marked c (part_of x c node is part there, arena.below x c node is part)) in
+      let low = InTree-inside nodes arena r x there in
+      let law = ended_is nodes w r s arena took null (λ c. slice_index_or marks c false) x p low node is takes_it
+      (λ c part. nulls c (omega (arith, arena.below x c node is part))) (λ c part. marked c (part_of x c node is part there, arena.below x c node is part)) in
       search (rules, mark_one, cases_eq)
 
 -- the scan downwards begins at the root
 pub down_root : (nodes : List Node) (w : List ℕ) (r p y : ℕ) (s : Starts) (first : Bool) (marks after : List Bool) → IsArena nodes → r < y → r < length marks → after ≡ slice_set marks r first → (IsTrue first ↔ IsStart s p) →
     Marked after (TreeFrom nodes r y) (λ c. Enters nodes w r s c p)
-down_root nodes w r p y s first marks after arena all long is_after begins =
-    mark_one marks after r first (λ c. ⊥) (TreeFrom nodes r y) (λ c. Enters nodes w r s c p) is_after long
-    (λ h. at_root r p refl (begins.0 h), λ h. begins.1 (Enters-root nodes w r s arena r p refl h))
-    (λ c shown. ⊎_elim (λ (e : c ≡ r). inr e) (λ (h : (z : ℕ) × (n : Node) × (y ≤ z) × (z ≤ r) × (slice_get nodes z ≡ Some n) × IsPart n c). absurd (let low = h.2 in let high = h.3 in omega arith)) shown.1)
-    (λ c none. absurd none)
+down_root nodes w r p y s first marks after arena all long is_after begins = search (rules, at_root, Enters-root, mark_one)
 
 -- one turn of the scan downwards
 module _ (nodes : List Node) (w : List ℕ) (r x p : ℕ) (s : Starts) (arena : IsArena nodes) (inside : r < length nodes) (there : InTree nodes r x)
@@ -217,24 +183,20 @@ module _ (nodes : List Node) (w : List ℕ) (r x p : ℕ) (s : Starts) (arena : 
   low_root : x ≤ r
   low_root = InTree-inside nodes arena r x there
 
-  none_more : (node : Node) → slice_get nodes x ≡ Some node → ((c : ℕ) → IsPart node c → ⊥) → Marked marks (TreeFrom nodes r x) (λ c. Enters nodes w r s c p)
-  none_more node is none c shown = marked c (⊎_elim (λ (t : TreeFrom nodes r (x + 1) c). t) (λ (part : IsPart node c). absurd (none c part)) (tree_step nodes r x node is c shown))
-
   one_more_part : (node : Node) (a : ℕ) (v : Bool) (after : List Bool) → slice_get nodes x ≡ Some node → a < x → ((c : ℕ) → IsPart node c → a ≡ c) → after ≡ slice_set marks a v → (IsTrue v ↔ Enters nodes w r s a p) →
       Marked after (TreeFrom nodes r x) (λ c. Enters nodes w r s c p)
   one_more_part node a v after is less only is_after truth =
       mark_one marks after a v (TreeFrom nodes r (x + 1)) (TreeFrom nodes r x) (λ c. Enters nodes w r s c p) is_after (let low = low_root in omega arith) truth
-      (λ c shown. ⊎_elim (λ (t : TreeFrom nodes r (x + 1) c). inl t) (λ (part : IsPart node c). inr (sym (only c part))) (tree_step nodes r x node is c shown)) marked
+      (λ c shown. elim (tree_step nodes r x node is c shown) [ inl t ↦ inl t | inr part ↦ inr (sym (only c part)) ]) marked
 
   two_more_parts : (node : Node) (a b : ℕ) (u v : Bool) (after : List Bool) → slice_get nodes x ≡ Some node → a < x → b < x → ((c : ℕ) → IsPart node c → (a ≡ c) ⊎ (b ≡ c)) →
       after ≡ slice_set (slice_set marks a u) b v → (IsTrue u ↔ Enters nodes w r s a p) → (IsTrue v ↔ Enters nodes w r s b p) →
       Marked after (TreeFrom nodes r x) (λ c. Enters nodes w r s c p)
   two_more_parts node a b u v after is less less' only is_after truth truth' =
       let low = low_root in
-      let first : Marked (slice_set marks a u) (λ c. TreeFrom nodes r (x + 1) c ⊎ (c ≡ a)) (λ c. Enters nodes w r s c p) =
-      mark_one marks (slice_set marks a u) a u (TreeFrom nodes r (x + 1)) (λ c. TreeFrom nodes r (x + 1) c ⊎ (c ≡ a)) (λ c. Enters nodes w r s c p) refl (omega arith) truth (λ c t. t) marked in
+      let first : Marked (slice_set marks a u) (λ c. TreeFrom nodes r (x + 1) c ⊎ (c ≡ a)) (λ c. Enters nodes w r s c p) = search (rules, mark_one) in
       mark_one (slice_set marks a u) after b v (λ c. TreeFrom nodes r (x + 1) c ⊎ (c ≡ a)) (TreeFrom nodes r x) (λ c. Enters nodes w r s c p) is_after (omega (arith, length-set marks a u)) truth'
-      (λ c shown. elim (tree_step nodes r x node is c shown) [ inl t ↦ inl (inl t) | inr part ↦ ⊎_elim (λ (l : a ≡ c). inl (inr (sym l))) (λ (m : b ≡ c). inr (sym m)) (only c part) ]) first
+      (λ c shown. elim (tree_step nodes r x node is c shown) [ inl t ↦ inl (inl t) | inr part ↦ elim (only c part) [ inl l ↦ inl (inr (sym l)) | inr m ↦ inr (sym m) ] ]) first
 
   pub down : (node : Node) (after : List Bool) → slice_get nodes x ≡ Some node → after ≡ enter_parts here_mark null ended node marks →
       Marked after (TreeFrom nodes r x) (λ c. Enters nodes w r s c p)
@@ -249,25 +211,24 @@ module _ (nodes : List Node) (w : List ℕ) (r x p : ℕ) (s : Starts) (arena : 
       two_more_parts (Alt a b) a.index b.index here_mark here_mark after is (arena.below x a.index (Alt a b) is (inl refl)) (arena.below x b.index (Alt a b) is (inr refl)) (λ c part. part) is_after
       (with_node nodes w r s arena x p low_root here_mark here_shown a.index (Alt a b) is (inl refl) (λ h. h))
       (with_node nodes w r s arena x p low_root here_mark here_shown b.index (Alt a b) is (inr refl) (λ h. h))
-  down (Group k a) after is is_after =
-      one_more_part (Group k a) a.index here_mark after is (arena.below x a.index (Group k a) is refl) (λ c part. part) is_after
-      (with_node nodes w r s arena x p low_root here_mark here_shown a.index (Group k a) is refl (λ h. h))
-  down (Star a first) after is is_after =
-      one_more_part (Star a first) a.index (here_mark || ended a.index) after is (arena.below x a.index (Star a first) is refl) (λ c part. part) is_after
-      (copy_part nodes w r s arena x p low_root here_mark here_shown a first is (ended a.index) (ends a.index (part_of x a.index (Star a first) is refl there)))
-  down (Opt a first) after is is_after =
-      one_more_part (Opt a first) a.index here_mark after is (arena.below x a.index (Opt a first) is refl) (λ c part. part) is_after
-      (with_node nodes w r s arena x p low_root here_mark here_shown a.index (Opt a first) is refl (λ h. h))
-  down other after is is_after = subst (λ l. Marked l (TreeFrom nodes r x) (λ c. Enters nodes w r s c p)) (sym is_after) (none_more other is (λ c part. part))
+  down (Group k a) after is is_after = search (rules, one_more_part, with_node, low_root, here_shown, arena.below)
+  down (Star a first) after is is_after = search (rules, one_more_part, copy_part, low_root, here_shown, part_of, arena.below, ends)
+  down (Opt a first) after is is_after = search (rules, one_more_part, with_node, low_root, here_shown, arena.below)
+  down other after is is_after = subst (λ l. Marked l (TreeFrom nodes r x) (λ c. Enters nodes w r s c p)) (sym is_after) (λ c shown. marked c (elim (tree_step nodes r x other is c shown) [ inl t ↦ t | inr part ↦ absurd part ]))
 
 -- The row of a place, bit for bit.
 
-false_bit : (b : Bool) → b ≡ false → IsTrue b → ⊥
-false_bit b e h = true≢false (sym h ∙ e)
-
 is_set : (node : Node) → IsTrue (takes_any node) → (m : List Bool) × (node ≡ Set m)
-is_set (Set m) h = (m, refl)
-is_set other h = absurd (true≢false (sym h))
+is_set node h = search rules
+
+pub bits_here : (m : ℕ) (marks : List Bool) (x : ℕ) → x < m → bits m marks x ≡ slice_index_or marks x false
+bits_here m marks x less = search (rules, lt-ltb)
+
+pub bits_set : (m : ℕ) (marks after : List Bool) (x : ℕ) (v : Bool) → x < m → x < length marks → after ≡ slice_set marks x v → bits m after x ≡ v
+bits_set m marks after x v less inside is = search (rules, bits_here, get_or-set_same)
+
+pub bits_other : (m : ℕ) (marks after : List Bool) (x : ℕ) (v : Bool) → after ≡ slice_set marks x v → (c : ℕ) → (c ≡ x → ⊥) → bits m after c ≡ bits m marks c
+bits_other m marks after x v is c ne = search (rules, get_or-set_other)
 
 -- the bits from y on decide P, by one after another
 show_more : (bits after : ℕ → Bool) (P : ℕ → Type 0) (x : ℕ) (v : Bool) → after x ≡ v → (IsTrue v ↔ P x) → ((c : ℕ) → (c ≡ x → ⊥) → after c ≡ bits c) → ShowFrom (x + 1) bits P → ShowFrom x after P
@@ -283,80 +244,51 @@ module _ (nodes : List Node) (w : List ℕ) (r p : ℕ) (s : Starts) (keeps : Bo
   pub row_none : (y : ℕ) (entered ended : ℕ → Bool) → IsArena nodes → r < y → ((c : ℕ) → entered c ≡ false) → ((c : ℕ) → ended c ≡ false) → RowFrom nodes w r s keeps p y entered ended
   row_none y entered ended arena past no_leaf no_end = search (rules, up, Enters-inside)
 
-  pub row_step : (x : ℕ) (node : Node) (here end null : Bool) (entered ended after after_ended : ℕ → Bool) → slice_get nodes x ≡ Some node →
+  pub row_step : (x m : ℕ) (node : Node) (here end null : Bool) (leaves ends after after_ends : List Bool) → x < m → x < length leaves → x < length ends → slice_get nodes x ≡ Some node →
       (IsTrue here ↔ Enters nodes w r s x p) → (IsTrue end ↔ CanEnd nodes w r s x p) → (IsTrue null ↔ HasSpan nodes w x p p) →
-      after x ≡ (takes_any node && here) → after_ended x ≡ ((keeps || eqb x r) && (end || (here && null))) →
-      ((c : ℕ) → (c ≡ x → ⊥) → (after c ≡ entered c) × (after_ended c ≡ ended c)) →
-      RowFrom nodes w r s keeps p (x + 1) entered ended → RowFrom nodes w r s keeps p x after after_ended
-  row_step x node here end null entered ended after after_ended is enters ends nulls is_after is_ended others row =
-      let leaf : IsTrue (takes_any node && here) ↔ Leaf x = (
-        λ h. let both = and_parts (takes_any node) here h in
-            let set_here = is_set node both.0 in
-            (set_here.0, is ∙ ap (λ (n : Node). Some n) set_here.1, enters.0 both.1),
-        λ h. let same : node ≡ Set h.0 = (let at = h.1 in cc) in
-            and_from (takes_any node) here (subst (λ n. IsTrue (takes_any n)) (sym same) refl) (enters.1 h.2),
-      ) in
+      after ≡ slice_set leaves x (takes_any node && here) → after_ends ≡ slice_set ends x ((keeps || eqb x r) && (end || (here && null))) →
+      RowFrom nodes w r s keeps p (x + 1) (bits m leaves) (bits m ends) → RowFrom nodes w r s keeps p x (bits m after) (bits m after_ends)
+  row_step x m node here end null leaves ends after after_ends less long long' is enters ended nulls is_after is_ended row =
+      let leaf : IsTrue (takes_any node && here) ↔ Leaf x = search (rules, and_parts, and_from, is_set, same_Some) in
       let asked : IsTrue (keeps || eqb x r) ↔ (IsTrue keeps ⊎ (x ≡ r)) = either-iff keeps (eqb x r) (IsTrue keeps) (x ≡ r) (λ h. h, λ h. h) (eqb-true x r, eq-eqb x r) in
       let law = ends_at nodes w r x p s in
-      let truth = either-iff end (here && null) (CanEnd nodes w r s x p) (Enters nodes w r s x p × HasSpan nodes w x p p) ends (both-iff here null (Enters nodes w r s x p) (HasSpan nodes w x p p) enters nulls) in
-      let over : IsTrue (end || (here && null)) ↔ EndsPastIn nodes w r s x p = (λ h. law.1 (truth.0 h), λ h. truth.1 (law.0 h)) in
-      let kept = both-iff (keeps || eqb x r) (end || (here && null)) (IsTrue keeps ⊎ (x ≡ r)) (EndsPastIn nodes w r s x p) asked over in (
-        show_more entered after Leaf x (takes_any node && here) is_after leaf (λ c ne. (others c ne).0) row.0,
-        show_more ended after_ended Kept x ((keeps || eqb x r) && (end || (here && null))) is_ended kept (λ c ne. (others c ne).1) row.1,
-      )
+      let truth = either-iff end (here && null) (CanEnd nodes w r s x p) (Enters nodes w r s x p × HasSpan nodes w x p p) ended (both-iff here null (Enters nodes w r s x p) (HasSpan nodes w x p p) enters nulls) in
+      let kept = both-iff (keeps || eqb x r) (end || (here && null)) (IsTrue keeps ⊎ (x ≡ r)) (EndsPastIn nodes w r s x p) asked (λ h. law.1 (truth.0 h), λ h. truth.1 (law.0 h)) in
+      search (rules, show_more, bits_set, bits_other, leaf, kept)
 
   pub row_done : (low : ℕ) (entered ended : ℕ → Bool) → ((c : ℕ) → InTree nodes r c → low ≤ c) → RowFrom nodes w r s keeps p low entered ended → RowOfPlace nodes w r s keeps p entered ended
   row_done low entered ended all row = search (rules, enters_tree)
 
-pub class_row : (nodes : List Node) (r : ℕ) (keeps end start : Bool) (entered ended after after_ended : ℕ → Bool) (byte other : Option ℕ) → SameBytes nodes other byte →
-    RowLeadsTo nodes r keeps entered ended byte end start after after_ended → RowLeadsTo nodes r keeps entered ended other end start after after_ended
-class_row nodes r keeps end start entered ended after after_ended byte other same leads w s p at = leads w s p (λ x m is. at x m is ∙ same x m is)
-
 -- the root ends where a match does
 pub row_root : (nodes : List Node) (w : List ℕ) (r p : ℕ) (s : Starts) (keeps : Bool) (entered ended : ℕ → Bool) → IsArena nodes → RowOfPlace nodes w r s keeps p entered ended → IsTrue (ended r) ↔ SomeSpan nodes w r s p
-row_root nodes w r p s keeps entered ended arena row = (
-  λ h. let f = ((row.ends r).0 h).1 in (f.0, Enters-root nodes w r s arena r f.0 refl f.1, f.2),
-  λ h. (row.ends r).1 (inr refl, (h.0, at_root r h.0 refl h.1, h.2)),
-)
+row_root nodes w r p s keeps entered ended arena row = search (rules, at_root, Enters-root)
 
 pub row_empty : (nodes : List Node) (w : List ℕ) (r p : ℕ) (s : Starts) (keeps : Bool) (entered ended : ℕ → Bool) → RowOfPlace nodes w r s keeps p entered ended → ((c : ℕ) → entered c ≡ false) → NoneEntered nodes w r s p
-row_empty nodes w r p s keeps entered ended row none c m is h = false_bit (entered c) (none c) ((row.leaves c).1 (m, is, h))
+row_empty nodes w r p s keeps entered ended row none c m is h = true≢false (sym ((row.leaves c).1 (m, is, h)) ∙ none c)
 
 -- The least index in a node.
 
 in_part : (nodes : List Node) (x a : ℕ) (node : Node) → slice_get nodes x ≡ Some node → IsPart node a → (c : ℕ) → InTree nodes a c → InTree nodes x c
-in_part nodes x a node is part c (is_tree _ e) = part_of x c node is (subst (λ n. IsPart node n) (sym e) part) (is_tree x refl)
+in_part nodes x a node is part c (is_tree _ e) = part_of x c node is (rw e part) (is_tree x refl)
 in_part nodes x a node is part c (part_of y _ other is' part' up) = part_of y c other is' part' (in_part nodes x a node is part y up)
 
 -- a node in x is x, or in a part of it
 by_part : (nodes : List Node) (x : ℕ) (node : Node) → slice_get nodes x ≡ Some node → (c : ℕ) → InTree nodes x c → (c ≡ x) ⊎ ((a : ℕ) × IsPart node a × InTree nodes a c)
 by_part nodes x node is c (is_tree _ e) = inl e
-by_part nodes x node is c (part_of y _ other is' part up) =
-    ⊎_elim
-    (λ (e : y ≡ x).
-    let same : slice_get nodes y ≡ slice_get nodes x = ap (slice_get nodes) e in
-    let one : other ≡ node = cc in
-    inr (c, subst (λ n. IsPart n c) one part, is_tree c refl))
-    (λ (h : (a : ℕ) × IsPart node a × InTree nodes a y). inr (h.0, h.1, part_of y c other is' part h.2))
-    (by_part nodes x node is y up)
+by_part nodes x node is c (part_of y _ other is' part up) = search (rules, by_part nodes x node is y up, is_tree, part_of)
 
 -- the nodes in x are those from low on, if it is so of each part
 pub range_of : (nodes : List Node) (x low : ℕ) (node : Node) → slice_get nodes x ≡ Some node → low ≤ x → ((c : ℕ) → low ≤ c → c < x → (a : ℕ) × IsPart node a × InTree nodes a c) →
     ((a c : ℕ) → IsPart node a → InTree nodes a c → (low ≤ c) × (c < x)) → IsNodeRange nodes low x
 range_of nodes x low node is small down up c = (
-  λ h. let high = h.1 in
-      ⊎_elim (λ (e : c ≡ x). is_tree c e) (λ (ne : c ≡ x → ⊥). let part = down c h.0 (omega arith) in in_part nodes x part.0 node is part.1 c part.2) (cases_eq c x),
-  λ h. ⊎_elim
-      (λ (e : c ≡ x). (omega arith, omega arith))
-      (λ (f : (a : ℕ) × IsPart node a × InTree nodes a c). let within = up f.0 c f.1 f.2 in let less = within.1 in (within.0, omega arith))
-      (by_part nodes x node is c h),
+  λ h. elim (cases_eq c x) [ inl e ↦ is_tree c e | inr ne ↦ let part = down c h.0 (omega (arith, h.1)) in in_part nodes x part.0 node is part.1 c part.2 ],
+  λ h. elim (by_part nodes x node is c h) [ inl e ↦ (omega arith, omega arith) | inr f ↦ let within = up f.0 c f.1 f.2 in (within.0, omega (arith, within.1)) ],
 )
 
 -- The same of a mirrored expression.
 
 part_mirror : (node : Node) (c : ℕ) → IsPart node c ↔ IsPart (mirror_node node) c
-part_mirror (Seq a b) c = (λ h. ⊎_elim (λ (l : a.index ≡ c). inr l) (λ (m : b.index ≡ c). inl m) h, λ h. ⊎_elim (λ (m : b.index ≡ c). inr m) (λ (l : a.index ≡ c). inl l) h)
-part_mirror other c = (λ h. h, λ h. h)
+part_mirror node c = search rules
 
 in_mirror : (e : WrittenExpression) (r c : ℕ) → InTree e.nodes r c → InTree (seen true e).nodes r c
 in_mirror e r c (is_tree _ at) = is_tree c at
@@ -364,9 +296,7 @@ in_mirror e r c (part_of y _ node is part up) = part_of y c (mirror_node node) (
 
 out_of_mirror : (e : WrittenExpression) (r c : ℕ) → InTree (seen true e).nodes r c → InTree e.nodes r c
 out_of_mirror e r c (is_tree _ at) = is_tree c at
-out_of_mirror e r c (part_of y _ node is part up) =
-    let old = old_node e.nodes y node is in
-    part_of y c old.0 old.1 ((part_mirror old.0 c).1 (subst (λ n. IsPart n c) (sym old.2) part)) (out_of_mirror e r y up)
+out_of_mirror e r c (part_of y _ node is part up) = search (rules, part_of, old_node e.nodes y node is, part_mirror, out_of_mirror e r y up)
 
 pub mirror_range : (e : WrittenExpression) (low r : ℕ) → IsNodeRange e.nodes low r → IsNodeRange (seen true e).nodes low r
 mirror_range e low r range c = (λ h. in_mirror e r c ((range c).0 h), λ h. (range c).1 (out_of_mirror e r c h))
@@ -375,28 +305,15 @@ mirror_range e low r range c = (λ h. in_mirror e r c ((range c).0 h), λ h. (ra
 pub behind_reaches : (e : WrittenExpression) (w : List ℕ) (r x p d : ℕ) (u t : Starts) (entered ended : ℕ → Bool) → IsArena e.nodes → Opposite (length w) u t → t.last ≤ length w → p + d ≡ length w →
     RowOfPlace (seen true e).nodes (reverse w) r u true d entered ended → IsTrue (ended x) ↔ ReachesEnd e.nodes w r t x p
 behind_reaches e w r x p d u t entered ended arena opposite inside sum row =
-    let law = reaches_mirror e w r u t arena opposite inside x p d sum in
-    (λ h. law.1 ((row.ends x).0 h).1, λ h. (row.ends x).1 (inl refl, law.0 h))
+    let law = reaches_mirror e w r u t arena opposite inside x p d sum in search rules
 
 pub meet_rows : (e : WrittenExpression) (w : List ℕ) (r a p d : ℕ) (s u t : Starts) (keeps : Bool) (front front_ended entered behind : ℕ → Bool) → IsArena e.nodes → Opposite (length w) u t → t.last ≤ length w → p + d ≡ length w →
     RowOfPlace e.nodes w a s keeps p front front_ended → RowOfPlace (seen true e).nodes (reverse w) r u true d entered behind →
     ((c : ℕ) × IsTrue (front c) × IsTrue (behind c)) ↔ MeetsAt e.nodes w r t a s p
-meet_rows e w r a p d s u t keeps front front_ended entered behind arena opposite inside sum forward_one reverse_any = (
-  λ h. let leaf = (forward_one.leaves h.0).0 h.1 in
-      (h.0, leaf.0, leaf.1, leaf.2, (behind_reaches e w r h.0 p d u t entered behind arena opposite inside sum reverse_any).0 h.2),
-  λ h. (h.0, (forward_one.leaves h.0).1 (h.1, h.2, h.3), (behind_reaches e w r h.0 p d u t entered behind arena opposite inside sum reverse_any).1 h.4),
-)
+meet_rows e w r a p d s u t keeps front front_ended entered behind arena opposite inside sum forward_one reverse_any =
+    let law = (λ (x : ℕ). behind_reaches e w r x p d u t entered behind arena opposite inside sum reverse_any) in search rules
 
 -- The bits of a row.
-
-pub bits_here : (m : ℕ) (marks : List Bool) (x : ℕ) → x < m → bits m marks x ≡ slice_index_or marks x false
-bits_here m marks x less = ap (λ b. b && slice_index_or marks x false) (lt-ltb x m less)
-
-pub bits_set : (m : ℕ) (marks after : List Bool) (x : ℕ) (v : Bool) → x < m → x < length marks → after ≡ slice_set marks x v → bits m after x ≡ v
-bits_set m marks after x v less inside is = bits_here m after x less ∙ set_same marks after x v inside is
-
-pub bits_other : (m : ℕ) (marks after : List Bool) (x : ℕ) (v : Bool) → after ≡ slice_set marks x v → (c : ℕ) → (c ≡ x → ⊥) → bits m after c ≡ bits m marks c
-bits_other m marks after x v is c ne = ap (λ b. nat_lt c m && b) (set_other marks after x c v ne is)
 
 pub bits_clear : (m : ℕ) (marks : List Bool) → ((c : ℕ) → c < m → slice_index_or marks c false ≡ false) → (c : ℕ) → bits m marks c ≡ false
 bits_clear m marks clear c = search rules

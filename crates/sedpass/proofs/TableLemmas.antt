@@ -1,41 +1,18 @@
 -- Tables of states.
-use Rattle.std.proofs.Common.{◌≡◌, ◌≢◌, ℕ, zero, suc, ◌+◌, ◌*◌, ◌/◌, ◌%◌, ◌^◌, ◌<◌, ◌≤◌, ◌↔◌, Bool, true, false, List, length, length-set, Option, Some, IsTrue, refl, sym, ap, ◌∙◌, subst, ⊎_elim, arith, min, mul-le-mul_left, slice_index_or, slice_set, replicate, vec_capacity, rules}
-use Rattle.sedpass.proofs.Words.{same_from_place, shl-shr, shl_whole, with_item, pow-le-pow_right, cases_eq, get_or-set_same, get_or-set_other, get_or_default, IsExpr, WrittenExpression, seen, old_node, KeepsRows, row_of, StateFlags, PlaceKind, Prepared, Way, Beginning, Table}
-use Rattle.sedpass.specs.Rows.{IsApart, nodes_of, at_begin, at_edge, bits, leaves_row, ends_row, SameBytes}
+use Rattle.std.proofs.Common.{◌≡◌, ℕ, zero, suc, ◌+◌, ◌*◌, ◌/◌, ◌%◌, ◌^◌, ◌<◌, ◌≤◌, ◌⊎◌, ◌↔◌, Bool, true, false, List, length, length-set, Option, Some, IsTrue, refl, sym, ap, ◌∙◌, subst, inl, inr, arith, min, mul-le-mul_left, slice_index_or, slice_set, replicate, vec_capacity, rules}
+use Rattle.sedpass.proofs.Words.{same_from_place, shl-shr, shl_whole, with_item, pow-le-pow_right, cases_eq, get_or-set_same, get_or-set_other, get_or_default, IsExpr, WrittenExpression, seen, old_node, KeepsRows, row_of, StateFlags, PlaceKind, WrittenExpression, Way, Beginning, Table}
+use Rattle.sedpass.specs.Rows.{IsApart, nodes_of, at_begin, at_edge, leaves_row, ends_row, SameBytes}
 use Rattle.sedpass.specs.Table.{PassState, state_of, FlagsShow, HasNewRow, IsMade, LeadsOn, BeginsIn, NamesState, IsNext, IsOffset, cell_of, LeadsBy, kind_number, beginning_at, beginning_of, MayBegin, HasRoom, HasRows, IsRoomy, IsTable, SameRoom, SameShape, AddsStates, code_of, column_at, IsLayout, IsColumn}
 use Rattle.sedpass.specs.declared.cells.Layout.{Layout}
 use Rattle.sedpass.specs.declared.rows.Act.{Act}
 use Rattle.sedpass.proofs.LeaveLemmas.{twice}
-use Rattle.sedpass.proofs.RowLemmas.{bits_clear, bits_here, class_row}
+use Rattle.sedpass.proofs.RowLemmas.{bits_clear, bits_here}
 use Rattle.sedpass.proofs.ClassLemmas.{bit_low}
-
--- Rows.
-
-bits_dead : (m : ℕ) (a : List Bool) → ((c : ℕ) → c < m → slice_index_or a c false ≡ false) ↔ ((c : ℕ) → bits m a c ≡ false)
-bits_dead m a = (bits_clear m a, λ none c lt. sym (bits_here m a c lt) ∙ none c)
-
-abbrev pub state : ℕ → (ℕ → Bool) → (ℕ → Bool) → PassState
-state r e d = record { root = r; entered = e; ended = d }
-
-pub state_same : (r r' : ℕ) (e e' d d' : ℕ → Bool) → r ≡ r' → e ≡ e' → d ≡ d' → state r e d ≡ state r' e' d'
-state_same r r' e e' d d' a b c = ap (λ x. state x e d) a ∙ ap (λ x. state r' x d) b ∙ ap (state r' e') c
-
--- the row that is being made shows the flags of a state that has it
-pub marks_show : (m : ℕ) (t : Table) (root : ℕ) (a : PassState) (flags : StateFlags) → root < m → flags.ends ≡ slice_index_or (row_of t.rows (ends_row t.count)) root false →
-    (IsTrue flags.dead ↔ ((c : ℕ) → c < m → slice_index_or (row_of t.rows (leaves_row t.count)) c false ≡ false)) → HasNewRow m t root a → FlagsShow a flags
-marks_show m t root a flags inside ends dead has =
-    let law = bits_dead m (row_of t.rows (leaves_row t.count)) in
-    let made = state_of m t t.count in
-    subst (λ x. FlagsShow x flags) (state_same root a.root made.entered a.entered made.ended a.ended (sym has.0) (sym has.1) (sym has.2))
-    (ends ∙ sym (bits_here m (row_of t.rows (ends_row t.count)) root inside), (λ h. law.0 (dead.0 h), λ h. dead.1 (law.1 h)))
 
 -- Places of cells.
 
 pub shifted : (q n s : ℕ) → q < n → n ≤ 65535 → s ≤ 8 → (q * 2 ^ s) % 2 ^ 64 ≡ q * 2 ^ s
 shifted q n s lt few small = shl_whole q 16 s 64 (omega arith) (omega arith)
-
-pub one_shifted : (s : ℕ) → s ≤ 8 → (1 * 2 ^ s) % 2 ^ 64 ≡ 2 ^ s
-one_shifted s small = omega (arith, shl_whole 1 16 s 64 (omega arith) (omega arith))
 
 pub few_offset : (q n s : ℕ) → q < n → n ≤ 65535 → s ≤ 8 → q * 2 ^ s < 536870912
 few_offset q n s lt few small = search rules
@@ -43,18 +20,30 @@ few_offset q n s lt few small = search rules
 pub cell_inside : (size q k n w len : ℕ) → q < n → k < w → w ≤ size → n * size ≤ len → q * size + k < len
 cell_inside size q k n w len lt small fits is = search rules
 
--- Columns.
+-- the row that is being made shows the flags of a state that has it
+marks_show : (m : ℕ) (t : Table) (root : ℕ) (a : PassState) (flags : StateFlags) → root < m → flags.ends ≡ slice_index_or (row_of t.rows (ends_row t.count)) root false →
+    (IsTrue flags.dead ↔ ((c : ℕ) → c < m → slice_index_or (row_of t.rows (leaves_row t.count)) c false ≡ false)) → HasNewRow m t root a → FlagsShow a flags
+marks_show m t root a flags inside ends dead has =
+    rw (has.0, has.1, has.2) (ends ∙ sym (bits_here m (row_of t.rows (ends_row t.count)) root inside), search (rules, bits_clear, bits_here, dead))
 
-pub column_below : (columns class k : ℕ) (edge : Bool) → class < columns → k ≡ column_at columns class edge → k < 2 * columns
-column_below columns class k false small is = omega arith
-column_below columns class k true small is = omega arith
+-- the code of such a state, which shows that row's flags
+pub names_new : (p : WrittenExpression) (t u : Table) (q root v : ℕ) (flags : StateFlags) → IsTable p u → q < u.count → root < length p.nodes → flags.ends ≡ slice_index_or (row_of t.rows (ends_row t.count)) root false →
+    (IsTrue flags.dead ↔ ((c : ℕ) → c < length p.nodes → slice_index_or (row_of t.rows (leaves_row t.count)) c false ≡ false)) → HasNewRow (length p.nodes) t root (state_of (length p.nodes) u q) →
+    v ≡ code_of flags ((q * 2 ^ u.layout.shift) % 2 ^ 64) → NamesState (length p.nodes) u (HasNewRow (length p.nodes) t root) v
+names_new p t u q root v flags table there inside ends dead has code = record {
+  to = q;
+  there = there;
+  flags = flags;
+  shown = marks_show (length p.nodes) t root (state_of (length p.nodes) u q) flags inside ends dead has;
+  code = code ∙ ap (code_of flags) (shifted q u.room u.layout.shift (omega (arith, there, table.room.count)) table.room.rows.few table.layout.small);
+  is = has;
+}
+
+-- Columns.
 
 -- a column is of one class, at the edge or elsewhere
 column_apart : (columns class other : ℕ) (edge edge' : Bool) → class < columns → other < columns → column_at columns class edge ≡ column_at columns other edge' → (other ≡ class) × (edge' ≡ edge)
-column_apart columns class other false false small small' same = (sym same, refl)
-column_apart columns class other true true small small' same = (omega (arith, same), refl)
-column_apart columns class other false true small small' same = absurd (omega (arith, same))
-column_apart columns class other true false small small' same = absurd (omega (arith, same))
+column_apart columns class other edge edge' small small' same = search rules
 
 -- Bytes of one class, however the expression is seen.
 
@@ -64,30 +53,21 @@ seen_bytes true e a b same = search (rules, old_node, twice)
 
 -- a state leads on by bytes of one class
 pub leads_same : (e : WrittenExpression) (way : Way) (a b : PassState) (byte other : ℕ) (edge : Bool) → SameBytes e.nodes (Some other) (Some byte) → LeadsOn (nodes_of way e) way a byte edge b → LeadsOn (nodes_of way e) way a other edge b
-leads_same e way a b byte other edge same leads = search (rules, class_row, seen_bytes)
+leads_same e way a b byte other edge same leads = (leads.0, λ w s p at. leads.1 w s p (λ x m is. at x m is ∙ seen_bytes way.mirrored e (Some other) (Some byte) same x m is))
 
 -- Beginnings.
 
 pub few_kinds : (a b : Bool) → kind_number a b < 4
 few_kinds a b = omega (arith, bit_low a, bit_low b)
 
--- the number determines the kind
-kind_same : (one other : PlaceKind) → kind_number one.begin one.end ≡ kind_number other.begin other.end → one ≡ other
-kind_same one other e = search rules
-
--- where another beginning is noted
-begin_apart : (all_starts : Bool) (root x other : ℕ) (kind kind' : PlaceKind) → (IsTrue all_starts → x ≡ root) → (IsTrue all_starts → other ≡ root) → beginning_at all_starts x kind ≡ beginning_at all_starts other kind' → (x ≡ other) × (kind ≡ kind')
-begin_apart true root x other kind kind' one two e = (one refl ∙ sym (two refl), kind_same kind kind' e)
-begin_apart false root x other kind kind' one two e = search (rules, few_kinds, kind_same)
-
 -- What the table names.
 
 pub names_map : (m : ℕ) (t : Table) (P Q : PassState → Type 0) (v : ℕ) → ((a : PassState) → P a → Q a) → NamesState m t P v → NamesState m t Q v
 names_map m t P Q v up n = record { to = n.to; there = n.there; flags = n.flags; shown = n.shown; code = n.code; is = up (state_of m t n.to) n.is }
 
-module _ (p : Prepared) (t t' : Table) (adds : AddsStates (length p.arena.expr.nodes) t t') (epoch : t'.epoch ≡ t.epoch) where
+module _ (p : WrittenExpression) (t t' : Table) (adds : AddsStates (length p.nodes) t t') (epoch : t'.epoch ≡ t.epoch) where
   abbrev m : ℕ
-  m = length p.arena.expr.nodes
+  m = length p.nodes
 
   pub names_more : (P : PassState → Type 0) (v : ℕ) → NamesState m t P v → NamesState m t' P v
   names_more P v n = record {
@@ -100,7 +80,7 @@ module _ (p : Prepared) (t t' : Table) (adds : AddsStates (length p.arena.expr.n
   }
 
   pub offset_more : (o : ℕ) → IsOffset t o → IsOffset t' o
-  offset_more o at = let up = (adds.grows epoch).0 in let low = at.0 in rw adds.shape.2 (omega arith, at.1)
+  offset_more o at = let up = adds.grows epoch in search rules
 
   -- a state of the old table is one of the new table
   pub names_moved : (Q : Way → PassState → PassState → Type 0) (o v : ℕ) → o / 2 ^ t.layout.shift < t.count → NamesState m t' (Q t.way (state_of m t (o / 2 ^ t.layout.shift))) v → NamesState m t' (Q t'.way (state_of m t' (o / 2 ^ t'.layout.shift))) v
@@ -114,30 +94,27 @@ module _ (p : Prepared) (t t' : Table) (adds : AddsStates (length p.arena.expr.n
 
   abbrev Begun : Table → Way → ℕ → PlaceKind → Type 0
   Begun u way root kind = MayBegin p way root → (beginning_of u (beginning_at way.all_starts root kind)).epoch ≡ u.epoch →
-      NamesState m u (BeginsIn (nodes_of way p.arena.expr) way root kind) (beginning_of u (beginning_at way.all_starts root kind)).code
+      NamesState m u (BeginsIn (nodes_of way p) way root kind) (beginning_of u (beginning_at way.all_starts root kind)).code
 
-  begun_more : (root : ℕ) (kind : PlaceKind) → t'.beginnings ≡ t.beginnings → Begun t t.way root kind → Begun t' t'.way root kind
+  begun_more : (root : ℕ) (kind : PlaceKind) → beginning_of t' (beginning_at t.way.all_starts root kind) ≡ beginning_of t (beginning_at t.way.all_starts root kind) → Begun t t.way root kind → Begun t' t'.way root kind
   begun_more root kind same begun = grind (arith, names_more)
 
-  -- one more state, from which nothing is known yet
-  pub one_more : IsTable p t → HasRoom m t' → t'.count ≡ t.count + 1 → t'.beginnings ≡ t.beginnings →
-      ((q k : ℕ) → q < t.count → k < 2 * t.layout.columns → cell_of t' q k ≡ cell_of t q k) → ((k : ℕ) → k < 2 * t.layout.columns → cell_of t' t.count k ≡ 0) →
-      (state_of m t' t.count).root < m → IsTable p t'
-  one_more table room count begins before clear root = record {
+  -- the table is right, if each state, cell and beginning is that isn't as it was
+  pub table_more : IsTable p t → HasRoom m t' → ((q : ℕ) → q < t'.count → (q < t.count) ⊎ ((state_of m t' q).root < m)) →
+      ((q k : ℕ) → q < t'.count → k < 2 * t.layout.columns → 0 < cell_of t' q k → ((q < t.count) × (cell_of t' q k ≡ cell_of t q k)) ⊎ NamesState m t' (LeadsBy p t' q k) (cell_of t' q k)) →
+      ((root : ℕ) (kind : PlaceKind) → (beginning_of t' (beginning_at t.way.all_starts root kind) ≡ beginning_of t (beginning_at t.way.all_starts root kind)) ⊎ Begun t' t'.way root kind) → IsTable p t'
+  table_more table room roots cells begins = record {
     expr = table.expr;
     room = room;
-    layout = subst (λ l. IsLayout p.arena.expr.nodes l) (sym adds.shape.2) table.layout;
-    roots = search (rules, cases_eq);
+    layout = subst (λ l. IsLayout p.nodes l) (sym adds.shape.2) table.layout;
+    roots = search rules;
     filled = λ q k there column some.
         let narrow : k < 2 * t.layout.columns = subst (λ (l : Layout). k < 2 * l.columns) adds.shape.2 column in
-        ⊎_elim
-        (λ (e : q ≡ t.count). let none = subst (λ x. cell_of t' x k ≡ 0) (sym e) (clear k narrow) in absurd (omega (arith, none, some)))
-        (λ (ne : q ≢ t.count).
-        let less : q < t.count = omega (arith, ne) in
-        let same = before q k less narrow in
-        subst (λ v. NamesState m t' (LeadsBy p t' q k) v) (sym same) (filled_more q k (cell_of t q k) less (table.filled q k less narrow (subst (λ v. 0 < v) same some))))
-        (cases_eq q t.count);
-    begun = λ root kind. begun_more root kind begins (table.begun root kind);
+        elim (cells q k there narrow some) [
+          | inl old ↦ subst (λ v. NamesState m t' (LeadsBy p t' q k) v) (sym old.1) (filled_more q k (cell_of t q k) old.0 (table.filled q k old.0 narrow (subst (λ v. 0 < v) old.1 some)))
+          | inr new ↦ new
+        ];
+    begun = λ root kind. elim (begins root kind) [ inl old ↦ begun_more root kind old (table.begun root kind) | inr new ↦ new ];
   }
 
 -- the epochs of all beginnings are as asked, where one more is noted
@@ -145,48 +122,40 @@ pub noted_all : (P : ℕ → Type 0) (items : List Beginning) (at epoch code : �
     (i : ℕ) → P (slice_index_or (slice_set items at (record { epoch = epoch; code = code })) i (record { epoch = 0; code = 0 })).epoch
 noted_all P items at epoch code inside here all i = search rules
 
+-- the same states
+pub adds_same : (m : ℕ) (t t' : Table) → SameShape t t' → t'.epoch ≡ t.epoch → t'.count ≡ t.count → ((q : ℕ) → q < t.count → state_of m t' q ≡ state_of m t q) → AddsStates m t t'
+adds_same m t t' shape epoch count same = search rules
+
 -- one more cell is filled
-pub note_cell : (p : Prepared) (t : Table) → IsTable p t → (offset k v byte : ℕ) (edge : Bool) → IsOffset t offset → byte < 256 → IsColumn t.layout byte edge k → NamesState (length p.arena.expr.nodes) t (IsNext p t offset byte edge) v →
+pub note_cell : (p : WrittenExpression) (t : Table) → IsTable p t → (offset k v byte : ℕ) (edge : Bool) → IsOffset t offset → byte < 256 → IsColumn t.layout byte edge k → NamesState (length p.nodes) t (IsNext p t offset byte edge) v →
     IsTable p (record t { cells = with_item t.cells (offset + k) v })
 note_cell p t table offset k v byte edge there small column leads =
-    let m = length p.arena.expr.nodes in
+    let m = length p.nodes in
     let N : Table = record t { cells = with_item t.cells (offset + k) v } in
     let old = table.room in
     let size = 2 ^ t.layout.shift in
     let q = offset / size in
-    let is = there.1 in
-    let class = slice_index_or t.layout.classes byte 0 in
-    let narrow : k < 2 * t.layout.columns = column_below t.layout.columns class k edge column.0 column.1 in
-    let inside : offset + k < length t.cells.items = (let h = cell_inside size q k t.count (2 * t.layout.columns) (length t.cells.items) there.0 narrow table.layout.fits old.cells in omega (arith, h, is)) in
+    let narrow : k < 2 * t.layout.columns = search rules in
+    let inside : offset + k < length t.cells.items = omega (arith, there.1, cell_inside size q k t.count (2 * t.layout.columns) (length t.cells.items) there.0 narrow table.layout.fits old.cells) in
     let room : HasRoom m N = search (rules, length-set) in
     let here : NamesState m t (LeadsBy p t q k) v = names_map m t (IsNext p t offset byte edge) (LeadsBy p t q k) v
     (λ b on o end few at.
-    let one = column_apart t.layout.columns class (slice_index_or t.layout.classes o 0) edge end column.0 at.0 (sym column.1 ∙ at.1) in
-    leads_same p.arena.expr t.way (state_of m t q) b byte o end (table.layout.classes o byte few small one.0) (subst (λ x. IsNext p t offset byte x b) (sym one.1) on)) leads in
-    let same_names : (P : PassState → Type 0) (x : ℕ) → NamesState m t P x → NamesState m N P x = λ P x n. record { to = n.to; there = n.there; flags = n.flags; shown = n.shown; code = n.code; is = n.is } in
-    record {
-      expr = table.expr;
-      room = room;
-      layout = table.layout;
-      roots = table.roots;
-      filled = λ x j less near some.
-          ⊎_elim
-          (λ (e : x * size + j ≡ offset + k).
-          let at = same_from_place x j q k size (omega arith) (omega arith) (omega (arith, e, is)) in
+    let one = column_apart t.layout.columns (slice_index_or t.layout.classes byte 0) (slice_index_or t.layout.classes o 0) edge end column.0 at.0 (sym column.1 ∙ at.1) in
+    leads_same p t.way (state_of m t q) b byte o end (table.layout.classes o byte few small one.0) (subst (λ x. IsNext p t offset byte x b) (sym one.1) on)) leads in
+    table_more p t N (adds_same m t N (refl, refl, refl, refl, refl) refl refl (λ x low. refl)) refl table room (λ x low. inl low)
+    (λ x j less near some. elim (cases_eq (x * size + j) (offset + k)) [
+      | inl e ↦
+          let at = same_from_place x j q k size (omega arith) (omega arith) (omega (arith, e, there.1)) in
           let value : cell_of N x j ≡ v = ap (λ n. slice_index_or N.cells.items n 0) e ∙ get_or-set_same t.cells.items (offset + k) v 0 inside in
-          rw (value, at.1, at.0) (same_names (LeadsBy p t q k) v here))
-          (λ (ne : x * size + j ≢ offset + k).
-          let same : cell_of N x j ≡ cell_of t x j = get_or-set_other t.cells.items (offset + k) (x * size + j) v 0 ne in
-          subst (λ n. NamesState m N (LeadsBy p N x j) n) (sym same) (same_names (LeadsBy p t x j) (cell_of t x j) (table.filled x j less near (subst (λ n. 0 < n) same some))))
-          (cases_eq (x * size + j) (offset + k));
-      begun = λ root kind may now. same_names (BeginsIn (nodes_of t.way p.arena.expr) t.way root kind) (beginning_of t (beginning_at t.way.all_starts root kind)).code (table.begun root kind may now);
-    }
+          inr (rw (value, at.1, at.0) (record { to = here.to; there = here.there; flags = here.flags; shown = here.shown; code = here.code; is = here.is }))
+      | inr ne ↦ inl (less, get_or-set_other t.cells.items (offset + k) (x * size + j) v 0 ne)
+    ]) (λ root kind. inl refl)
 
 -- one more beginning is noted
-pub note_beginning : (p : Prepared) (t : Table) → IsTable p t → (root code : ℕ) (kind : PlaceKind) → MayBegin p t.way root → t.epoch < 4294967294 → NamesState (length p.arena.expr.nodes) t (BeginsIn (nodes_of t.way p.arena.expr) t.way root kind) code →
+pub note_beginning : (p : WrittenExpression) (t : Table) → IsTable p t → (root code : ℕ) (kind : PlaceKind) → MayBegin p t.way root → t.epoch < 4294967294 → NamesState (length p.nodes) t (BeginsIn (nodes_of t.way p) t.way root kind) code →
     IsTable p (record t { beginnings = with_item t.beginnings (beginning_at t.way.all_starts root kind) (record { epoch = t.epoch; code = code }) })
 note_beginning p t table root code kind may epoch begins =
-    let m = length p.arena.expr.nodes in
+    let m = length p.nodes in
     let none : Beginning = record { epoch = 0; code = 0 } in
     let fresh : Beginning = record { epoch = t.epoch; code = code } in
     let at = beginning_at t.way.all_starts root kind in
@@ -197,38 +166,21 @@ note_beginning p t table root code kind may epoch begins =
     let early : (i : ℕ) → (beginning_of N i).epoch < 4294967294 = noted_all (λ n. n < 4294967294) t.beginnings.items at t.epoch code inside (omega (arith, epoch)) old.early in
     let long : (x : ℕ) (other : PlaceKind) → x < t.marks → beginning_at t.way.all_starts x other < length N.beginnings.items = λ x other low. omega (arith, length-set t.beginnings.items at fresh, old.begins x other low) in
     let room : HasRoom m N = search rules in
-    let same_names : (P : PassState → Type 0) (x : ℕ) → NamesState m t P x → NamesState m N P x = λ P x n. record { to = n.to; there = n.there; flags = n.flags; shown = n.shown; code = n.code; is = n.is } in
-    record {
-      expr = table.expr;
-      room = room;
-      layout = table.layout;
-      roots = table.roots;
-      filled = λ q k low near some. same_names (LeadsBy p t q k) (cell_of t q k) (table.filled q k low near some);
-      begun = λ x other may' now.
-          let i = beginning_at t.way.all_starts x other in
-          ⊎_elim
-          (λ (e : i ≡ at).
-          let one = begin_apart t.way.all_starts p.root x root other kind may'.1 may.1 e in
-          let here : beginning_of N i ≡ fresh = ap (beginning_of N) e ∙ get_or-set_same t.beginnings.items at fresh none inside in
-          rw (ap (λ (b : Beginning). b.code) here, one.0, one.1) (same_names (BeginsIn (nodes_of t.way p.arena.expr) t.way root kind) code begins))
-          (λ (ne : i ≢ at).
-          let same : beginning_of N i ≡ beginning_of t i = get_or-set_other t.beginnings.items at i fresh none ne in
-          subst (λ (b : Beginning). NamesState m N (BeginsIn (nodes_of t.way p.arena.expr) t.way x other) b.code) (sym same)
-          (same_names (BeginsIn (nodes_of t.way p.arena.expr) t.way x other) (beginning_of t i).code (table.begun x other may' (sym (ap (λ (b : Beginning). b.epoch) same) ∙ now))))
-          (cases_eq i at);
-    }
+    table_more p t N (adds_same m t N (refl, refl, refl, refl, refl) refl refl (λ x low. refl)) refl table room (λ x low. inl low) (λ q k low near some. inl (low, refl))
+    (λ x other. elim (cases_eq (beginning_at t.way.all_starts x other) at) [
+      | inl e ↦ inr (λ may' now.
+          let one : (x ≡ root) × (other ≡ kind) = search (rules, few_kinds) in
+          let here : beginning_of N (beginning_at t.way.all_starts x other) ≡ fresh = ap (beginning_of N) e ∙ get_or-set_same t.beginnings.items at fresh none inside in
+          rw (ap (λ (b : Beginning). b.code) here, one.0, one.1) (record { to = begins.to; there = begins.there; flags = begins.flags; shown = begins.shown; code = begins.code; is = begins.is }))
+      | inr ne ↦ inl (get_or-set_other t.beginnings.items at (beginning_at t.way.all_starts x other) fresh none ne)
+    ])
 
 -- a table that forgot all its states, in an epoch that no beginning has
-pub emptied : (p : Prepared) (t : Table) (epoch : ℕ) → IsExpr p.arena.expr.nodes p.arena.expr.groups → HasRoom (length p.arena.expr.nodes) t → IsLayout p.arena.expr.nodes t.layout →
+pub emptied : (p : WrittenExpression) (t : Table) (epoch : ℕ) → IsExpr p.nodes p.groups → HasRoom (length p.nodes) t → IsLayout p.nodes t.layout →
     ((noted : ℕ) → noted ≤ t.epoch → noted < 4294967294 → noted < epoch) → IsTable p (record t { count = 0; epoch = epoch })
 emptied p t epoch expr room layout later =
     let past : (i : ℕ) → (beginning_of t i).epoch < epoch = λ i. later (beginning_of t i).epoch (room.past i) (room.early i) in
-    let empty : HasRoom (length p.arena.expr.nodes) (record t { count = 0; epoch = epoch }) = search rules in
     search rules
-
--- the same states
-pub adds_same : (m : ℕ) (t t' : Table) → SameShape t t' → t'.epoch ≡ t.epoch → t'.count ≡ t.count → ((q : ℕ) → q < t.count → state_of m t' q ≡ state_of m t q) → AddsStates m t t'
-adds_same m t t' shape epoch count same = search rules
 
 -- a new state
 module _ (m : ℕ) (t t' : Table) (root : ℕ) (there : t.count < t.room) (room : HasRoom m t) (shape : SameShape t t') (epoch : t'.epoch ≡ t.epoch) (count : t'.count ≡ t.count + 1) (rows : t'.rows ≡ t.rows)
@@ -240,49 +192,48 @@ module _ (m : ℕ) (t t' : Table) (root : ℕ) (there : t.count < t.room) (room 
   state_adds = search rules
 
 -- the root of a state, as it is read
-pub root_read : (p : Prepared) (t : Table) → IsTable p t → (offset state root : ℕ) → IsOffset t offset → state ≡ offset / 2 ^ t.layout.shift → root ≡ slice_index_or t.roots.items state root →
-    root ≡ (state_of (length p.arena.expr.nodes) t (offset / 2 ^ t.layout.shift)).root
+pub root_read : (p : WrittenExpression) (t : Table) → IsTable p t → (offset state root : ℕ) → IsOffset t offset → state ≡ offset / 2 ^ t.layout.shift → root ≡ slice_index_or t.roots.items state root →
+    root ≡ (state_of (length p.nodes) t (offset / 2 ^ t.layout.shift)).root
 root_read p t table offset state root there at is = search (rules, get_or_default)
 
 -- the state to which an act led
 pub names_leads : (m : ℕ) (u : Table) (act : Act) (a : PassState) (byte v : ℕ) (edge : Bool) → act.root ≡ a.root → at_begin act.way.mirrored act.kind ≡ false → at_edge act.way.mirrored act.kind ≡ edge →
-    NamesState m u (IsMade act (Some byte) act.way.all_starts a.entered) v → NamesState m u (LeadsOn (nodes_of act.way act.prepared.now.arena.expr) act.way a byte edge) v
+    NamesState m u (IsMade act (Some byte) act.way.all_starts a.entered) v → NamesState m u (LeadsOn (nodes_of act.way act.prepared.now) act.way a byte edge) v
 names_leads m u act a byte v edge root begin end =
-    names_map m u (IsMade act (Some byte) act.way.all_starts a.entered) (LeadsOn (nodes_of act.way act.prepared.now.arena.expr) act.way a byte edge) v (λ b made. (made.root ∙ root, rw (← root, ← end) (made.comes_next begin a.ended)))
+    names_map m u (IsMade act (Some byte) act.way.all_starts a.entered) (LeadsOn (nodes_of act.way act.prepared.now) act.way a byte edge) v (λ b made. (made.root ∙ root, rw (← root, ← end) (made.comes_next begin a.ended)))
 
 -- What a code names.
 
-module _ (p : Prepared) (t : Table) (table : IsTable p t) (P : PassState → Type 0) (v o : ℕ) (n : NamesState (length p.arena.expr.nodes) t P v) (shows : (flags : StateFlags) (u : ℕ) → u < 536870912 → v ≡ code_of flags u → o ≡ u) where
+module _ (p : WrittenExpression) (t : Table) (table : IsTable p t) (P : PassState → Type 0) (v o : ℕ) (n : NamesState (length p.nodes) t P v) (shows : (flags : StateFlags) (u : ℕ) → u < 536870912 → v ≡ code_of flags u → o ≡ u) where
   small_offset : n.to * 2 ^ t.layout.shift < 536870912
   small_offset = few_offset n.to t.room t.layout.shift (let low = n.there in let most = table.room.count in omega arith) table.room.rows.few table.layout.small
 
   offset_is : o ≡ n.to * 2 ^ t.layout.shift
-  offset_is = shows n.flags (n.to * 2 ^ t.layout.shift) small_offset n.code
+  offset_is = search (rules, shows, small_offset, n.code)
 
   reverse_any : o / 2 ^ t.layout.shift ≡ n.to
   reverse_any = ap (λ x. x / 2 ^ t.layout.shift) offset_is ∙ shl-shr n.to t.layout.shift
 
   pub names_offset : IsOffset t o
-  names_offset = (subst (λ x. x < t.count) (sym reverse_any) n.there, offset_is ∙ ap (λ x. x * 2 ^ t.layout.shift) (sym reverse_any))
+  names_offset = search (rules, reverse_any, offset_is)
 
-  pub names_state : P (state_of (length p.arena.expr.nodes) t (o / 2 ^ t.layout.shift))
-  names_state = subst (λ x. P (state_of (length p.arena.expr.nodes) t x)) (sym reverse_any) n.is
+  pub names_state : P (state_of (length p.nodes) t (o / 2 ^ t.layout.shift))
+  names_state = rw reverse_any n.is
 
   -- what is true of all flags that the code may show is true of those that it does
   pub names_shown : (Q : StateFlags → Type 0) → ((flags : StateFlags) (u : ℕ) → u < 536870912 → v ≡ code_of flags u → Q flags) → Q n.flags
   names_shown Q all = all n.flags (n.to * 2 ^ t.layout.shift) small_offset n.code
 
   -- what the code shows are the flags of its state
-  pub names_flags : (shown : StateFlags) → ((flags : StateFlags) (u : ℕ) → u < 536870912 → v ≡ code_of flags u → shown ≡ flags) → FlagsShow (state_of (length p.arena.expr.nodes) t (o / 2 ^ t.layout.shift)) shown
-  names_flags shown show = subst (λ x. FlagsShow (state_of (length p.arena.expr.nodes) t x) shown) (sym reverse_any)
-      (subst (FlagsShow (state_of (length p.arena.expr.nodes) t n.to)) (sym (names_shown (λ f. shown ≡ f) show)) n.shown)
+  pub names_flags : (shown : StateFlags) → ((flags : StateFlags) (u : ℕ) → u < 536870912 → v ≡ code_of flags u → shown ≡ flags) → FlagsShow (state_of (length p.nodes) t (o / 2 ^ t.layout.shift)) shown
+  names_flags shown show = rw (reverse_any, names_shown (λ f. shown ≡ f) show) n.shown
 
 -- what a cell holds
-module _ (p : Prepared) (t : Table) (table : IsTable p t) (offset byte k : ℕ) (edge : Bool) (at : IsOffset t offset) (column : IsColumn t.layout byte edge k) where
+module _ (p : WrittenExpression) (t : Table) (table : IsTable p t) (offset byte k : ℕ) (edge : Bool) (at : IsOffset t offset) (column : IsColumn t.layout byte edge k) where
   pub cell_there : offset + k < length t.cells.items
   cell_there = search rules
 
-  pub known_cell : (v : ℕ) → byte < 256 → v ≡ slice_index_or t.cells.items (offset + k) 0 → 0 < v → NamesState (length p.arena.expr.nodes) t (LeadsOn (nodes_of t.way p.arena.expr) t.way (state_of (length p.arena.expr.nodes) t (offset / 2 ^ t.layout.shift)) byte edge) v
+  pub known_cell : (v : ℕ) → byte < 256 → v ≡ slice_index_or t.cells.items (offset + k) 0 → 0 < v → NamesState (length p.nodes) t (LeadsOn (nodes_of t.way p) t.way (state_of (length p.nodes) t (offset / 2 ^ t.layout.shift)) byte edge) v
   known_cell v small is some = grind (arith, names_map)
 
 -- a list of one element alone, and none beyond it
@@ -304,24 +255,18 @@ pub has_parts : (t : Table) (kinds : ℕ) → HasRows t.room t.marks t.rows t.ro
 has_parts t kinds rows reserved index long begins noted layout small tight = search (rules, pow-le-pow_right, mul-le-mul_left)
 
 -- a table has all its room again, after it served an expression
-pub roomy_still : (m : ℕ) (p : Prepared) (t t' : Table) → IsRoomy m t → SameRoom t t' → IsTable p t' → IsRoomy m t'
+pub roomy_still : (m : ℕ) (p : WrittenExpression) (t t' : Table) → IsRoomy m t → SameRoom t t' → IsTable p t' → IsRoomy m t'
 roomy_still m p t t' roomy same table layout small tight = search rules
 
 -- and for fewer nodes
 pub roomy_fewer : (k m : ℕ) (t : Table) → k ≤ m → IsRoomy m t → IsRoomy k t
 roomy_fewer k m t few roomy layout small tight = search rules
 
--- Steps from table to table.
-
--- nothing happened
-pub adds_none : (m : ℕ) (t : Table) → AddsStates m t t
-adds_none m t = adds_same m t t (refl, refl, refl, refl, refl) refl refl (λ q low. refl)
-
 -- The rows of no state change where one is made.
 
-module _ (p : Prepared) (t : Table) (rows : List (List Bool)) (keeps : KeepsRows (IsApart 2 t.count) t.rows rows) where
+module _ (p : WrittenExpression) (t : Table) (rows : List (List Bool)) (keeps : KeepsRows (IsApart 2 t.count) t.rows rows) where
   abbrev nodes : ℕ
-  nodes = length p.arena.expr.nodes
+  nodes = length p.nodes
 
   abbrev with_rows : Table
   with_rows = record t { rows = rows }
@@ -332,14 +277,7 @@ module _ (p : Prepared) (t : Table) (rows : List (List Bool)) (keeps : KeepsRows
   pub table_rows : IsTable p t → IsTable p with_rows
   table_rows table =
       let old = table.room in
-      record {
-        expr = table.expr;
-        room = search rules;
-        layout = table.layout;
-        roots = table.roots;
-        filled = λ q k low near some. filled_more p t with_rows same_states refl q k (cell_of t q k) low (table.filled q k low near some);
-        begun = λ root kind. begun_more p t with_rows same_states refl root kind refl (table.begun root kind);
-      }
+      table_more p t with_rows same_states refl table (search rules) (λ q low. inl low) (λ q k low near some. inl (low, refl)) (λ root kind. inl refl)
 
   pub adds_rows : (new : Table) → AddsStates nodes with_rows new → AddsStates nodes t new
   adds_rows new adds = record { shape = adds.shape; grows = adds.grows; kept = λ e q low. adds.kept e q low ∙ same_states.kept refl q low; full = adds.full; forgot = adds.forgot }

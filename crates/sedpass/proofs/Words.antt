@@ -49,7 +49,6 @@ pub use Rattle.sedpass.specs.declared.kept.Region.{Region}
 pub use Rattle.sedpass.specs.declared.kept.Subject.{Subject}
 pub use Rattle.sedpass.specs.declared.nodes.Facts.{Facts}
 pub use Rattle.sedpass.specs.declared.nodes.PlaceKind.{PlaceKind}
-pub use Rattle.sedpass.specs.declared.nodes.Prepared.{Prepared}
 pub use Rattle.sedpass.specs.declared.rows.Way.{Way}
 pub use Rattle.sedpass.specs.declared.search.Seeking.{Seeking}
 pub use Rattle.sedpass.specs.declared.table.Beginning.{Beginning}

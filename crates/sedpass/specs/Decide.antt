@@ -3,10 +3,10 @@
 use Rattle.std.specs.Prelude.{◌≡◌, ℕ, ◌+◌, ◌-◌, ◌*◌, ◌<◌, ◌≤◌, ◌⊎◌, Bool, true, false, IsTrue, List, [], ◌∷◌, ◌++◌, length, min, slice_get, slice_index_or, vec_capacity, IfSome, Option, None, Some}
 use Rattle.std.specs.List.{AllByRecursion}
 use Rattle.sedre.specs.Arena.{IsArena}
-use Rattle.sedre.specs.Tree.{size, tree_at}
+use Rattle.sedre.specs.Tree.{size, tree_at, WrittenExpression}
 use Rattle.sedre.specs.Steps.{Takes, TakesAtLeast, CostsWithin}
 use Rattle.sedre.specs.declared.types.Node.{Node}
-use Rattle.sedre.specs.declared.types.Node.TheVariants.{Set, Seq, Alt, Star}
+use Rattle.sedre.specs.declared.types.Node.TheVariants.{Seq, Alt, Star}
 use Rattle.sedre.specs.declared.types.NodeId.{NodeId}
 use Rattle.sedtext.specs.Caps.{LastCopy}
 use Rattle.sedtext.specs.Groups.{SpansOfGroups}
@@ -30,7 +30,6 @@ use Rattle.sedpass.specs.declared.groups.Decided.{Decided}
 use Rattle.sedpass.specs.declared.kept.Kept.{Kept}
 use Rattle.sedpass.specs.declared.kept.Region.{Region}
 use Rattle.sedpass.specs.declared.kept.Subject.{Subject}
-use Rattle.sedpass.specs.declared.nodes.Prepared.{Prepared}
 
 -- which of the entries 0 to 9 are in the set
 abbrev pub flags_of : GroupSet → List Bool
@@ -57,7 +56,7 @@ spans_in (Some span ∷ g) = 1 + spans_in g
 
 -- the nodes of the expression, and the text
 abbrev pub nodes_in : Subject → List Node
-nodes_in s = s.prepared.now.arena.expr.nodes
+nodes_in s = s.prepared.now.nodes
 
 abbrev pub subject_text : Subject → List ℕ
 subject_text s = s.text.now
@@ -126,15 +125,15 @@ EndsRegion s r here = IsLastIn (nodes_in s) r.root here.node × (here.stop ≡ r
 -- two of the tables serve the expression: the kept one for passes backwards from one end, the other for passes forwards from one start
 pub record HasDesk (s : Subject) (tables : Tables) (kept : Kept) : Type 0 where
   pub reverse_one : IsTable s.prepared.now tables.reverse_one
-  pub places : KeptRoom (length s.prepared.now.arena.expr.nodes) (length s.text.now) tables.reverse_one kept
+  pub places : KeptRoom (length s.prepared.now.nodes) (length s.text.now) tables.reverse_one kept
   pub one_end : tables.reverse_one.way.all_starts ≡ false
-  pub forward_one : IsForwardOne s.prepared.now tables.forward_one
+  pub forward_part : IsForwardOne s.prepared.now tables.forward_part
 
 -- and the region is kept
 pub record IsGroupDesk (s : Subject) (tables : Tables) (kept : Kept) : Type 0 where
   pub region : IsKept s.prepared.now s.text.now tables.reverse_one kept
   pub one_end : tables.reverse_one.way.all_starts ≡ false
-  pub forward_one : IsForwardOne s.prepared.now tables.forward_one
+  pub forward_part : IsForwardOne s.prepared.now tables.forward_part
 
 -- the match of the node is there, and ends where the region does that is kept
 pub record IsAtEnd (s : Subject) (tables : Tables) (kept : Kept) (here : Matched) (node : Node) : Type 0 where
@@ -147,13 +146,15 @@ pub record HaveWays (t : Tables) : Type 0 where
   pub forward_any : t.forward_any.way ≡ record { mirrored = false; all_starts = true }
   pub reverse_one : t.reverse_one.way ≡ record { mirrored = true; all_starts = false }
   pub forward_one : t.forward_one.way ≡ record { mirrored = false; all_starts = false }
+  pub forward_part : t.forward_part.way ≡ record { mirrored = false; all_starts = false }
 
 -- the tables serve the expression
-pub record AreTables (p : Prepared) (t : Tables) : Type 0 where
+pub record AreTables (e : WrittenExpression) (t : Tables) : Type 0 where
   pub ways : HaveWays t
-  pub forward_any : IsTable p t.forward_any
-  pub reverse_one : IsTable p t.reverse_one
-  pub forward_one : IsTable p t.forward_one
+  pub forward_any : IsTable e t.forward_any
+  pub reverse_one : IsTable e t.reverse_one
+  pub forward_one : IsTable e t.forward_one
+  pub forward_part : IsTable e t.forward_part
 
 -- they have all their room for expressions of at most m nodes
 pub record AreRoomy (m : ℕ) (t : Tables) : Type 0 where
@@ -161,6 +162,7 @@ pub record AreRoomy (m : ℕ) (t : Tables) : Type 0 where
   pub forward_any : IsRoomy m t.forward_any
   pub reverse_one : IsRoomy m t.reverse_one
   pub forward_one : IsRoomy m t.forward_one
+  pub forward_part : IsRoomy m t.forward_part
 
 -- there is room for texts of so many bytes, cut into so many blocks, and for expressions of so many nodes, and no task waits
 pub record HasSpace (text blocks nodes : ℕ) (r : GroupRoom) : Type 0 where
@@ -175,12 +177,14 @@ pub record SameRooms (old new : Tables) : Type 0 where
   pub forward_any : SameRoom old.forward_any new.forward_any
   pub reverse_one : SameRoom old.reverse_one new.reverse_one
   pub forward_one : SameRoom old.forward_one new.forward_one
+  pub forward_part : SameRoom old.forward_part new.forward_part
 
--- each of those that decide groups has the room that it had, and the other one is as it was
+-- each of those that decide groups has the room that it had, and the others are as they were
 pub record SameTables (old new : Tables) : Type 0 where
   pub forward_any : new.forward_any ≡ old.forward_any
+  pub forward_one : new.forward_one ≡ old.forward_one
   pub reverse_one : SameShape old.reverse_one new.reverse_one
-  pub forward_one : SameShape old.forward_one new.forward_one
+  pub forward_part : SameShape old.forward_part new.forward_part
 
 -- a region is kept again, in the same room
 pub record KeepsGroupDesk (s : Subject) (old new : Tables) (before after : Kept) : Type 0 where
@@ -219,10 +223,6 @@ IsCopyFrom s here a first (Some c) =
     ((here.start < here.stop) × LastCopy (HasSpan (nodes_in s) (subject_text s) a.index) here.stop here.start c)
     ⊎ ((here.start ≡ here.stop) × (IsTrue first × HasSpan (nodes_in s) (subject_text s) a.index here.start here.start) × (c ≡ here.start))
 IsCopyFrom s here a first None = (here.start ≡ here.stop) × ((IsTrue first × HasSpan (nodes_in s) (subject_text s) a.index here.start here.start) → ⊥)
-
--- the node is a set
-abbrev pub IsSetAt : List Node → ℕ → Type 0
-IsSetAt nodes x = (members : List Bool) × (slice_get nodes x ≡ Some (Set members))
 
 -- the steps to go on from a node to a part of it, in a match of so many bytes: looks into one region, and passes forwards over the parts
 abbrev pub part_cost : ℕ → ℕ → ℕ

@@ -3,10 +3,10 @@
 use Rattle.std.specs.Prelude.{◌≡◌, ℕ, ◌+◌, ◌/◌, ◌^◌, ◌<◌, ◌≤◌, Bool, false, cond, List, length, Option, Some, None, IsTrue}
 use Rattle.sedre.specs.declared.types.Node.{Node}
 use Rattle.sedtext.specs.Reach.{SomeSpan, Starts}
-use Rattle.sedpass.specs.Rows.{nodes_of}
+use Rattle.sedpass.specs.Rows.{nodes_of, root_of}
 use Rattle.sedpass.specs.Table.{PassState, state_of, StateAt}
 use Rattle.sedpass.specs.declared.cells.StateFlags.{StateFlags}
-use Rattle.sedpass.specs.declared.nodes.Prepared.{Prepared}
+use Rattle.sedre.specs.Tree.{WrittenExpression}
 use Rattle.sedpass.specs.declared.rows.Way.{Way}
 use Rattle.sedpass.specs.declared.table.Table.{Table}
 use Rattle.sedpass.specs.declared.forwards.Passed.{Passed}
@@ -30,17 +30,17 @@ abbrev pub is_over : Bool → StateFlags → Bool
 is_over all_starts flags = cond all_starts flags.ends flags.dead
 
 -- the state is that of the place, in a pass from `start` for the whole expression
-abbrev pub Arrives : Prepared → Way → List ℕ → ℕ → ℕ → PassState → Type 0
-Arrives p way w start place a = (a.root ≡ p.root) × StateAt (nodes_of way p.arena.expr) w (starts_of way.all_starts start w) way.mirrored place a
+abbrev pub Arrives : WrittenExpression → Way → List ℕ → ℕ → ℕ → PassState → Type 0
+Arrives e way w start place a = (a.root ≡ root_of e) × StateAt (nodes_of way e) w (starts_of way.all_starts start w) way.mirrored place a
 
 -- the end is the last below the place, in such a pass
-abbrev pub EndsBelow : Prepared → Way → List ℕ → ℕ → ℕ → Option ℕ → Type 0
-EndsBelow p way w start place end = LastBelow (nodes_of way p.arena.expr) w p.root (starts_of way.all_starts start w) place end
+abbrev pub EndsBelow : WrittenExpression → Way → List ℕ → ℕ → ℕ → Option ℕ → Type 0
+EndsBelow e way w start place end = LastBelow (nodes_of way e) w (root_of e) (starts_of way.all_starts start w) place end
 
 -- a pass from `start` is at a place: its state there, the last end so far, and whether it needn't go on
-pub record PassIs (p : Prepared) (t : Table) (w : List ℕ) (start : ℕ) (at : Passed) : Type 0 where
+pub record PassIs (e : WrittenExpression) (t : Table) (w : List ℕ) (start : ℕ) (at : Passed) : Type 0 where
   pub after : start ≤ at.place
   pub within : at.place ≤ length w
-  pub arrived : Arrives p t.way w start at.place (state_of (length p.arena.expr.nodes) t (at.offset / 2 ^ t.layout.shift))
-  pub last : EndsBelow p t.way w start (at.place + 1) at.end
-  pub over : IsTrue at.over → IsPassEnd t.way.all_starts (nodes_of t.way p.arena.expr) w p.root (starts_of t.way.all_starts start w) at.end
+  pub arrived : Arrives e t.way w start at.place (state_of (length e.nodes) t (at.offset / 2 ^ t.layout.shift))
+  pub last : EndsBelow e t.way w start (at.place + 1) at.end
+  pub over : IsTrue at.over → IsPassEnd t.way.all_starts (nodes_of t.way e) w (root_of e) (starts_of t.way.all_starts start w) at.end

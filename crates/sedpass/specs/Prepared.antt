@@ -2,10 +2,13 @@
 -- What is found out once of an expression: facts of each node, as its groups and how long its spans are.
 use Rattle.std.specs.Prelude.{◌≡◌, ℕ, ◌+◌, ◌-◌, ◌*◌, ◌≤◌, Bool, true, false, ◌&&◌, ◌||◌, eqb, List, length, slice_get, cond, Option, Some, None, IfSome, nat_lt}
 use Rattle.std.specs.Int.{bit_at, from_bool}
-use Rattle.sedre.specs.Tree.{Tree, byte_of, text_begin, text_end, sequence, either_of, grouped, any_copies, WrittenExpression, tree_at, null_string, one_or_none, size}
+use Rattle.sedre.specs.Tree.{Tree, byte_of, text_begin, text_end, sequence, either_of, grouped, any_copies, WrittenExpression, expression_tree, tree_at, null_string, one_or_none, size}
 use Rattle.sedre.specs.declared.types.Node.{Node}
+use Rattle.sedtext.specs.Beginnings.{AllBegin}
+use Rattle.sedtext.specs.Required.{IsRequired}
 use Rattle.sedpass.specs.Classes.{AreClasses}
 use Rattle.sedpass.specs.declared.nodes.Facts.{Facts}
+use Rattle.sedpass.specs.declared.nodes.Analysis.{Analysis}
 use Rattle.sedpass.specs.declared.nodes.PlaceKind.{PlaceKind}
 use Rattle.sedpass.specs.Walks.{has_group}
 use Rattle.sedpass.specs.declared.group_set.GroupSet.{GroupSet}
@@ -43,11 +46,6 @@ reported k = nat_lt 0 k && nat_lt k 10
 -- group k is in the set
 abbrev pub holds : GroupSet → ℕ → Bool
 holds groups k = nat_lt k 10 && eqb (bit_at groups.bits k) 1
-
--- What a contract sees of an expression that was copied into room made once: the expression, and how many nodes there is room for.
-pub record HeldExpression : Type 0 where
-  pub expr : WrittenExpression
-  pub room : ℕ
 
 -- the expression matches the null string at a place that is the text's beginning, or isn't, and its end, or isn't
 abbrev pub nullable : Bool → Bool → Tree → Bool
@@ -94,9 +92,10 @@ AreFacts nodes facts = (x : ℕ) (here : Facts) → slice_get facts x ≡ Some h
 abbrev pub IsShort : Option ℕ → Type 0
 IsShort long = IfSome long (λ n. n ≤ 65536)
 
--- what is known of an expression
-pub record IsPrepared (e : WrittenExpression) (root : ℕ) (shown : List Facts) (of : List ℕ) (columns : ℕ) : Type 0 where
-  pub last : root + 1 ≡ length e.nodes
-  pub all : length shown ≡ length e.nodes
-  pub facts : AreFacts e.nodes shown
-  pub classes : AreClasses e.nodes of columns
+-- what was found out of the expression is right
+pub record IsAnalysis (e : WrittenExpression) (f : Analysis) : Type 0 where
+  pub all : length f.facts.items ≡ length e.nodes
+  pub facts : AreFacts e.nodes f.facts.items
+  pub classes : AreClasses e.nodes f.classes.of f.classes.count
+  pub begins : AllBegin (expression_tree e) f.begins
+  pub required : IsRequired (expression_tree e) f.required

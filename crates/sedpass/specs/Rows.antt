@@ -1,6 +1,6 @@
 -- Private to the proofs: no contract that `sedmatch` makes public cites what is here.
 -- What a row shows of a place, how the marks at a place follow from what the leaves took, and when one row leads to another.
-use Rattle.std.specs.Prelude.{◌≡◌, ◌≢◌, ℕ, ◌+◌, ◌*◌, ◌≤◌, ◌<◌, ◌⊎◌, ◌↔◌, Bool, true, false, ◌&&◌, ◌||◌, List, length, slice_get, slice_index_or, Option, Some, IsTrue, nat_lt}
+use Rattle.std.specs.Prelude.{◌≡◌, ◌≢◌, ℕ, ◌+◌, ◌-◌, ◌*◌, ◌≤◌, ◌<◌, ◌⊎◌, ◌↔◌, Bool, true, false, ◌&&◌, ◌||◌, List, length, slice_get, slice_index_or, Option, Some, IsTrue, nat_lt}
 use Rattle.sedre.specs.Arena.{IsPart}
 use Rattle.sedre.specs.Tree.{WrittenExpression}
 use Rattle.sedre.specs.Mirror.{seen}
@@ -13,6 +13,10 @@ use Rattle.sedtext.specs.Words.{row_of}
 use Rattle.sedpass.specs.Regions.{EndsPastIn}
 use Rattle.sedpass.specs.declared.nodes.PlaceKind.{PlaceKind}
 use Rattle.sedpass.specs.declared.rows.Way.{Way}
+
+-- the last node, which is the whole expression
+abbrev pub root_of : WrittenExpression → ℕ
+root_of e = length e.nodes - 1
 
 -- the nodes that a pass of the way sees
 abbrev pub nodes_of : Way → WrittenExpression → List Node

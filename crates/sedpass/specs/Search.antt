@@ -1,14 +1,13 @@
 -- Private to the proofs: no contract that `sedmatch` makes public cites what is here.
 -- Searches in one text, from places that don't fall: what they find, and what they may cost.
 use Rattle.std.specs.Prelude.{ℕ, max, ◌+◌, ◌-◌, ◌*◌, ◌/◌, ◌<◌, ◌≤◌, if◌then◌else◌, List, length, Option, Some, None, IfSome, IsTrue}
-use Rattle.sedre.specs.Tree.{expression_tree, Tree}
+use Rattle.sedre.specs.Tree.{expression_tree, Tree, WrittenExpression}
 use Rattle.sedre.specs.Steps.{TakesAtLeast, CostsWithin}
 use Rattle.sedtext.specs.Answer.{SpanAnswer}
-use Rattle.sedtext.specs.Beginnings.{AllBegin, NoneIn}
+use Rattle.sedtext.specs.Beginnings.{NoneIn}
 use Rattle.sedtext.specs.Spans.{IsLeftmostLongest, NotFound}
 use Rattle.sedpass.specs.Table.{IsForwardOne, IsTable, SameShape}
 use Rattle.sedpass.specs.Kept.{IsKept, KeptRoom, SameSpace, owed_region}
-use Rattle.sedpass.specs.declared.nodes.Prepared.{Prepared}
 use Rattle.sedpass.specs.declared.table.Table.{Table}
 use Rattle.sedpass.specs.declared.kept.Kept.{Kept}
 use Rattle.sedpass.specs.declared.kept.Region.{Region}
@@ -17,30 +16,29 @@ use Rattle.sedpass.specs.declared.search.Trials.{Trials}
 use Rattle.sedpass.specs.declared.search.Trials.TheVariants.{Hit, Nothing, Tired}
 
 -- there is room for a pass from the text's end, and what is kept of it is right if it was begun
-pub record SearchServes (p : Prepared) (w : List ℕ) (reverse_any : Table) (s : Seeking) : Type 0 where
-  pub table : IsTable p reverse_any
-  pub room : KeptRoom (length p.arena.expr.nodes) (length w) reverse_any s.kept
+pub record SearchServes (e : WrittenExpression) (w : List ℕ) (reverse_any : Table) (s : Seeking) : Type 0 where
+  pub table : IsTable e reverse_any
+  pub room : KeptRoom (length e.nodes) (length w) reverse_any s.kept
   pub all_starts : IsTrue reverse_any.way.all_starts
-  pub kept : IsTrue s.begun → IsKept p w reverse_any s.kept
+  pub kept : IsTrue s.begun → IsKept e w reverse_any s.kept
 
--- a search may be made: it is right where matches can begin, the table of passes forwards is right, and what is kept serves
-pub record MaySearch (p : Prepared) (w : List ℕ) (a b : Table) (s : Seeking) : Type 0 where
-  pub begins : AllBegin (expression_tree p.arena.expr) p.begins
-  pub forward_one : IsForwardOne p a
-  pub serves : SearchServes p w b s
+-- a search may be made: the table of passes forwards is right, and what is kept serves
+pub record MaySearch (e : WrittenExpression) (w : List ℕ) (a b : Table) (s : Seeking) : Type 0 where
+  pub forward_one : IsForwardOne e a
+  pub serves : SearchServes e w b s
 
 -- from a and b, forward_one and reverse_any, the tables came to be a' and b', of the same shapes, the first is right, and there is as
 -- much room for what is kept
-pub record TablesStay (p : Prepared) (a a' b b' : Table) (k k' : Kept) : Type 0 where
-  pub forward_one : IsForwardOne p a'
+pub record TablesStay (e : WrittenExpression) (a a' b b' : Table) (k k' : Kept) : Type 0 where
+  pub forward_one : IsForwardOne e a'
   pub forward_one_shape : SameShape a a'
   pub reverse_any_shape : SameShape b b'
   pub space : SameSpace k k'
 
 -- a search was made, which leaves all as the next one in the text needs it
-pub record Searched (p : Prepared) (w : List ℕ) (a a' b b' : Table) (s s' : Seeking) : Type 0 where
-  pub tables : TablesStay p a a' b b' s.kept s'.kept
-  pub serves : SearchServes p w b' s'
+pub record Searched (e : WrittenExpression) (w : List ℕ) (a a' b b' : Table) (s s' : Seeking) : Type 0 where
+  pub tables : TablesStay e a a' b b' s.kept s'.kept
+  pub serves : SearchServes e w b' s'
 
 -- what trials from the place on found
 abbrev pub TrialsAnswer : Tree → List ℕ → ℕ → Trials → Type 0
@@ -59,9 +57,9 @@ LooksInTrials from before after (Tired k) = TakesAtLeast before after (k - from)
 LooksInTrials from before after Nothing = Unit {0}
 
 -- what is kept is right, and the answer is the match from the place on, up to whose end each byte was looked at
-pub record IsNextMatch (p : Prepared) (w : List ℕ) (from : ℕ) (reverse_any : Table) (k : Kept) (before after : ℕ) (r : Option (ℕ × ℕ)) : Type 0 where
-  pub kept : IsKept p w reverse_any k
-  pub answer : SpanAnswer (expression_tree p.arena.expr) w from r
+pub record IsNextMatch (e : WrittenExpression) (w : List ℕ) (from : ℕ) (reverse_any : Table) (k : Kept) (before after : ℕ) (r : Option (ℕ × ℕ)) : Type 0 where
+  pub kept : IsKept e w reverse_any k
+  pub answer : SpanAnswer (expression_tree e) w from r
   pub counts : LooksFrom from before after r
 
 -- Costs, with m nodes in a text of n bytes.

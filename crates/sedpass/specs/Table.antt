@@ -6,9 +6,9 @@ use Rattle.sedre.specs.Arena.{IsExpr}
 use Rattle.sedre.specs.declared.types.Node.{Node}
 use Rattle.sedtext.specs.Reach.{Starts}
 use Rattle.sedtext.specs.Words.{row_of}
-use Rattle.sedpass.specs.Rows.{nodes_of, at_begin, at_edge, bits, leaves_row, ends_row, RowOfPlace, RowLeadsTo, IsFirstRow}
+use Rattle.sedpass.specs.Rows.{nodes_of, at_begin, at_edge, bits, leaves_row, ends_row, RowOfPlace, RowLeadsTo, IsFirstRow, root_of}
 use Rattle.sedpass.specs.declared.nodes.PlaceKind.{PlaceKind}
-use Rattle.sedpass.specs.declared.nodes.Prepared.{Prepared}
+use Rattle.sedre.specs.Tree.{WrittenExpression}
 use Rattle.sedpass.specs.declared.rows.Act.{Act}
 use Rattle.sedpass.specs.declared.rows.Way.{Way}
 use Rattle.sedpass.specs.declared.cells.StateFlags.{StateFlags}
@@ -78,8 +78,8 @@ BeginsIn nodes way root kind a = (a.root ≡ root) × IsFirstRow nodes root way.
 pub record IsMade (act : Act) (byte : Option ℕ) (first : Bool) (leaves : ℕ → Bool) (a : PassState) : Type 0 where
   pub root : a.root ≡ act.root
   pub comes_next : at_begin act.way.mirrored act.kind ≡ false → (ended : ℕ → Bool) →
-      RowLeadsTo (nodes_of act.way act.prepared.now.arena.expr) act.root act.way.mirrored leaves ended byte (at_edge act.way.mirrored act.kind) first a.entered a.ended
-  pub begins : byte ≡ None → IsTrue first → BeginsIn (nodes_of act.way act.prepared.now.arena.expr) act.way act.root act.kind a
+      RowLeadsTo (nodes_of act.way act.prepared.now) act.root act.way.mirrored leaves ended byte (at_edge act.way.mirrored act.kind) first a.entered a.ended
+  pub begins : byte ≡ None → IsTrue first → BeginsIn (nodes_of act.way act.prepared.now) act.way act.root act.kind a
 
 -- Codes.
 
@@ -101,8 +101,8 @@ abbrev pub HasNewRow : ℕ → Table → ℕ → PassState → Type 0
 HasNewRow m t root = HasRow root (state_of m t t.count).entered (state_of m t t.count).ended
 
 -- the state comes after the one whose cells begin at the offset, and this byte, where the text's edge comes after it, or doesn't
-abbrev pub IsNext : Prepared → Table → (offset byte : ℕ) → Bool → PassState → Type 0
-IsNext p t offset byte edge = LeadsOn (nodes_of t.way p.arena.expr) t.way (state_of (length p.arena.expr.nodes) t (offset / 2 ^ t.layout.shift)) byte edge
+abbrev pub IsNext : WrittenExpression → Table → (offset byte : ℕ) → Bool → PassState → Type 0
+IsNext e t offset byte edge = LeadsOn (nodes_of t.way e) t.way (state_of (length e.nodes) t (offset / 2 ^ t.layout.shift)) byte edge
 
 -- Cells.
 
@@ -111,9 +111,9 @@ abbrev pub cell_of : Table → ℕ → ℕ → ℕ
 cell_of t q k = slice_index_or t.cells.items (q * 2 ^ t.layout.shift + k) 0
 
 -- each byte of the column leads from the state of number q to this one
-abbrev pub LeadsBy : Prepared → Table → ℕ → ℕ → PassState → Type 0
-LeadsBy p t q k b = (byte : ℕ) (edge : Bool) → byte < 256 → IsColumn t.layout byte edge k →
-    LeadsOn (nodes_of t.way p.arena.expr) t.way (state_of (length p.arena.expr.nodes) t q) byte edge b
+abbrev pub LeadsBy : WrittenExpression → Table → ℕ → ℕ → PassState → Type 0
+LeadsBy e t q k b = (byte : ℕ) (edge : Bool) → byte < 256 → IsColumn t.layout byte edge k →
+    LeadsOn (nodes_of t.way e) t.way (state_of (length e.nodes) t q) byte edge b
 
 -- Beginnings.
 
@@ -129,8 +129,8 @@ abbrev pub beginning_of : Table → ℕ → Beginning
 beginning_of t i = slice_index_or t.beginnings.items i (record { epoch = 0; code = 0 })
 
 -- passes for the node may begin: for any, but with all starts for the root of the expression alone
-abbrev pub MayBegin : Prepared → Way → ℕ → Type 0
-MayBegin p way root = (root < length p.arena.expr.nodes) × (IsTrue way.all_starts → root ≡ p.root)
+abbrev pub MayBegin : WrittenExpression → Way → ℕ → Type 0
+MayBegin e way root = (root < length e.nodes) × (IsTrue way.all_starts → root ≡ root_of e)
 
 -- Tables.
 
@@ -160,14 +160,14 @@ abbrev pub IsRoomy : ℕ → Table → Type 0
 IsRoomy m t = (layout : Layout) → layout.shift ≤ 8 → 2 ^ layout.shift ≤ 4 * (m + 1) → HasRoom m (record t { layout = layout; count = 0 })
 
 -- what a table says is right for the expression: of each state, each filled cell, and each beginning of this epoch
-pub record IsTable (p : Prepared) (t : Table) : Type 0 where
-  pub expr : IsExpr p.arena.expr.nodes p.arena.expr.groups
-  pub room : HasRoom (length p.arena.expr.nodes) t
-  pub layout : IsLayout p.arena.expr.nodes t.layout
-  pub roots : (q : ℕ) → q < t.count → (state_of (length p.arena.expr.nodes) t q).root < length p.arena.expr.nodes
-  pub filled : (q k : ℕ) → q < t.count → k < 2 * t.layout.columns → 0 < cell_of t q k → NamesState (length p.arena.expr.nodes) t (LeadsBy p t q k) (cell_of t q k)
-  pub begun : (root : ℕ) (kind : PlaceKind) → MayBegin p t.way root → (beginning_of t (beginning_at t.way.all_starts root kind)).epoch ≡ t.epoch →
-      NamesState (length p.arena.expr.nodes) t (BeginsIn (nodes_of t.way p.arena.expr) t.way root kind) (beginning_of t (beginning_at t.way.all_starts root kind)).code
+pub record IsTable (e : WrittenExpression) (t : Table) : Type 0 where
+  pub expr : IsExpr e.nodes e.groups
+  pub room : HasRoom (length e.nodes) t
+  pub layout : IsLayout e.nodes t.layout
+  pub roots : (q : ℕ) → q < t.count → (state_of (length e.nodes) t q).root < length e.nodes
+  pub filled : (q k : ℕ) → q < t.count → k < 2 * t.layout.columns → 0 < cell_of t q k → NamesState (length e.nodes) t (LeadsBy e t q k) (cell_of t q k)
+  pub begun : (root : ℕ) (kind : PlaceKind) → MayBegin e t.way root → (beginning_of t (beginning_at t.way.all_starts root kind)).epoch ≡ t.epoch →
+      NamesState (length e.nodes) t (BeginsIn (nodes_of t.way e) t.way root kind) (beginning_of t (beginning_at t.way.all_starts root kind)).code
 
 -- what never changes
 abbrev pub SameRoom : Table → Table → Type 0
@@ -178,8 +178,8 @@ abbrev pub SameShape : Table → Table → Type 0
 SameShape old new = (new.way ≡ old.way) × (new.room ≡ old.room) × (new.layout ≡ old.layout) × (new.marks ≡ old.marks) × (vec_capacity new.cells ≡ vec_capacity old.cells)
 
 -- a table of passes forwards, each from one start, which keeps the ends of the root alone
-pub record IsForwardOne (p : Prepared) (t : Table) : Type 0 where
-  pub table : IsTable p t
+pub record IsForwardOne (e : WrittenExpression) (t : Table) : Type 0 where
+  pub table : IsTable e t
   pub forwards : t.way.mirrored ≡ false
   pub single : t.way.all_starts ≡ false
 
@@ -192,7 +192,7 @@ pub record AddsStates (m : ℕ) (old new : Table) : Type 0 where
   pub forgot : (new.epoch ≡ old.epoch → ⊥) → new.count ≤ 1
 
 -- the new table is right, a state was added at most, and the number is the code of a state of which P is true
-pub record Codes (p : Prepared) (old new : Table) (P : PassState → Type 0) (v : ℕ) : Type 0 where
-  pub table : IsTable p new
-  pub adds : AddsStates (length p.arena.expr.nodes) old new
-  pub names : NamesState (length p.arena.expr.nodes) new P v
+pub record Codes (e : WrittenExpression) (old new : Table) (P : PassState → Type 0) (v : ℕ) : Type 0 where
+  pub table : IsTable e new
+  pub adds : AddsStates (length e.nodes) old new
+  pub names : NamesState (length e.nodes) new P v

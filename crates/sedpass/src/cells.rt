@@ -69,12 +69,12 @@ pub fn is_plain(code: u32) -> bool
 impl Layout {
     /// The cells of a state for an expression: few for each node, so that a new state costs little.
     pub fn new(prepared: &Prepared) -> Layout
-        ensures { IsLayout prepared.now.arena.expr.nodes result }
+        ensures { IsLayout prepared.now.nodes result }
     {
-        let classes = prepared.classes.count.min(prepared.nodes() + 1);
+        let classes = prepared.classes().count.min(prepared.nodes() + 1);
         let columns = classes.min(MOST_CELLS / 2);
         Layout {
-            classes: prepared.classes.of,
+            classes: prepared.classes().of,
             columns: columns as u16,
             // the least such power that is no smaller than the cells
             shift: (2 * columns - 1).ilog2() + 1,

@@ -45,11 +45,11 @@ impl Table {
         end: Option<usize>,
     ) -> Passed
         requires table { IsTable prepared.now self.now }
-        requires code { NamesState (length prepared.now.arena.expr.nodes) self.now (λ a. Unit {0}) code }
+        requires code { NamesState (length prepared.now.nodes) self.now (λ a. Unit {0}) code }
         ensures place { result.place ≡ place }
         ensures offset { IsOffset self.now result.offset }
         ensures passes { (start : ℕ) → start ≤ place → place ≤ length text.now →
-            NamesState (length prepared.now.arena.expr.nodes) self.now (Arrives prepared.now self.now.way text.now start place) code →
+            NamesState (length prepared.now.nodes) self.now (Arrives prepared.now self.now.way text.now start place) code →
             EndsBelow prepared.now self.now.way text.now start place end →
             PassIs prepared.now self.now text.now start result }
     {
@@ -119,16 +119,17 @@ impl Table {
         ensures after { at ≤ result.place }
         ensures within { result.place ≤ length text.now }
         ensures reached { IfSome result.end (λ j. j ≤ result.place) }
-        ensures longest { self.old.way.all_starts ≡ false → IsLongestFrom (expression_tree prepared.now.arena.expr) text.now at result.end }
-        ensures found { IsTrue self.old.way.all_starts → IsTrue (is_some result.end) ↔ SomeFound (expression_tree prepared.now.arena.expr) text.now at }
-        ensures passes { IfSome result.end (λ j. LooksPast (expression_tree prepared.now.arena.expr) text.now at steps.old steps.new) }
-        ensures cost { CostsWithin steps.old steps.new (40 * length prepared.now.arena.expr.nodes * (result.place + 1)) (40 * length prepared.now.arena.expr.nodes * at) }
+        ensures longest { self.old.way.all_starts ≡ false → IsLongestFrom (expression_tree prepared.now) text.now at result.end }
+        ensures found { IsTrue self.old.way.all_starts → IsTrue (is_some result.end) ↔ SomeFound (expression_tree prepared.now) text.now at }
+        ensures passes { IfSome result.end (λ j. LooksPast (expression_tree prepared.now) text.now at steps.old steps.new) }
+        ensures cost { CostsWithin steps.old steps.new (40 * length prepared.now.nodes * (result.place + 1)) (40 * length prepared.now.nodes * at) }
         ensures counts { TakesAtLeast steps.old steps.new (2 * (result.place - at) + 1) }
     {
         let kind = kind_of(at, text.len());
-        let code = self.first(prepared, prepared.root, kind, steps);
+        let code = self.first(prepared, prepared.root(), kind, steps);
         let mut here = self.arrive(prepared, text, code, at, None);
-        while !here.over && here.place < text.len() {
+        // `&`: a loop with one end takes half the proof.
+        while !here.over & (here.place < text.len()) {
             let last = text.len() - 1;
             here = self.follow(prepared, text, here, last, steps);
             if !here.over {

@@ -11,10 +11,9 @@ ghost use Rattle.sedre.specs.declared.types.Node.TheVariants.{Seq, Star};
 ghost use Rattle.sedtext.specs.Caps.{LastCut, IsReport};
 ghost use Rattle.sedtext.specs.Places.{Ascending};
 ghost use Rattle.sedtext.specs.Reach.{HasSpan};
-ghost use Rattle.sedpass.specs.Decide.{spans_in, known_groups, HasBlank, IsAtEnd, IsCopyFrom, NodeTurned, Works, part_cost, HasNoKnownLength, IsSetAt, HasDesk, AreTables, AreRoomy, IsTaskReady, HasSpace, SameRooms, KeepsGroupDesk, KeepsGroupRoom, nodes_in, subject_text, weights};
+ghost use Rattle.sedpass.specs.Decide.{spans_in, known_groups, HasBlank, IsAtEnd, IsCopyFrom, NodeTurned, Works, part_cost, HasNoKnownLength, HasDesk, AreTables, AreRoomy, IsTaskReady, HasSpace, SameRooms, KeepsGroupDesk, KeepsGroupRoom, nodes_in, subject_text, weights};
 ghost use Rattle.sedpass.specs.Kept.{SameKept};
-ghost use Rattle.sedpass.specs.Prepared.{IsFacts};
-ghost use Rattle.sedpass.specs.Regions.{IsRunOf};
+ghost use Rattle.sedpass.specs.Rows.{root_of};
 ghost use Rattle.sedpass.specs.Walks.{EntersGroups};
 ghost use Rattle.sedpass.specs.declared.groups.GroupTask.TheVariants.{Apart};
 
@@ -67,6 +66,8 @@ pub struct Tables {
     pub forward_any: Table,
     /// Forwards from one start.
     pub forward_one: Table,
+    /// The same, for parts of an expression while groups are decided, so that no state of a search goes for theirs.
+    pub forward_part: Table,
     /// Backwards from a region's end, the states of its places kept.
     pub reverse_one: Table,
 }
@@ -121,18 +122,20 @@ impl Tables {
         Ok(Tables {
             forward_any: Table::with_room(alloc, FORWARD_ANY, room, nodes)?,
             forward_one: Table::with_room(alloc, FORWARD_ONE, room, nodes)?,
+            forward_part: Table::with_room(alloc, FORWARD_ONE, room, nodes)?,
             reverse_one: Table::with_room(alloc, REVERSE_ONE, room, nodes)?,
         })
     }
 
     /// Begins to serve an expression, and forgets what was of another one.
     pub fn fit(&mut self, prepared: &Prepared)
-        requires roomy { AreRoomy (length prepared.now.arena.expr.nodes) self.old }
+        requires roomy { AreRoomy (length prepared.now.nodes) self.old }
         ensures tables { AreTables prepared.now self.new }
         ensures room { SameRooms self.old self.new }
     {
         self.forward_any.fit(prepared);
         self.forward_one.fit(prepared);
+        self.forward_part.fit(prepared);
         self.reverse_one.fit(prepared);
     }
 }
@@ -157,16 +160,6 @@ impl GroupRoom {
     }
 }
 
-/// What is known of a node.
-fn facts_at(prepared: &Prepared, x: usize) -> Facts
-    requires { x < length prepared.now.arena.expr.nodes }
-    ensures facts { IsFacts (tree_at prepared.now.arena.expr.nodes x) x result }
-    ensures run { IfSome result.run (λ c. IsRunOf prepared.now.arena.expr.nodes c x × IsSetAt prepared.now.arena.expr.nodes c) }
-{
-    prepared.arena.is_expression();
-    prepared.facts[x]
-}
-
 /// Where the last copy of a repetition begins, if it takes one.
 fn last_copy(
     subject: Subject,
@@ -189,15 +182,15 @@ fn last_copy(
         let copy = first && subject.is_null(part, here.start, steps);
         return copy.then_some(here.start);
     }
-    if let Some(length) = facts_at(subject.prepared, part).length {
+    if let Some(length) = subject.prepared.facts(part).length {
         return Some(here.stop - length);
     }
     let mut copy = here.start;
     let mut end = here.start;
     'copies: while end < here.stop {
         copy = end;
-        let (reverse_one, forward_one) = (&mut tables.reverse_one, &mut tables.forward_one);
-        end = kept.cut(subject, reverse_one, forward_one, part, copy, steps);
+        let (reverse_one, forward_part) = (&mut tables.reverse_one, &mut tables.forward_part);
+        end = kept.cut(subject, reverse_one, forward_part, part, copy, steps);
     }
     Some(copy)
 }
@@ -223,19 +216,19 @@ fn last_cut(
         return here.start;
     }
     let left = a.index();
-    let known = facts_at(subject.prepared, left);
+    let known = subject.prepared.facts(left);
     // the length of a part decides it, if it is known
     if let Some(length) = known.length {
         return subject.text.after(here.start, length);
     }
-    if let Some(length) = facts_at(subject.prepared, b.index()).length {
+    if let Some(length) = subject.prepared.facts(b.index()).length {
         return here.stop - length;
     }
-    let (reverse_one, forward_one) = (&mut tables.reverse_one, &mut tables.forward_one);
+    let (reverse_one, forward_part) = (&mut tables.reverse_one, &mut tables.forward_part);
     if let Some(leaf) = known.run {
         return kept.seek(subject, reverse_one, leaf, here.start, false, steps);
     }
-    kept.cut(subject, reverse_one, forward_one, left, here.start, steps)
+    kept.cut(subject, reverse_one, forward_part, left, here.start, steps)
 }
 
 /// What comes in place of a node of this kind.
@@ -321,11 +314,11 @@ fn spine(
         .begin(subject, &tables.reverse_one, here.node, here.stop);
     let mut at = here;
     'nodes: loop {
-        let groups = facts_at(subject.prepared, at.node).groups;
+        let groups = subject.prepared.facts(at.node).groups;
         if !groups.meets(decided.due) {
             return;
         }
-        let node = subject.prepared.arena.look(at.node, false, steps);
+        let node = subject.prepared.look(at.node, false, steps);
         let kept = &mut room.kept;
         match turn_node(subject, tables, kept, decided, at, &node, steps) {
             Then::Done => return,
@@ -348,20 +341,19 @@ pub fn decide(
     steps: &mut Steps,
 ) -> GroupSpans
     requires order { Ascending start stop (length (subject_text subject)) }
-    requires spans { HasSpan (nodes_in subject) (subject_text subject) subject.prepared.now.root start stop }
+    requires spans { HasSpan (nodes_in subject) (subject_text subject) (root_of subject.prepared.now) start stop }
     requires tasks { room.old.tasks.items ≡ [] }
     requires room { 2 * length (nodes_in subject) ≤ vec_capacity room.old.tasks }
     requires desk { HasDesk subject tables.old room.old.kept }
-    ensures report { IsReport (expression_tree subject.entry.prepared.now.arena.expr) (subject_text subject.entry) start stop result }
+    ensures report { IsReport (expression_tree subject.entry.prepared.now) (subject_text subject.entry) start stop result }
     ensures tasks { room.new.tasks.items ≡ [] }
     ensures room { KeepsGroupRoom subject.entry tables.old tables.new room.old room.new }
     ensures cost { let m = length (nodes_in subject.entry) in Takes steps.old steps.new (172 * m * (m - 1) * (stop - start) + 2 * m) }
     ensures counts { TakesAtLeast steps.old steps.new (spans_in result - 1) }
-    ensures entered { EntersGroups (expression_tree subject.entry.prepared.now.arena.expr) (subject_text subject.entry) start stop steps.old steps.new }
+    ensures entered { EntersGroups (expression_tree subject.entry.prepared.now) (subject_text subject.entry) start stop steps.old steps.new }
 {
-    subject.prepared.arena.is_expression();
-    let node = subject.prepared.root;
-    let due = facts_at(subject.prepared, node).groups;
+    let node = subject.prepared.root();
+    let due = subject.prepared.facts(node).groups;
     let mut spans = [None; 10];
     spans[0] = Some((start, stop));
     let mut decided = Decided { due, spans };
@@ -370,7 +362,7 @@ pub fn decide(
     'all: while let Some(task) = room.tasks.pop() {
         match task {
             GroupTask::Forget(x) => {
-                decided.due = decided.due.without(facts_at(subject.prepared, x).groups);
+                decided.due = decided.due.without(subject.prepared.facts(x).groups);
             }
             GroupTask::Apart(here) => spine(subject, tables, room, &mut decided, here, steps),
         }

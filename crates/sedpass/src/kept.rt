@@ -24,7 +24,7 @@ use std::alloc::{AllocError, Global};
 #[derive(Clone, Copy)]
 pub struct Subject<'a> {
     /// The expression.
-    pub prepared: &'a Prepared,
+    pub prepared: &'a Prepared<'a>,
     /// The text.
     pub text: &'a Text<'a>,
 }
@@ -32,8 +32,8 @@ pub struct Subject<'a> {
 impl<'a> Subject<'a> {
     /// Whether a node matches the null string at a place. Counts one look.
     pub fn is_null(self, x: usize, place: usize, steps: &mut Steps) -> bool
-        requires inside { x < length self.prepared.now.arena.expr.nodes }
-        ensures null { IsTrue result ↔ HasSpan self.entry.prepared.now.arena.expr.nodes self.entry.text.now x place place }
+        requires inside { x < length self.prepared.now.nodes }
+        ensures null { IsTrue result ↔ HasSpan self.entry.prepared.now.nodes self.entry.text.now x place place }
         ensures cost { TakesExactly steps.old steps.new 1 }
     {
         let kind = kind_of(place, self.text.len());
@@ -89,7 +89,7 @@ impl Kept {
     /// Begins a region, of which nothing is kept yet.
     pub fn begin(&mut self, subject: Subject, table: &Table, root: usize, end: usize)
         requires table { IsTable subject.prepared.now table.now }
-        requires room { KeptRoom (length subject.prepared.now.arena.expr.nodes) (length subject.text.now) table.now self.old }
+        requires room { KeptRoom (length subject.prepared.now.nodes) (length subject.text.now) table.now self.old }
         requires root { MayBegin subject.prepared.now table.now.way root }
         requires whole { IsTrue table.now.way.all_starts → end ≡ length subject.text.now }
         requires end { end ≤ length subject.text.now }
@@ -97,8 +97,8 @@ impl Kept {
         ensures root { self.new.region.root ≡ root }
         ensures end { self.new.region.end ≡ end }
         ensures space { SameSpace self.old self.new }
-        ensures owed { (i : ℕ) → i ≤ end → owed_region (length subject.entry.prepared.now.arena.expr.nodes) self.new.region i
-            ≤ 100 * length subject.entry.prepared.now.arena.expr.nodes * (end - i) }
+        ensures owed { (i : ℕ) → i ≤ end → owed_region (length subject.entry.prepared.now.nodes) self.new.region i
+            ≤ 100 * length subject.entry.prepared.now.nodes * (end - i) }
     {
         let length = subject.text.len();
         let states = &mut self.states;
@@ -129,7 +129,7 @@ impl Kept {
         ensures down { ComesDown subject.entry.prepared.now subject.entry.text.now table.old table.new self.old self.new low result }
         ensures to { low < self.new.region.to }
         ensures steady { table.old.count + (high - low) ≤ table.old.room → self.new.region.to ≡ self.old.region.to }
-        ensures cost { CostsWithin steps.old steps.new (35 * length subject.entry.prepared.now.arena.expr.nodes * high) (35 * length subject.entry.prepared.now.arena.expr.nodes * low) }
+        ensures cost { CostsWithin steps.old steps.new (35 * length subject.entry.prepared.now.nodes * high) (35 * length subject.entry.prepared.now.nodes * low) }
         ensures counts { TakesAtLeast steps.old steps.new (2 * (high - low)) }
     {
         let mut offset = offset;
@@ -163,12 +163,12 @@ impl Kept {
         requires edge { place < self.now.region.end → (place ≡ block * (table.old.room - 1) + (table.old.room - 1)) ×
             IsEdge subject.prepared.now subject.text.now table.old.way.all_starts self.now.region.root self.now.region.end self.now.edges (table.old.room - 1) block }
         ensures table { IsTable subject.entry.prepared.now table.new }
-        ensures adds { AddsStates (length subject.entry.prepared.now.arena.expr.nodes) table.old table.new }
+        ensures adds { AddsStates (length subject.entry.prepared.now.nodes) table.old table.new }
         ensures there { IsOffset table.new result }
         ensures at { KeptAt subject.entry.prepared.now subject.entry.text.now table.new.way.all_starts self.now.region.root self.now.region.end place
-            (state_of (length subject.entry.prepared.now.arena.expr.nodes) table.new (result / 2 ^ table.new.layout.shift)) }
-        ensures cost { Takes steps.old steps.new (33 * length subject.entry.prepared.now.arena.expr.nodes) }
-        ensures inside { place < self.now.region.end → Takes steps.old steps.new (20 * length subject.entry.prepared.now.arena.expr.nodes) }
+            (state_of (length subject.entry.prepared.now.nodes) table.new (result / 2 ^ table.new.layout.shift)) }
+        ensures cost { Takes steps.old steps.new (33 * length subject.entry.prepared.now.nodes) }
+        ensures inside { place < self.now.region.end → Takes steps.old steps.new (20 * length subject.entry.prepared.now.nodes) }
         ensures counts { TakesAtLeast steps.old steps.new 1 }
     {
         let (prepared, root) = (subject.prepared, self.region.root);
@@ -197,7 +197,7 @@ impl Kept {
         ensures low { self.new.region.low ≡ low }
         ensures from { self.new.region.from ≡ low }
         ensures to { low < self.new.region.to }
-        ensures cost { let m = length subject.entry.prepared.now.arena.expr.nodes in
+        ensures cost { let m = length subject.entry.prepared.now.nodes in
             Takes steps.old steps.new (33 * m + 39 * m * (self.old.region.end - low)) }
         ensures counts { TakesAtLeast steps.old steps.new (2 * (self.old.region.end - low)) }
     {
@@ -233,7 +233,7 @@ impl Kept {
         ensures low { self.new.region.low ≡ self.old.region.low }
         ensures from { self.new.region.from ≡ place }
         ensures to { self.new.region.to ≡ min self.old.region.end (place / (table.old.room - 1) * (table.old.room - 1) + (table.old.room - 1)) }
-        ensures cost { let m = length subject.entry.prepared.now.arena.expr.nodes in
+        ensures cost { let m = length subject.entry.prepared.now.nodes in
             CostsWithin steps.old steps.new (again m (self.old.region.end - place)) (again m (self.old.region.end - self.new.region.to)) }
         ensures counts { TakesAtLeast steps.old steps.new (2 * (self.new.region.to - place)) }
     {
@@ -255,7 +255,7 @@ impl Kept {
         ensures keeps { KeepsRegion subject.entry.prepared.now subject.entry.text.now table.old table.new self.old self.new }
         ensures from { self.new.region.from ≤ at }
         ensures to { (result ≡ self.new.region.to) × (at < result) }
-        ensures cost { let m = length subject.entry.prepared.now.arena.expr.nodes in
+        ensures cost { let m = length subject.entry.prepared.now.nodes in
             CostsWithin steps.old steps.new (owed_region m self.old.region at) (owed_region m self.new.region at) }
     {
         if at < self.region.low {
@@ -277,11 +277,11 @@ impl Kept {
     ) -> bool
         requires kept { IsKept subject.prepared.now subject.text.now table.old self.old }
         requires all_starts { table.old.way.all_starts ≡ false }
-        requires last { IsLastIn subject.prepared.now.arena.expr.nodes self.old.region.root x }
+        requires last { IsLastIn subject.prepared.now.nodes self.old.region.root x }
         requires place { place ≤ self.old.region.end }
         ensures keeps { KeepsRegion subject.entry.prepared.now subject.entry.text.now table.old table.new self.old self.new }
-        ensures spans { IsTrue result ↔ HasSpan subject.entry.prepared.now.arena.expr.nodes subject.entry.text.now x place self.old.region.end }
-        ensures cost { let m = length subject.entry.prepared.now.arena.expr.nodes in
+        ensures spans { IsTrue result ↔ HasSpan subject.entry.prepared.now.nodes subject.entry.text.now x place self.old.region.end }
+        ensures cost { let m = length subject.entry.prepared.now.nodes in
             CostsWithin steps.old steps.new (owed_region m self.old.region place + 1) (owed_region m self.new.region place) }
         ensures counts { TakesAtLeast steps.old steps.new 1 }
     {
@@ -305,15 +305,15 @@ impl Kept {
         steps: &mut Steps,
     ) -> usize
         requires kept { IsKept subject.prepared.now subject.text.now table.old self.old }
-        requires x { x < length subject.prepared.now.arena.expr.nodes }
+        requires x { x < length subject.prepared.now.nodes }
         requires from { from ≤ self.old.region.end }
         ensures keeps { KeepsRegion subject.entry.prepared.now subject.entry.text.now table.old table.new self.old self.new }
         ensures order { Ascending from result self.old.region.end }
-        ensures passed { AllMarked subject.entry.prepared.now.arena.expr.nodes subject.entry.text.now self.old.region.root
+        ensures passed { AllMarked subject.entry.prepared.now.nodes subject.entry.text.now self.old.region.root
             (ends_shown table.old.way.all_starts self.old.region.end) x (not marked) from result }
-        ensures found { result < self.old.region.end → IsTrue marked ↔ ReachesEnd subject.entry.prepared.now.arena.expr.nodes subject.entry.text.now self.old.region.root
+        ensures found { result < self.old.region.end → IsTrue marked ↔ ReachesEnd subject.entry.prepared.now.nodes subject.entry.text.now self.old.region.root
             (ends_shown table.old.way.all_starts self.old.region.end) x result }
-        ensures cost { let m = length subject.entry.prepared.now.arena.expr.nodes in
+        ensures cost { let m = length subject.entry.prepared.now.nodes in
             CostsWithin steps.old steps.new (owed_region m self.old.region from + 2 * result + 2) (owed_region m self.new.region result + 2 * from) }
         ensures counts { TakesAtLeast steps.old steps.new (result - from) }
     {
@@ -340,13 +340,13 @@ impl Kept {
         steps: &mut Steps,
     ) -> usize
         requires kept { IsKept subject.prepared.now subject.text.now table.now self.now }
-        requires x { x < length subject.prepared.now.arena.expr.nodes }
+        requires x { x < length subject.prepared.now.nodes }
         requires from { self.now.region.from ≤ from }
         requires to { from < self.now.region.to }
         ensures order { Ascending from result self.now.region.to }
-        ensures passed { AllMarked subject.entry.prepared.now.arena.expr.nodes subject.entry.text.now self.now.region.root
+        ensures passed { AllMarked subject.entry.prepared.now.nodes subject.entry.text.now self.now.region.root
             (ends_shown table.now.way.all_starts self.now.region.end) x (not marked) from result }
-        ensures found { result < self.now.region.to → IsTrue marked ↔ ReachesEnd subject.entry.prepared.now.arena.expr.nodes subject.entry.text.now self.now.region.root
+        ensures found { result < self.now.region.to → IsTrue marked ↔ ReachesEnd subject.entry.prepared.now.nodes subject.entry.text.now self.now.region.root
             (ends_shown table.now.way.all_starts self.now.region.end) x result }
         ensures cost { CostsWithin steps.old steps.new (result + 1) from }
         ensures counts { TakesAtLeast steps.old steps.new (result - from) }
@@ -379,9 +379,9 @@ impl Kept {
         ensures forward_one { IsForwardOne subject.entry.prepared.now forward_one.new }
         ensures shape { SameShape forward_one.old forward_one.new }
         ensures within { result ≤ self.old.region.end }
-        ensures ceases { CeasesAt subject.entry.prepared.now.arena.expr.nodes subject.entry.text.now self.old.region.root
+        ensures ceases { CeasesAt subject.entry.prepared.now.nodes subject.entry.text.now self.old.region.root
             (ends_shown table.old.way.all_starts self.old.region.end) a from result }
-        ensures cost { let m = length subject.entry.prepared.now.arena.expr.nodes in
+        ensures cost { let m = length subject.entry.prepared.now.nodes in
             CostsWithin steps.old steps.new (owed_region m self.old.region from + 36 * m * (result + 1)) (owed_region m self.new.region result + 36 * m * from) }
         ensures counts { TakesAtLeast steps.old steps.new (2 * (result - from) + 1) }
     {
@@ -424,10 +424,10 @@ impl Kept {
         ensures meets { (a i : ℕ) → a ≤ self.now.region.root → i ≤ from → Follows subject.entry.prepared.now subject.entry.text.now forward_one.old a i from offset →
             Follows subject.entry.prepared.now subject.entry.text.now forward_one.new a i result.0 result.1
             × Meet subject.entry.prepared.now subject.entry.text.now table.now self.now a i from result.0
-            × (result.0 < self.now.region.to → MeetsAt subject.entry.prepared.now.arena.expr.nodes subject.entry.text.now self.now.region.root
+            × (result.0 < self.now.region.to → MeetsAt subject.entry.prepared.now.nodes subject.entry.text.now self.now.region.root
             (ends_shown table.now.way.all_starts self.now.region.end) a (one_start i) result.0 → ⊥) }
-        ensures cost { let m = length subject.entry.prepared.now.arena.expr.nodes in CostsWithin steps.old steps.new (36 * m * result.0 + m) (36 * m * from) }
-        ensures whole { let m = length subject.entry.prepared.now.arena.expr.nodes in result.0 ≡ self.now.region.to → CostsWithin steps.old steps.new (36 * m * result.0) (36 * m * from) }
+        ensures cost { let m = length subject.entry.prepared.now.nodes in CostsWithin steps.old steps.new (36 * m * result.0 + m) (36 * m * from) }
+        ensures whole { let m = length subject.entry.prepared.now.nodes in result.0 ≡ self.now.region.to → CostsWithin steps.old steps.new (36 * m * result.0) (36 * m * from) }
         ensures counts { TakesAtLeast steps.old steps.new (2 * (result.0 - from)) }
     {
         let length = subject.text.len();

@@ -1,14 +1,17 @@
 //! An expression made ready for passes: what is found out of each node once, and the classes of bytes.
-ghost use Rattle.std.specs.Prelude.{◌≡◌, ℕ, List, Bool, false, cond, ◌+◌, ◌<◌, ◌≤◌, ◌↔◌, length, vec_capacity, Some, None, slice_get, IfOk, IsTrue};
-ghost use Rattle.std.proofs.Props.{props};
+ghost use Rattle.std.specs.Prelude.{◌≡◌, ℕ, List, Bool, false, cond, ◌+◌, ◌<◌, ◌≤◌, ◌↔◌, length, vec_capacity, Some, None, slice_get, IfOk, IfSome, IsTrue};
 ghost use Rattle.sedre.specs.Arena.{IsArena, IsExpr};
 ghost use Rattle.sedre.specs.declared.types.Node.{Node};
-ghost use Rattle.sedre.specs.Tree.{tree_at, tree_of, Tree, any_copies, one_or_none, size};
+ghost use Rattle.sedre.specs.Tree.{expression_tree, tree_at, tree_of, Tree, any_copies, one_or_none, size};
 ghost use Rattle.sedre.specs.Mirror.{node_seen, seen};
 ghost use Rattle.sedre.specs.Packed.{PartsBelow};
 ghost use Rattle.sedre.specs.Steps.{Takes, TakesExactly, TakesAtLeast};
-ghost use Rattle.sedpass.specs.Prepared.{IsPrepared, holds, IsFacts, AreFacts, IsShort, is_one_set, null_at, null_in, sum_of, same_of};
-ghost use Rattle.sedpass.specs.Rows.{IsNodeRange};
+ghost use Rattle.sedtext.specs.Beginnings.{AllBegin};
+ghost use Rattle.sedtext.specs.Required.{IsRequired};
+ghost use Rattle.sedpass.specs.Classes.{AreClasses};
+ghost use Rattle.sedpass.specs.Prepared.{IsAnalysis, holds, IsFacts, AreFacts, IsShort, is_one_set, null_at, null_in, sum_of, same_of};
+ghost use Rattle.sedpass.specs.Regions.{IsRunOf, IsSetAt};
+ghost use Rattle.sedpass.specs.Rows.{IsNodeRange, root_of};
 
 use crate::classes::{Classes, classes_of};
 use crate::group_set::GroupSet;
@@ -173,25 +176,6 @@ pub fn facts_of(node: &Node, facts: &Vec<Facts>) -> Facts
     }
 }
 
-/// The nodes of an expression.
-#[derive(Drop)]
-pub struct Arena {
-    nodes: Vec<Node>,
-    groups: usize,
-}
-
-impl Model for Arena {
-    ghost use Rattle.std.specs.Prelude.{vec_capacity};
-    ghost use Rattle.sedre.specs.Arena.{IsArena, IsExpr};
-    ghost use Rattle.sedpass.specs.Prepared.{HeldExpression};
-
-    ghost Value = { HeldExpression };
-
-    ghost view = { λ a. record { expr = record { nodes = a.nodes.items; groups = a.groups }; room = vec_capacity a.nodes } };
-
-    ghost invariant = { λ a. IsExpr a.nodes.items a.groups };
-}
-
 /// A node, mirrored or as it is.
 fn node_seen(node: Node, mirrored: bool) -> Node
     ensures { result ≡ node_seen mirrored node }
@@ -207,65 +191,9 @@ fn node_seen(node: Node, mirrored: bool) -> Node
     }
 }
 
-/// Copies the nodes of an expression, and finds out the facts of each. Counts a look for each.
-fn copy_nodes(expr: &Expr, nodes: &mut Vec<Node>, facts: &mut Vec<Facts>, steps: &mut Steps)
-    requires expr { IsExpr expr.now.nodes expr.now.groups }
-    requires nodes { length expr.now.nodes ≤ vec_capacity nodes.old }
-    requires facts { length expr.now.nodes ≤ vec_capacity facts.old }
-    ensures copied { nodes.new.items ≡ expr.now.nodes }
-    ensures all { length facts.new.items ≡ length expr.now.nodes }
-    ensures facts { AreFacts expr.now.nodes facts.new.items }
-    ensures nodes_room { vec_capacity nodes.new ≡ vec_capacity nodes.old }
-    ensures facts_room { vec_capacity facts.new ≡ vec_capacity facts.old }
-    ensures cost { Takes steps.old steps.new (length expr.now.nodes) }
-    ensures counts { TakesAtLeast steps.old steps.new (length expr.now.nodes) }
-{
-    nodes.clear();
-    facts.clear();
-    for x in 0..expr.nodes() {
-        let node = expr.look(expr.id(x), steps);
-        let next = facts_of(&node, facts);
-        nodes.push_reserved(node);
-        facts.push_reserved(next);
-    }
-}
-
-impl Arena {
-    /// The node of an index, as it is or mirrored. Counts one look.
-    pub fn look(&self, x: usize, mirrored: bool, steps: &mut Steps) -> Node
-        requires inside { x < length self.now.expr.nodes }
-        ensures node { slice_get (seen mirrored self.now.expr).nodes x ≡ Some result }
-        ensures cost { TakesExactly steps.old steps.new 1 }
-        ensures parts { PartsBelow x result }
-        ensures arena { IsArena (seen mirrored self.now.expr).nodes }
-        ensures few { length self.now.expr.nodes ≤ 65536 }
-    {
-        steps.add(1);
-        node_seen(self.nodes[x], mirrored)
-    }
-
-    /// For proofs: the nodes are those of an expression.
-    pub fn is_expression(&self)
-        ensures { IsExpr self.now.expr.nodes self.now.expr.groups }
-    {
-        let _groups = self.groups;
-    }
-
-    /// How many groups there are.
-    pub fn groups(&self) -> usize
-        ensures { result ≡ self.now.expr.groups }
-    {
-        self.groups
-    }
-}
-
-/// An expression made ready for passes.
+/// What is found out once of an expression, in room made once.
 #[derive(Drop)]
-pub struct Prepared {
-    /// The nodes of the expression.
-    pub arena: Arena,
-    /// Its last node, the whole of it.
-    pub root: usize,
+pub struct Analysis {
     /// What is known of each node.
     pub facts: Vec<Facts>,
     /// Classes of bytes: those of one class are in the same sets.
@@ -274,86 +202,159 @@ pub struct Prepared {
     pub begins: Begins,
     /// A literal that they contain, where one is known.
     pub required: Option<RequiredLiteral>,
-    pub ghost is_prepared: { IsPrepared arena.expr root facts.items classes.of classes.count } by { Prim.hlevel props },
 }
 
-impl Prepared {
-    /// Room for expressions of at most `nodes` nodes, from 1 to 65,536. Until one is made ready in it, it is the expression that
-    /// matches the null string. Fails only where a request for memory was refused.
-    pub fn with_room(alloc: Global, nodes: usize) -> Result<Prepared, AllocError>
-        requires some { 1 ≤ nodes }
-        ensures nodes { IfOk result (λ p. nodes ≤ p.arena.room) }
-        ensures facts { IfOk result (λ p. nodes ≤ vec_capacity p.facts) }
+impl Analysis {
+    /// Room for what is found out of an expression of at most `nodes` nodes. Fails only where a request for memory was refused.
+    pub fn with_room(alloc: Global, nodes: usize) -> Result<Analysis, AllocError>
+        ensures { IfOk result (λ f. nodes ≤ vec_capacity f.facts) }
     {
-        let mut facts = Vec::with_capacity(alloc, nodes)?;
-        let mut nodes = Vec::with_capacity(alloc, nodes)?;
-        facts.push_reserved(of_leaf(0, EVERYWHERE, 0));
-        nodes.push_reserved(Node::Empty);
-        Ok(Prepared {
-            arena: Arena { nodes, groups: 0 },
-            root: 0,
-            facts,
+        Ok(Analysis {
+            facts: Vec::with_capacity(alloc, nodes)?,
             classes: classes_of(&[]),
             begins: Begins::Anyhow,
             required: None,
         })
     }
 
-    /// Makes an expression ready, in the room that there is. Of how its matches begin and what they contain nothing is known then.
+    /// Finds out what passes need, by a look at each node. Of how matches begin and what they contain nothing is known then.
+    #[tactic(auto, using(sedtext::proofs::NodeLemmas::parts_below), unfolding(sedre::specs::Steps::TakesAtLeast, sedre::specs::Steps::IsCounted))]
     pub fn fit(&mut self, expr: &Expr, steps: &mut Steps)
-        requires nodes { length expr.now.nodes ≤ self.old.arena.room }
-        requires facts { length expr.now.nodes ≤ vec_capacity self.old.facts }
-        ensures expr { self.new.arena.expr ≡ expr.now }
-        ensures nodes_room { self.new.arena.room ≡ self.old.arena.room }
+        requires room { length expr.now.nodes ≤ vec_capacity self.old.facts }
+        ensures analysis { IsAnalysis expr.now self.new }
         ensures facts_room { vec_capacity self.new.facts ≡ vec_capacity self.old.facts }
         ensures cost { Takes steps.old steps.new (length expr.now.nodes) }
         ensures counts { TakesAtLeast steps.old steps.new (length expr.now.nodes) }
     {
-        self.arena.groups = expr.groups();
-        copy_nodes(expr, &mut self.arena.nodes, &mut self.facts, steps);
-        self.root = expr.root().index();
+        let _groups = expr.groups();
+        self.facts.clear();
+        for x in 0..expr.nodes() {
+            let node = expr.look(expr.id(x), steps);
+            let next = facts_of(&node, &self.facts);
+            self.facts.push_reserved(next);
+        }
         self.classes = classes_of(expr.sets());
         self.begins = Begins::Anyhow;
         self.required = None;
     }
+}
 
-    /// Makes an expression ready in room of its own. Fails only where a request for memory was refused.
-    pub fn new(alloc: Global, expr: &Expr, steps: &mut Steps) -> Result<Prepared, AllocError>
-        ensures expr { IfOk result (λ p. p.arena.expr ≡ expr.now) }
-        ensures cost { Takes steps.old steps.new (length expr.now.nodes) }
-        ensures counts { IfOk result (λ p. TakesAtLeast steps.old steps.new (length expr.now.nodes)) }
+/// An expression that is ready for passes, with what was found out of it.
+#[derive(Drop)]
+pub struct Prepared<'a> {
+    expr: &'a Expr,
+    analysis: &'a Analysis,
+}
+
+impl<'a> Model for Prepared<'a> {
+    ghost use Rattle.sedre.specs.Tree.{WrittenExpression};
+    ghost use Rattle.sedre.specs.Arena.{IsExpr};
+    ghost use Rattle.sedpass.specs.Prepared.{IsAnalysis};
+
+    ghost Value = { WrittenExpression };
+
+    ghost view = { λ p. p.expr.now };
+
+    ghost invariant = { λ p. IsAnalysis p.expr.now p.analysis.now × IsExpr p.expr.now.nodes p.expr.now.groups };
+}
+
+impl<'a> Prepared<'a> {
+    /// The expression, ready for passes.
+    pub fn of(expr: &'a Expr, analysis: &'a Analysis) -> Prepared<'a>
+        requires { IsAnalysis expr.now analysis.now }
+        ensures is { result ≡ expr.now }
+        ensures expr { IsExpr expr.now.nodes expr.now.groups }
     {
-        let mut prepared = Prepared::with_room(alloc, expr.nodes())?;
-        prepared.fit(expr, steps);
-        Ok(prepared)
+        let _groups = expr.groups();
+        Prepared { expr, analysis }
     }
 
-    /// The least index in a node's tree: its nodes are those from there to the node itself.
-    pub fn low(&self, x: usize) -> usize
-        requires inside { x < length self.now.arena.expr.nodes }
-        ensures size { result + size (tree_at self.now.arena.expr.nodes x) ≡ x + 1 }
-        ensures range { (mirrored : Bool) → IsNodeRange (seen mirrored self.now.arena.expr).nodes result x }
+    /// How many groups there are.
+    pub fn groups(&self) -> usize
+        ensures { result ≡ self.now.groups }
     {
-        self.arena.is_expression();
-        self.facts[x].low
-    }
-
-    /// Whether a node matches the null string at a place of a kind. Counts one look.
-    pub fn null_at(&self, x: usize, kind: PlaceKind, steps: &mut Steps) -> bool
-        requires inside { x < length self.now.arena.expr.nodes }
-        ensures null { result ≡ null_in self.now.arena.expr.nodes kind x }
-        ensures cost { TakesExactly steps.old steps.new 1 }
-    {
-        steps.add(1);
-        has_kind(self.facts[x].null, kind)
+        self.expr.groups()
     }
 
     /// How many nodes there are.
     pub fn nodes(&self) -> usize
-        ensures value { result ≡ length self.now.arena.expr.nodes }
-        ensures few { length self.now.arena.expr.nodes ≤ 65536 }
-        ensures expr { IsExpr self.now.arena.expr.nodes self.now.arena.expr.groups }
+        ensures value { result ≡ length self.now.nodes }
+        ensures few { length self.now.nodes ≤ 65536 }
+        ensures expr { IsExpr self.now.nodes self.now.groups }
     {
-        self.arena.nodes.len()
+        self.expr.nodes()
+    }
+
+    /// The last node, the whole expression.
+    pub fn root(&self) -> usize
+        ensures value { result ≡ root_of self.now }
+        ensures expr { IsExpr self.now.nodes self.now.groups }
+    {
+        self.expr.root().index()
+    }
+
+    /// The classes of bytes.
+    pub fn classes(&self) -> &Classes
+        ensures { AreClasses self.now.nodes result.now.of result.now.count }
+    {
+        &self.analysis.classes
+    }
+
+    /// How matches begin.
+    pub fn begins(&self) -> &Begins
+        ensures { AllBegin (expression_tree self.now) result.now }
+    {
+        &self.analysis.begins
+    }
+
+    /// A literal that all matches contain, where one is known.
+    pub fn required(&self) -> &Option<RequiredLiteral>
+        ensures { IsRequired (expression_tree self.now) result.now }
+    {
+        &self.analysis.required
+    }
+
+    /// The node of an index, as it is or mirrored. Counts one look.
+    // As a call of its own it would make states a fifth dearer.
+    #[inline(always)]
+    pub fn look(&self, x: usize, mirrored: bool, steps: &mut Steps) -> Node
+        requires inside { x < length self.now.nodes }
+        ensures node { slice_get (seen mirrored self.now).nodes x ≡ Some result }
+        ensures cost { TakesExactly steps.old steps.new 1 }
+        ensures parts { PartsBelow x result }
+        ensures arena { IsArena (seen mirrored self.now).nodes }
+        ensures few { length self.now.nodes ≤ 65536 }
+    {
+        node_seen(self.expr.look(self.expr.id(x), steps), mirrored)
+    }
+
+    /// What is known of a node.
+    pub fn facts(&self, x: usize) -> Facts
+        requires { x < length self.now.nodes }
+        ensures facts { IsFacts (tree_at self.now.nodes x) x result }
+        ensures run { IfSome result.run (λ c. IsRunOf self.now.nodes c x × IsSetAt self.now.nodes c) }
+        ensures expr { IsExpr self.now.nodes self.now.groups }
+    {
+        self.analysis.facts[x]
+    }
+
+    /// The least index in a node's tree: its nodes are those from there to the node itself.
+    pub fn low(&self, x: usize) -> usize
+        requires inside { x < length self.now.nodes }
+        ensures size { result + size (tree_at self.now.nodes x) ≡ x + 1 }
+        ensures range { (mirrored : Bool) → IsNodeRange (seen mirrored self.now).nodes result x }
+        ensures few { length self.now.nodes ≤ 65536 }
+    {
+        self.facts(x).low
+    }
+
+    /// Whether a node matches the null string at a place of a kind. Counts one look.
+    pub fn null_at(&self, x: usize, kind: PlaceKind, steps: &mut Steps) -> bool
+        requires inside { x < length self.now.nodes }
+        ensures null { result ≡ null_in self.now.nodes kind x }
+        ensures cost { TakesExactly steps.old steps.new 1 }
+    {
+        steps.add(1);
+        has_kind(self.facts(x).null, kind)
     }
 }

@@ -33,7 +33,7 @@ pub struct Way {
 #[derive(Clone, Copy)]
 pub struct Act<'a> {
     /// The expression.
-    pub prepared: &'a Prepared,
+    pub prepared: &'a Prepared<'a>,
     /// The way of its pass.
     pub way: Way,
     /// The root of its pass.
@@ -74,10 +74,10 @@ fn ends_here(
     rows: &Rows,
     steps: &mut Steps,
 ) -> bool
-    requires parts { PartsBelow (length act.prepared.now.arena.expr.nodes) node.now }
-    requires wide { AreWide (length act.prepared.now.arena.expr.nodes) state rows.now }
-    requires inside { x < length act.prepared.now.arena.expr.nodes }
-    ensures mark { result ≡ ended_by (λ members. slice_index_or (row_of rows.now (leaves_row state)) x false && byte_is_in byte members) (null_in act.entry.prepared.now.arena.expr.nodes act.entry.kind)
+    requires parts { PartsBelow (length act.prepared.now.nodes) node.now }
+    requires wide { AreWide (length act.prepared.now.nodes) state rows.now }
+    requires inside { x < length act.prepared.now.nodes }
+    ensures mark { result ≡ ended_by (λ members. slice_index_or (row_of rows.now (leaves_row state)) x false && byte_is_in byte members) (null_in act.entry.prepared.now.nodes act.entry.kind)
         (λ c. slice_index_or (row_of rows.now 1) c false) node.now }
     ensures cost { Takes steps.old steps.new 3 }
 {
@@ -96,10 +96,10 @@ fn ends_here(
 
 /// Marks where the parts of a node begin, given whether it begins here itself.
 fn enter(act: Act, node: &Node, here: bool, rows: &mut Rows, steps: &mut Steps)
-    requires parts { PartsBelow (length act.prepared.now.arena.expr.nodes) node.now }
-    requires wide { AreWide (length act.prepared.now.arena.expr.nodes) 0 rows.old }
+    requires parts { PartsBelow (length act.prepared.now.nodes) node.now }
+    requires wide { AreWide (length act.prepared.now.nodes) 0 rows.old }
     ensures keeps { KeepsRows (λ q. q ≢ 0) rows.old rows.new }
-    ensures marks { row_of rows.new 0 ≡ enter_parts here (null_in act.entry.prepared.now.arena.expr.nodes act.entry.kind) (λ c. slice_index_or (row_of rows.old 1) c false) node.now (row_of rows.old 0) }
+    ensures marks { row_of rows.new 0 ≡ enter_parts here (null_in act.entry.prepared.now.nodes act.entry.kind) (λ c. slice_index_or (row_of rows.old 1) c false) node.now (row_of rows.old 0) }
     ensures cost { Takes steps.old steps.new 4 }
 {
     match node {
@@ -134,19 +134,19 @@ fn leaf_bit(node: &Node, here: bool) -> bool
 /// From the lowest node up: which nodes end here after at least one byte. `byte` is the one that came, if one did; the state
 /// is that of the place before it.
 pub fn ascend(act: Act, byte: Option<u8>, state: usize, rows: &mut Rows, steps: &mut Steps)
-    requires root { act.root < length act.prepared.now.arena.expr.nodes }
-    requires wide { AreWide (length act.prepared.now.arena.expr.nodes) state rows.old }
+    requires root { act.root < length act.prepared.now.nodes }
+    requires wide { AreWide (length act.prepared.now.nodes) state rows.old }
     ensures keeps { KeepsRows (λ q. q ≢ 1) rows.old rows.new }
-    ensures ended { let nodes = nodes_of act.entry.way act.entry.prepared.now.arena.expr in
-        (w : List ℕ) (s : Starts) (place : ℕ) → AreNull nodes w place (null_in act.entry.prepared.now.arena.expr.nodes act.entry.kind) →
+    ensures ended { let nodes = nodes_of act.entry.way act.entry.prepared.now in
+        (w : List ℕ) (s : Starts) (place : ℕ) → AreNull nodes w place (null_in act.entry.prepared.now.nodes act.entry.kind) →
         ShowTook nodes w act.entry.root s place byte (row_of rows.old (leaves_row state)) →
         Marked (row_of rows.new 1) (InTree nodes act.entry.root) (λ c. CanEnd nodes w act.entry.root s c place) }
-    ensures cost { Takes steps.old steps.new (5 * length act.entry.prepared.now.arena.expr.nodes) }
-    ensures counts { TakesAtLeast steps.old steps.new (2 * size (tree_at act.entry.prepared.now.arena.expr.nodes act.entry.root)) }
+    ensures cost { Takes steps.old steps.new (5 * length act.entry.prepared.now.nodes) }
+    ensures counts { TakesAtLeast steps.old steps.new (2 * size (tree_at act.entry.prepared.now.nodes act.entry.root)) }
 {
     let low = act.prepared.low(act.root);
     for x in low..act.root + 1 {
-        let node = act.prepared.arena.look(x, act.way.mirrored, steps);
+        let node = act.prepared.look(x, act.way.mirrored, steps);
         let here = ends_here(act, &node, x, byte, state, rows, steps);
         rows.set(ENDED, x, here, steps);
     }
@@ -154,17 +154,17 @@ pub fn ascend(act: Act, byte: Option<u8>, state: usize, rows: &mut Rows, steps: 
 
 /// From the root down: the row of this place, as that of the state. `first` says whether the root begins here.
 pub fn descend(act: Act, first: bool, state: usize, rows: &mut Rows, steps: &mut Steps)
-    requires root { act.root < length act.prepared.now.arena.expr.nodes }
-    requires wide { AreWide (length act.prepared.now.arena.expr.nodes) state rows.old }
+    requires root { act.root < length act.prepared.now.nodes }
+    requires wide { AreWide (length act.prepared.now.nodes) state rows.old }
     ensures keeps { KeepsRows (IsApart 1 state) rows.old rows.new }
-    ensures row { let nodes = nodes_of act.entry.way act.entry.prepared.now.arena.expr in
-        let m = length act.entry.prepared.now.arena.expr.nodes in
-        (w : List ℕ) (s : Starts) (place : ℕ) → AreNull nodes w place (null_in act.entry.prepared.now.arena.expr.nodes act.entry.kind) →
+    ensures row { let nodes = nodes_of act.entry.way act.entry.prepared.now in
+        let m = length act.entry.prepared.now.nodes in
+        (w : List ℕ) (s : Starts) (place : ℕ) → AreNull nodes w place (null_in act.entry.prepared.now.nodes act.entry.kind) →
         Marked (row_of rows.old 1) (InTree nodes act.entry.root) (λ c. CanEnd nodes w act.entry.root s c place) → (IsTrue first ↔ IsStart s place) →
         RowOfPlace nodes w act.entry.root s act.entry.way.mirrored place (bits m (row_of rows.new (leaves_row state))) (bits m (row_of rows.new (ends_row state))) }
-    ensures cost { Takes steps.old steps.new (12 * length act.entry.prepared.now.arena.expr.nodes + 1) }
-    ensures counts { let m = length act.entry.prepared.now.arena.expr.nodes in
-        TakesAtLeast steps.old steps.new (2 * m + 6 * size (tree_at act.entry.prepared.now.arena.expr.nodes act.entry.root)) }
+    ensures cost { Takes steps.old steps.new (12 * length act.entry.prepared.now.nodes + 1) }
+    ensures counts { let m = length act.entry.prepared.now.nodes in
+        TakesAtLeast steps.old steps.new (2 * m + 6 * size (tree_at act.entry.prepared.now.nodes act.entry.root)) }
 {
     let nodes = act.prepared.nodes();
     let low = act.prepared.low(act.root);
@@ -176,7 +176,7 @@ pub fn descend(act: Act, first: bool, state: usize, rows: &mut Rows, steps: &mut
         let here = rows.get(ENTERED, x, steps);
         let end = rows.get(ENDED, x, steps);
         let null = act.prepared.null_at(x, act.kind, steps);
-        let node = act.prepared.arena.look(x, act.way.mirrored, steps);
+        let node = act.prepared.look(x, act.way.mirrored, steps);
         enter(act, &node, here, rows, steps);
         let leaf = leaf_bit(&node, here);
         rows.set(leaves, x, leaf, steps);

@@ -30,13 +30,13 @@ pub struct Seeking {
 /// Begins anew for a text: nothing was searched in it yet.
 pub fn begin_text(subject: Subject, reverse_any: &Table, seeking: &mut Seeking)
     requires table { IsTable subject.prepared.now reverse_any.now }
-    requires room { KeptRoom (length subject.prepared.now.arena.expr.nodes) (length subject.text.now) reverse_any.now seeking.old.kept }
+    requires room { KeptRoom (length subject.prepared.now.nodes) (length subject.text.now) reverse_any.now seeking.old.kept }
     requires all_starts { IsTrue reverse_any.now.way.all_starts }
     ensures kept { seeking.new.kept ≡ seeking.old.kept }
     ensures begun { seeking.new.begun ≡ false }
     ensures tried { seeking.new.tried ≡ if seeking.old.begun then length subject.entry.text.now else 0 }
     ensures serves { SearchServes subject.entry.prepared.now subject.entry.text.now reverse_any.now seeking.new }
-    ensures owed { let m = length subject.entry.prepared.now.arena.expr.nodes in let n = length subject.entry.text.now in
+    ensures owed { let m = length subject.entry.prepared.now.nodes in let n = length subject.entry.text.now in
         owed_behind m n seeking.new 0 + 43 * m ≤ 308 * m * (n + 1) }
 {
     // what was left to a pass in the text before is left to it here after one trial
@@ -64,17 +64,16 @@ fn try_all(
     steps: &mut Steps,
 ) -> Trials
     requires from { from ≤ length subject.text.now }
-    requires begins { AllBegin (expression_tree subject.prepared.now.arena.expr) subject.prepared.now.begins }
     requires forward_one { IsForwardOne subject.prepared.now forward_one.old }
     requires tried { tried.old ≤ length subject.text.now }
     ensures forward_one { IsForwardOne subject.entry.prepared.now forward_one.new }
     ensures forward_one_shape { SameShape forward_one.old forward_one.new }
-    ensures made { TrialsMade (expression_tree subject.entry.prepared.now.arena.expr) subject.entry.text.now (length subject.entry.prepared.now.arena.expr.nodes) from tried.old tried.new steps.old steps.new result }
+    ensures made { TrialsMade (expression_tree subject.entry.prepared.now) subject.entry.text.now (length subject.entry.prepared.now.nodes) from tried.old tried.new steps.old steps.new result }
 {
     let length = subject.text.len();
     let mut start = from;
     while start <= length {
-        let Some(first) = next_start(&subject.prepared.begins, subject.text, start, steps) else {
+        let Some(first) = next_start(subject.prepared.begins(), subject.text, start, steps) else {
             return Trials::Nothing;
         };
         let passed = forward_one.run(subject.prepared, subject.text, first, steps);
@@ -106,12 +105,12 @@ pub fn next_kept(
     requires all_starts { IsTrue reverse_any.old.way.all_starts }
     ensures tables { TablesStay subject.entry.prepared.now forward_one.old forward_one.new reverse_any.old reverse_any.new kept.old kept.new }
     ensures next { IsNextMatch subject.entry.prepared.now subject.entry.text.now from reverse_any.new kept.new steps.old steps.new result }
-    ensures cost { let m = length subject.entry.prepared.now.arena.expr.nodes in let n = length subject.entry.text.now in
+    ensures cost { let m = length subject.entry.prepared.now.nodes in let n = length subject.entry.text.now in
         CostsWithin steps.old steps.new (owed_kept m n kept.old.region from + 42 * m) (owed_after_search (λ q. owed_kept m n kept.new.region q) result) }
-    ensures each { let m = length subject.entry.prepared.now.arena.expr.nodes in
+    ensures each { let m = length subject.entry.prepared.now.nodes in
         Takes steps.old steps.new (142 * m * (length subject.entry.text.now - from) + 42 * m) }
 {
-    let root = subject.prepared.root;
+    let root = subject.prepared.root();
     let start = kept.seek(subject, reverse_any, root, from, true, steps);
     // of the text's end itself the pass says nothing
     if start == subject.text.len() && !subject.is_null(root, start, steps) {
@@ -127,13 +126,13 @@ fn begin_kept(subject: Subject, reverse_any: &Table, seeking: &mut Seeking)
     ensures begun { IsTrue seeking.new.begun }
     ensures kept { IsKept subject.entry.prepared.now subject.entry.text.now reverse_any.now seeking.new.kept }
     ensures space { SameSpace seeking.old.kept seeking.new.kept }
-    ensures owed { let m = length subject.entry.prepared.now.arena.expr.nodes in let n = length subject.entry.text.now in
+    ensures owed { let m = length subject.entry.prepared.now.nodes in let n = length subject.entry.text.now in
         (place : ℕ) → place ≤ n → owed_seeking m n seeking.new place ≤ owed_seeking m n seeking.old place }
 {
     if !seeking.begun {
         let length = subject.text.len();
         seeking.begun = true;
-        let root = subject.prepared.root;
+        let root = subject.prepared.root();
         seeking.kept.begin(subject, reverse_any, root, length);
     }
 }
@@ -150,10 +149,10 @@ pub fn next_match(
     requires from { from ≤ length subject.text.now }
     requires ready { MaySearch subject.prepared.now subject.text.now forward_one.old reverse_any.old seeking.old }
     ensures searched { Searched subject.entry.prepared.now subject.entry.text.now forward_one.old forward_one.new reverse_any.old reverse_any.new seeking.old seeking.new }
-    ensures answer { SpanAnswer (expression_tree subject.entry.prepared.now.arena.expr) subject.entry.text.now from result }
-    ensures cost { let m = length subject.entry.prepared.now.arena.expr.nodes in let n = length subject.entry.text.now in
+    ensures answer { SpanAnswer (expression_tree subject.entry.prepared.now) subject.entry.text.now from result }
+    ensures cost { let m = length subject.entry.prepared.now.nodes in let n = length subject.entry.text.now in
         CostsWithin steps.old steps.new (owed_seeking m n seeking.old from + 43 * m) (owed_after_search (owed_seeking m n seeking.new) result) }
-    ensures each { Takes steps.old steps.new (search_cost (length subject.entry.prepared.now.arena.expr.nodes) (length subject.entry.text.now) from) }
+    ensures each { Takes steps.old steps.new (search_cost (length subject.entry.prepared.now.nodes) (length subject.entry.text.now) from) }
     ensures counts { LooksFrom from steps.old steps.new result }
 {
     let mut start = from;

@@ -109,11 +109,11 @@ impl Table {
 
     /// Begins to serve an expression: lays the cells out anew, and forgets all states.
     pub fn fit(&mut self, prepared: &Prepared)
-        requires roomy { IsRoomy (length prepared.now.arena.expr.nodes) self.old }
+        requires roomy { IsRoomy (length prepared.now.nodes) self.old }
         ensures table { IsTable prepared.now self.new }
         ensures room { SameRoom self.old self.new }
     {
-        prepared.arena.is_expression();
+        let _nodes = prepared.nodes();
         self.layout = Layout::new(prepared);
         self.count = 0;
         self.epoch = next_epoch(self.epoch);
@@ -126,7 +126,6 @@ impl Table {
         ensures none { self.new.count ≡ 0 }
         ensures epoch { self.new.epoch ≡ self.old.epoch → ⊥ }
         ensures shape { SameShape self.old self.new }
-        ensures index { self.new.index ≡ self.old.index }
         ensures rows { self.new.rows ≡ self.old.rows }
     {
         self.count = 0;
@@ -159,7 +158,7 @@ impl Table {
         ensures room { self.new.count < self.new.room }
         ensures same_room { self.new.room ≡ self.old.room }
         ensures rows { self.new.rows ≡ self.old.rows }
-        ensures adds { (then : Table) → AddsStates (length prepared.now.arena.expr.nodes) self.new then → AddsStates (length prepared.now.arena.expr.nodes) self.old then }
+        ensures adds { (then : Table) → AddsStates (length prepared.now.nodes) self.new then → AddsStates (length prepared.now.nodes) self.old then }
     {
         if self.count == self.room {
             self.empty(prepared);
@@ -170,13 +169,13 @@ impl Table {
     fn add(&mut self, prepared: &Prepared, root: usize, slot: usize, steps: &mut Steps) -> usize
         requires table { IsTable prepared.now self.old }
         requires room { self.old.count < self.old.room }
-        requires root { root < length prepared.now.arena.expr.nodes }
+        requires root { root < length prepared.now.nodes }
         requires slot { slot < vec_len self.old.index }
         ensures table { IsTable prepared.now self.new }
-        ensures adds { AddsStates (length prepared.now.arena.expr.nodes) self.old self.new }
+        ensures adds { AddsStates (length prepared.now.nodes) self.old self.new }
         ensures there { result < self.new.count }
-        ensures has { HasNewRow (length prepared.now.arena.expr.nodes) self.old root (state_of (length prepared.now.arena.expr.nodes) self.new result) }
-        ensures cost { Takes steps.old steps.new (2 * length prepared.now.arena.expr.nodes + 2) }
+        ensures has { HasNewRow (length prepared.now.nodes) self.old root (state_of (length prepared.now.nodes) self.new result) }
+        ensures cost { Takes steps.old steps.new (2 * length prepared.now.nodes + 2) }
     {
         let state = self.count;
         self.roots[state] = root;
@@ -192,13 +191,14 @@ impl Table {
     }
 
     /// The code of the state with this root and the row that is being made, which is added unless it is found. There is room.
+    #[tactic(auto, using(crate::proofs::TableLemmas::shifted, crate::proofs::TableLemmas::few_offset), unfolding(sedre::specs::Steps::TakesAtLeast, sedre::specs::Steps::IsCounted))]
     pub fn intern(&mut self, prepared: &Prepared, root: usize, steps: &mut Steps) -> u32
         requires table { IsTable prepared.now self.old }
         requires room { self.old.count < self.old.room }
-        requires root { root < length prepared.now.arena.expr.nodes }
-        ensures codes { Codes prepared.now self.old self.new (HasNewRow (length prepared.now.arena.expr.nodes) self.old root) result }
-        ensures cost { Takes steps.old steps.new (9 * length prepared.now.arena.expr.nodes + 5) }
-        ensures counts { TakesAtLeast steps.old steps.new (2 * length prepared.now.arena.expr.nodes) }
+        requires root { root < length prepared.now.nodes }
+        ensures codes { Codes prepared.now self.old self.new (HasNewRow (length prepared.now.nodes) self.old root) result }
+        ensures cost { Takes steps.old steps.new (9 * length prepared.now.nodes + 5) }
+        ensures counts { TakesAtLeast steps.old steps.new (2 * length prepared.now.nodes) }
     {
         let nodes = prepared.nodes();
         let (leaves, ends) = (leaves_row(self.count), ends_row(self.count));
@@ -237,12 +237,12 @@ impl Table {
         steps: &mut Steps,
     ) -> u32
         requires table { IsTable act.prepared.now self.old }
-        requires root { act.root < length act.prepared.now.arena.expr.nodes }
+        requires root { act.root < length act.prepared.now.nodes }
         requires from { from < self.old.room }
         ensures codes { Codes act.entry.prepared.now self.old self.new
-            (IsMade act.entry byte first (bits (length act.entry.prepared.now.arena.expr.nodes) (row_of self.old.rows (leaves_row from)))) result }
-        ensures cost { Takes steps.old steps.new (26 * length act.entry.prepared.now.arena.expr.nodes + 6) }
-        ensures counts { TakesAtLeast steps.old steps.new (2 * length act.entry.prepared.now.arena.expr.nodes) }
+            (IsMade act.entry byte first (bits (length act.entry.prepared.now.nodes) (row_of self.old.rows (leaves_row from)))) result }
+        ensures cost { Takes steps.old steps.new (26 * length act.entry.prepared.now.nodes + 6) }
+        ensures counts { TakesAtLeast steps.old steps.new (2 * length act.entry.prepared.now.nodes) }
     {
         self.make_room(act.prepared);
         let to = self.count;
@@ -264,8 +264,8 @@ impl Table {
         requires table { IsTable prepared.now self.old }
         requires offset { IsOffset self.old offset }
         ensures codes { Codes prepared.now self.old self.new (IsNext prepared.now self.old offset byte edge) result }
-        ensures cost { Takes steps.old steps.new (33 * length prepared.now.arena.expr.nodes) }
-        ensures counts { TakesAtLeast steps.old steps.new (length prepared.now.arena.expr.nodes) }
+        ensures cost { Takes steps.old steps.new (33 * length prepared.now.nodes) }
+        ensures counts { TakesAtLeast steps.old steps.new (length prepared.now.nodes) }
     {
         let state = self.state_at(offset);
         let act = Act {
@@ -288,7 +288,7 @@ impl Table {
     pub fn known(&self, prepared: &Prepared, offset: usize, byte: u8, edge: bool) -> u32
         requires table { IsTable prepared.now self.now }
         requires offset { IsOffset self.now offset }
-        ensures { 0 < result → NamesState (length prepared.now.arena.expr.nodes) self.now (IsNext prepared.now self.now offset byte edge) result }
+        ensures { 0 < result → NamesState (length prepared.now.nodes) self.now (IsNext prepared.now self.now offset byte edge) result }
     {
         match self.layout.column(byte, edge) {
             Some(column) => self.cells[offset + column],
@@ -309,7 +309,7 @@ impl Table {
         requires table { IsTable prepared.now self.old }
         requires offset { IsOffset self.old offset }
         ensures codes { Codes prepared.now self.old self.new (IsNext prepared.now self.old offset byte edge) result }
-        ensures cost { Takes steps.old steps.new (34 * length prepared.now.arena.expr.nodes) }
+        ensures cost { Takes steps.old steps.new (34 * length prepared.now.nodes) }
         ensures counts { TakesAtLeast steps.old steps.new 1 }
     {
         steps.add(1);
@@ -334,8 +334,8 @@ impl Table {
     fn begin(&mut self, prepared: &Prepared, root: usize, kind: PlaceKind, steps: &mut Steps) -> u32
         requires table { IsTable prepared.now self.old }
         requires root { MayBegin prepared.now self.old.way root }
-        ensures codes { Codes prepared.now self.old self.new (BeginsIn (nodes_of self.old.way prepared.now.arena.expr) self.old.way root kind) result }
-        ensures cost { Takes steps.old steps.new (32 * length prepared.now.arena.expr.nodes) }
+        ensures codes { Codes prepared.now self.old self.new (BeginsIn (nodes_of self.old.way prepared.now) self.old.way root kind) result }
+        ensures cost { Takes steps.old steps.new (32 * length prepared.now.nodes) }
     {
         let act = Act {
             prepared,
@@ -363,8 +363,8 @@ impl Table {
     ) -> u32
         requires table { IsTable prepared.now self.old }
         requires root { MayBegin prepared.now self.old.way root }
-        ensures codes { Codes prepared.now self.old self.new (BeginsIn (nodes_of self.old.way prepared.now.arena.expr) self.old.way root kind) result }
-        ensures cost { Takes steps.old steps.new (33 * length prepared.now.arena.expr.nodes) }
+        ensures codes { Codes prepared.now self.old self.new (BeginsIn (nodes_of self.old.way prepared.now) self.old.way root kind) result }
+        ensures cost { Takes steps.old steps.new (33 * length prepared.now.nodes) }
         ensures counts { TakesAtLeast steps.old steps.new 1 }
     {
         steps.add(1);

@@ -1,8 +1,8 @@
 -- The lowest bits of words.
-use Rattle.std.proofs.Common.{◌≡◌, ◌≢◌, ℕ, ◌+◌, ◌-◌, ◌*◌, ◌/◌, ◌%◌, ◌^◌, ◌<◌, ◌≤◌, ◌↔◌, Bool, false, List, length, IsTrue, sym, ap, ◌∙◌, subst, ⊎_elim, arith, bit_and, w64}
+use Rattle.std.proofs.Common.{◌≡◌, ◌≢◌, ℕ, ◌+◌, ◌-◌, ◌*◌, ◌/◌, ◌%◌, ◌^◌, ◌<◌, ◌≤◌, ◌↔◌, Bool, false, List, length, IsTrue, sym, ap, ◌∙◌, arith, bit_and, w64}
 use Rattle.std.specs.Prelude.{eqb, slice_index_or, slice_set}
 use Rattle.std.specs.Int.{bit_at, trailing_zeros}
-use Rattle.std.proofs.lemmas.Bool.{cases_lt, eqb-true}
+use Rattle.std.proofs.lemmas.Bool.{eqb-true}
 use Rattle.std.proofs.lemmas.List.{get_or_default, get_or-set_other, get_or-set_same}
 use Rattle.std.proofs.lemmas.Nat.Bits.{bit_at-zero, bit_at_and, bit_at-lt, bit_at-trailing_zeros}
 use Rattle.sedre.specs.Words.{is_set}
@@ -22,16 +22,12 @@ pub low_some : (low word count : ℕ) → low ≢ 0 → low < 2 ^ 64 → ((i : �
 low_some low word count some fits inside none =
     let first = bit_at-trailing_zeros w64 low (omega (arith, some)) fits in
     let k = trailing_zeros w64 low in
-    ⊎_elim
-    (λ (lt : k < count). (k, lt, first.0, sym (inside k lt) ∙ first.1))
-    (λ (ge : count ≤ k). let zero = none k ge in absurd (omega (arith, zero, first.1)))
-    (cases_lt k count)
+    let under : k < count = grind (arith, first, none k) in
+    (k, under, first.0, sym (inside k under) ∙ first.1)
 
 -- a bit of a word from a place on
 word_bit : (words : List ℕ) (at x k : ℕ) → k < 64 → IsTrue (is_set words (64 * at + (64 * x + k))) ↔ (bit_at (slice_index_or words (at + x) 0) k ≡ 1)
-word_bit words at x k lt =
-    let e = set_at words (64 * at + (64 * x + k)) (at + x) k (omega arith) lt in
-    (λ h. eqb-true (bit_at (slice_index_or words (at + x) 0) k) 1 (sym e ∙ h), λ h. e ∙ ap (λ v. eqb v 1) h)
+word_bit words at x k lt = grind (arith, set_at words (64 * at + (64 * x + k)) (at + x) k (omega arith) lt, eqb-true)
 
 -- the mark is set in both
 abbrev pub Meet : List Bool → List Bool → ℕ → ℕ → Type 0
@@ -59,15 +55,9 @@ module _ (words other : List ℕ) (at from count : ℕ) (marks others : List Boo
 
   pub meet_later : low ≡ 0 → ((c : ℕ) → c < 64 * x → Meet marks others count c → ⊥) → (c : ℕ) → c < 64 * (x + 1) → Meet marks others count c → ⊥
   meet_later none before c up met =
-      ⊎_elim
-      (λ (less : c < 64 * x). before c less met)
-      (λ (ge : 64 * x ≤ c).
       let k = c - 64 * x in
-      let e : c ≡ 64 * x + k = omega arith in
-      let here = subst (Meet marks others count) e met in
-      let zero = sym (bit_at_and word two k) ∙ low_none low (bit_and word two) (count - 64 * x) k none lowest (omega (arith, met.0)) in
-      omega (arith, zero, (mine k (omega arith) here.0).0 here.1, (theirs k (omega arith) here.0).0 here.2))
-      (cases_lt c (64 * x))
+      let zero = λ (under : k < count - 64 * x). sym (bit_at_and word two k) ∙ low_none low (bit_and word two) (count - 64 * x) k none lowest under in
+      grind (arith, before c, zero, mine k, theirs k)
 
 -- one bit is written
 pub bit_put : (words : List ℕ) (c x b old word : ℕ) (v : Bool) → c ≡ 64 * x + b → x < length words → b < 64 → old ≡ slice_index_or words x 0 → eqb (bit_at word b) 1 ≡ v →

@@ -1,5 +1,5 @@
 -- The alternatives with which an expression begins, as chains.
-use Rattle.std.proofs.Common.{◌≡◌, ℕ, zero, suc, ◌+◌, ◌-◌, ◌<◌, ◌⊎◌, Bool, List, [], ◌∷◌, ◌++◌, take, drop, drop-cons, length, Some, sym, ap, ◌∙◌, subst, inl, inr, ⊎_elim, arith}
+use Rattle.std.proofs.Common.{◌≡◌, ℕ, zero, suc, ◌+◌, ◌-◌, ◌<◌, ◌⊎◌, Bool, List, [], ◌∷◌, ◌++◌, take, drop, drop-cons, length, Some, sym, ap, ◌∙◌, subst, inl, ⊎_elim, arith}
 use Rattle.std.specs.Prelude.{◌||◌, Vec, slice_get, slice_index_or}
 use Rattle.std.proofs.lemmas.Bool.{or_left, or_right}
 use Rattle.sedre.specs.Sets.{has}
@@ -11,24 +11,16 @@ use Rattle.sedtext.specs.Spans.{Matches}
 use Rattle.sedre.specs.Tree.{Tree}
 use Rattle.sedtext.specs.Branches.{AnyLeads, AreBranches, IsOneByte, LeadsFrom}
 use Rattle.sedtext.specs.Bytes.{MemberAt}
-use Rattle.sedtext.specs.Links.{AreAlternatives, ChainLeads, LinkLeads}
+use Rattle.sedtext.specs.Links.{AreAlternatives, ChainLeads}
 use Rattle.sedtext.specs.declared.links.Link.{Link}
 use Rattle.sedtext.specs.declared.links.Link.TheVariants.{Byte}
 use Rattle.sedtext.proofs.LinkLemmas.{chain_split}
-
-after_set : (nodes : List Node) (w : List ℕ) (l : Link) (i j : ℕ) → IsOneByte l → LinkLeads nodes w l i j → j ≡ i + 1
-after_set nodes w (Byte s) i j is at = at.1
-after_set nodes w other i j is at = absurd is
 
 module _ {A : Type 0} (nodes : List Node) (w : List ℕ) where
   -- one chain more
   pub any_more : (cs : List (Vec Link A)) (c : Vec Link A) (i : ℕ) → AnyLeads nodes w cs i ⊎ LeadsFrom nodes w c.items i → AnyLeads nodes w (cs ++ (c ∷ [])) i
   any_more [] c i which = ⊎_elim (λ no. absurd no) (λ h. inl h) which
-  any_more (d ∷ ds) c i which =
-      ⊎_elim
-      (λ some. ⊎_elim (λ here. inl here) (λ there. inr (any_more ds c i (inl there))) some)
-      (λ last. inr (any_more ds c i (inr last)))
-      which
+  any_more (d ∷ ds) c i which = grind (arith, any_more ds c i)
 
 -- behind bytes alone the chain leads over one of the set
 pub member_behind : (nodes : List Node) (w : List ℕ) (offset n : ℕ) (links : List Link) (s : List Bool) → AllWithin IsOneByte links 0 n → offset < n → slice_get links offset ≡ Some (Byte s) →
@@ -36,9 +28,7 @@ pub member_behind : (nodes : List Node) (w : List ℕ) (offset n : ℕ) (links :
 member_behind nodes w offset n [] s all inside is i j at = let lies = slice_get_within [] offset (Byte s) is in absurd (omega (arith, lies))
 member_behind nodes w zero n (m ∷ ms) s all inside is i j at = grind arith
 member_behind nodes w (suc offset) n (m ∷ ms) s all inside is i j at =
-    let next = after_set nodes w m i at.0 (all 0 m (omega arith) (omega arith)) at.1 in
-    let there = member_behind nodes w offset (n - 1) ms s (λ k d low lt. all (suc k) d (omega arith) (omega arith)) (omega arith) is at.0 j at.2 in
-    subst (MemberAt s w) (let e : at.0 + offset ≡ i + suc offset = omega (arith, next) in e) there
+    grind (arith, all 0 m, member_behind nodes w offset (n - 1) ms s (λ k d low lt. all (suc k) d (omega arith) (omega arith)) (omega arith) is at.0 j at.2)
 
 -- a byte of the set is `offset` bytes after the place from which one of the chains leads on
 abbrev pub AllLeadTo : {A : Type 0} → List (Vec Link A) → ℕ → List Bool → Type 0
@@ -61,14 +51,8 @@ pub branches_more : {A : Type 0} (nodes : List Node) (e : Tree) (cs all : List (
     ((w : List ℕ) (i j : ℕ) → Matches e w i j → AnyLeads nodes w cs i ⊎ LeadsFrom nodes w chain i) → all ≡ cs ++ (left ∷ []) → AreAlternatives nodes (take n chain) left.items right →
     (w : List ℕ) (i j : ℕ) → Matches e w i j → AnyLeads nodes w all i ⊎ LeadsFrom nodes w right i
 branches_more nodes e cs all chain left right n old is ways w i j at =
-    subst (λ v. AnyLeads nodes w v i ⊎ LeadsFrom nodes w right i) (sym is) (
-    ⊎_elim
-    (λ some. inl (any_more nodes w cs left i (inl some)))
-    (λ here.
-    let f = chain_split nodes w (take n chain) (drop n chain) i here.0 (subst (λ v. ChainLeads nodes w v i here.0) (sym (take-append-drop n chain)) here.1) in
-    ⊎_elim (λ l. inl (any_more nodes w cs left i (inr (f.0, l)))) (λ r. inr (f.0, r)) ((ways.spans w i f.0).0 f.1))
-    (old w i j at)
-    )
+    let cut = λ (k : ℕ). chain_split nodes w (take n chain) (drop n chain) i k in
+    grind (arith, is, any_more nodes w cs left i, old w i j at, take-append-drop n chain, cut, ways.spans w i)
 
 pub branches_last : {A : Type 0} (nodes : List Node) (e : Tree) (cs all : List (Vec Link A)) (chain : Vec Link A) →
     ((w : List ℕ) (i j : ℕ) → Matches e w i j → AnyLeads nodes w cs i ⊎ LeadsFrom nodes w chain.items i) → all ≡ cs ++ (chain ∷ []) → AreBranches nodes e all

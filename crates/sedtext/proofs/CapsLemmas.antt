@@ -1,13 +1,9 @@
 -- At most one outcome belongs to a span and the groups before it.
-use Rattle.std.proofs.Common.{◌≡◌, ℕ, ◌<◌, ◌≤◌, ◌⊎◌, List, Some, IsTrue, refl, sym, ap, ◌∙◌, subst, ⊎_elim, arith}
-use Rattle.std.specs.Prelude.{slice_set}
+use Rattle.std.proofs.Common.{◌≡◌, ℕ, ◌<◌, ◌≤◌, ◌⊎◌, List, IsTrue, refl, sym, ◌∙◌, subst, arith}
 use Rattle.sedre.specs.Tree.{Tree, sequence, either_of, grouped, any_copies, one_or_none}
 use Rattle.sedtext.specs.Spans.{no_copy, Matches}
-use Rattle.sedtext.specs.Caps.{Captures, LastCut, LastCopy, only, then_copy}
+use Rattle.sedtext.specs.Caps.{Captures, LastCopy, only, then_copy}
 use Rattle.sedtext.specs.Groups.{SpansOfGroups, forget}
-
-LastCut-unique : (A B : ℕ → ℕ → Type 0) (i j k l : ℕ) → LastCut A B i j k → LastCut A B i j l → k ≡ l
-LastCut-unique A B i j k l one other = grind arith
 
 LastCopy-unique : (R : ℕ → ℕ → Type 0) (j i c : ℕ) → LastCopy R j i c → (d : ℕ) → LastCopy R j i d → c ≡ d
 LastCopy-unique R j i c (only _ lt r) d (only _ lt' r') = refl
@@ -15,11 +11,7 @@ LastCopy-unique R j i c (only _ lt r) d (then_copy _ k _ up low r' rest most las
     let high : j ≤ k = most j lt r no_copy in absurd (omega arith)
 LastCopy-unique R j i c (then_copy _ k _ up low r rest most last) d (only _ lt r') =
     let high : j ≤ k = most j lt r' no_copy in absurd (omega arith)
-LastCopy-unique R j i c (then_copy _ k _ up low r rest most last) d (then_copy _ l _ up' low' r' rest' most' last') =
-    let right : l ≤ k = most l up' r' rest' in
-    let left : k ≤ l = most' k up r rest in
-    let same : l ≡ k = omega arith in
-    LastCopy-unique R j k c last d (subst (λ v. LastCopy R j v d) same last')
+LastCopy-unique R j i c (then_copy _ k _ up low r rest most last) d (then_copy _ l _ up' low' r' rest' most' last') = grind (arith, LastCopy-unique R j k c last d)
 
 -- copies have one outcome, where one of them has one, and one of the null string
 copied_unique : (i j : ℕ) (F S : Type 0) (P Q : SpansOfGroups → Type 0) (old new other : SpansOfGroups) → ((g h : SpansOfGroups) → P g → P h → g ≡ h) → ((g h : SpansOfGroups) → Q g → Q h → g ≡ h) →
@@ -29,22 +21,9 @@ copied_unique i j F S P Q old new other one two h k = grind arith
 
 -- at most one outcome
 pub Captures-unique : (e : Tree) (w : List ℕ) (i j : ℕ) (old new other : SpansOfGroups) → Captures e w i j old new → Captures e w i j old other → new ≡ other
-Captures-unique (sequence a b) w i j old new other h k =
-    let same : h.0 ≡ k.0 = LastCut-unique (Matches a w) (Matches b w) i j h.0 k.0 h.1 k.1 in
-    let mid : h.2.0 ≡ k.2.0 = Captures-unique a w i h.0 old h.2.0 k.2.0 h.2.1 (subst (λ v. Captures a w i v old k.2.0) (sym same) k.2.1) in
-    Captures-unique b w h.0 j h.2.0 new other h.2.2 (subst (λ g. Captures b w h.0 j g other) (sym mid) (subst (λ v. Captures b w v j k.2.0 other) (sym same) k.2.2))
-Captures-unique (either_of a b) w i j old new other h k =
-    ⊎_elim
-    (λ (l : Matches a w i j × Captures a w i j old new). ⊎_elim
-    (λ (m : Matches a w i j × Captures a w i j old other). Captures-unique a w i j old new other l.1 m.1)
-    (λ (m : (Matches a w i j → ⊥) × Captures b w i j old other). absurd (m.0 l.0)) k)
-    (λ (r : (Matches a w i j → ⊥) × Captures b w i j old new). ⊎_elim
-    (λ (m : Matches a w i j × Captures a w i j old other). absurd (r.0 m.0))
-    (λ (m : (Matches a w i j → ⊥) × Captures b w i j old other). Captures-unique b w i j old new other r.1 m.1) k)
-    h
-Captures-unique (grouped n a) w i j old new other h k =
-    let inner : h.0 ≡ k.0 = Captures-unique a w i j (forget (grouped n a) old) h.0 k.0 h.1 k.1 in
-    h.2 ∙ ap (λ g. slice_set g n (Some (i, j))) inner ∙ sym k.2
+Captures-unique (sequence a b) w i j old new other h k = grind (arith, Captures-unique a w i, Captures-unique b w)
+Captures-unique (either_of a b) w i j old new other h k = grind (arith, Captures-unique a w i j old new other, Captures-unique b w i j old new other)
+Captures-unique (grouped n a) w i j old new other h k = grind (arith, Captures-unique a w i j (forget (grouped n a) old) h.0 k.0 h.1 k.1)
 Captures-unique (any_copies a first) w i j old new other h k =
     copied_unique i j (IsTrue first) (Matches a w i i) (Captures a w i i (forget a old)) (λ g. (c : ℕ) × LastCopy (Matches a w) j i c × Captures a w c j (forget a old) g) old new other
     (Captures-unique a w i i (forget a old))
@@ -52,7 +31,5 @@ Captures-unique (any_copies a first) w i j old new other h k =
     let same : l.0 ≡ m.0 = LastCopy-unique (Matches a w) j i l.0 l.1 m.0 m.1 in
     Captures-unique a w l.0 j (forget a old) g g' l.2 (subst (λ v. Captures a w v j (forget a old) g') (sym same) m.2))
     h k
-Captures-unique (one_or_none a first) w i j old new other h k =
-    copied_unique i j (IsTrue first) (Matches a w i i) (Captures a w i i (forget a old)) (Captures a w i j (forget a old)) old new other
-    (Captures-unique a w i i (forget a old)) (Captures-unique a w i j (forget a old)) h k
+Captures-unique (one_or_none a first) w i j old new other h k = grind (arith, Captures-unique a w i)
 Captures-unique _ w i j old new other h k = h ∙ sym k

@@ -1,15 +1,14 @@
 -- Bytes of a set, always as many.
-use Rattle.std.proofs.Common.{◌≡◌, ℕ, ◌+◌, ◌<◌, ◌≤◌, Bool, List, [], ◌∷◌, length, Some, refl, sym, ◌∙◌, subst, ⊎_elim, arith}
+use Rattle.std.proofs.Common.{◌≡◌, ℕ, ◌+◌, ◌<◌, ◌≤◌, Bool, List, [], ◌∷◌, length, Some, refl, subst, ⊎_elim, arith}
 use Rattle.std.specs.Prelude.{slice_get, slice_index_or, false}
 use Rattle.std.specs.List.{All}
-use Rattle.std.proofs.lemmas.Bool.{both_ways, cases_eq, cases_lt}
+use Rattle.std.proofs.lemmas.Bool.{cases_eq, cases_lt}
 use Rattle.std.proofs.lemmas.List.Elements.{All-head, All-tail}
 use Rattle.sedre.specs.Tree.{byte_of, any_copies}
 use Rattle.sedtext.specs.Spans.{IsIn, Matches, CopiesLead, no_copy, one_more}
 use Rattle.sedtext.specs.Runs.{SetRepeats, RunBegins}
 use Rattle.sedtext.specs.Bytes.{MemberAt}
 use Rattle.sedtext.specs.FixedRuns.{AllFixedRuns, FirstFixedRun}
-use Rattle.sedtext.specs.Links.{LinkLeads}
 use Rattle.sedtext.specs.declared.links.Link.{Link}
 use Rattle.sedtext.specs.declared.links.Link.TheVariants.{Byte}
 use Rattle.sedtext.proofs.SpanLemmas.{Matches-within}
@@ -25,7 +24,7 @@ module _ (members : List Bool) (w : List ℕ) where
 
   -- bytes of the set can be cut at each place between them
   pub repeated_cut : (m j i : ℕ) → i ≤ m → m ≤ j → SetRepeats members w i j → SetRepeats members w i m × SetRepeats members w m j
-  repeated_cut m j i low high no_copy = let same : j ≡ m = omega arith in subst (λ v. CopiesLead R v j × CopiesLead R j v) same (no_copy, no_copy)
+  repeated_cut m j i low high no_copy = grind (arith, no_copy)
   repeated_cut m j i low high (one_more _ l lt r rest) =
       ⊎_elim
       (λ (more : i < m). let cut = repeated_cut m j l (omega (arith, r.3)) high rest in (one_more i l lt r cut.0, cut.1))
@@ -51,15 +50,8 @@ module _ (members : List Bool) (w : List ℕ) where
 -- after a byte that isn't in the set the run begins
 pub run_stops : (members : List Bool) (w : List ℕ) (p q before place byte : ℕ) (has : Bool) → before + 1 ≡ place → p ≤ before → place ≤ q → slice_get w before ≡ Some byte →
     has ≡ slice_index_or members byte false → has ≡ false → SetRepeats members w place q → RunBegins members w p q (before + 1)
-run_stops members w p q before place byte has next low high is value missing copies = (
-  omega arith,
-  omega (arith, next),
-  subst (λ v. SetRepeats members w v q) (sym next) copies,
-  λ h after lt all.
-      let can = repeated_in members w before q h (omega arith) (omega (arith, next)) all in
-      let one : can.0 ≡ byte = cc in
-      both_ways has missing (value ∙ subst (λ b. IsIn b members) one can.2),
-)
+run_stops members w p q before place byte has next low high is value missing copies =
+    (omega arith, omega arith, grind arith, λ h after lt all. grind (arith, repeated_in members w before q h))
 
 -- links each of which is a byte of the set
 pub runs_of_bytes : (links : List Link) (members : List Bool) → All (λ l. l ≡ Byte members) links → AllFixedRuns links members (length links)
@@ -70,13 +62,8 @@ runs_of_bytes [] members all nodes w i j = (
 runs_of_bytes (l ∷ ls) members all nodes w i j =
     let first : l ≡ Byte members = All-head (λ l. l ≡ Byte members) l ls all in
     let rest = runs_of_bytes ls members (All-tail (λ l. l ≡ Byte members) l ls all) nodes w in (
-      λ at.
-          let here = subst (λ v. LinkLeads nodes w v i at.0) first at.1 in
-          let more = (rest at.0 j).0 at.2 in
-          (repeated_before members w i j here.0 (subst (λ v. SetRepeats members w v j) here.1 more.0), omega (arith, here.1, more.1)),
-      λ h.
-          let cut = repeated_cut members w (i + 1) j i (omega arith) (omega (arith, h.1)) h.0 in
-          (i + 1, subst (λ v. LinkLeads nodes w v i (i + 1)) (sym first) (repeated_in members w i j i (omega arith) (omega (arith, h.1)) h.0, refl), (rest (i + 1) j).1 (cut.1, omega (arith, h.1))),
+      λ at. grind (arith, first, rest at.0 j, repeated_before members w i j),
+      λ h. grind (arith, first, rest (i + 1) j, repeated_cut members w (i + 1) j i, repeated_in members w i j i),
     )
 
 module _ (members : List Bool) (count : ℕ) (w : List ℕ) (from : ℕ) where
@@ -84,20 +71,11 @@ module _ (members : List Bool) (count : ℕ) (w : List ℕ) (from : ℕ) where
   pub times_missed : (start seen run : ℕ) → start ≤ seen → seen < run → RunBegins members w seen (start + count) run →
       ((h : ℕ) → from ≤ h → h < start → SetRepeats members w h (h + count) → ⊥) → (h : ℕ) → from ≤ h → h < run → SetRepeats members w h (h + count) → ⊥
   times_missed start seen run low off begins before h after lt all =
-      ⊎_elim
-      (λ (less : h < start). before h after less all)
-      (λ (le : start ≤ h).
-      let end = begins.1 in
-      let rest = (repeated_cut members w (start + count) (h + count) h (omega (arith, end)) (omega arith) all).0 in
-      ⊎_elim
-      (λ (early : h < seen). begins.3 seen (omega arith) off (repeated_cut members w seen (start + count) h (omega arith) (omega (arith, end)) rest).1)
-      (λ (late : seen ≤ h). begins.3 h late lt rest)
-      (cases_lt h seen))
-      (cases_lt h start)
+      grind (arith, before h, begins, repeated_cut members w (start + count) (h + count) h, repeated_cut members w seen (start + count) h)
 
   -- here they do
   pub times_here : (start seen : ℕ) → from ≤ start → start + count ≤ length w → SetRepeats members w start seen → SetRepeats members w seen (start + count) →
       ((h : ℕ) → from ≤ h → h < start → SetRepeats members w h (h + count) → ⊥) → FirstFixedRun members count w from (Some start)
   times_here start seen after within these those before = (after, within, CopiesLead-join (Matches (byte_of members) w) (start + count) seen start these those, before)
 
-pub ruleset repeating = (no_copy, times_here, times_missed)
+pub ruleset repeating = (no_copy, repeated_within, times_here, times_missed)

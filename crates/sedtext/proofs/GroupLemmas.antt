@@ -1,6 +1,6 @@
 -- An expression without groups leaves all groups as they are.
-use Rattle.std.proofs.Common.{◌≡◌, ℕ, zero, suc, ◌<◌, Bool, true, false, List, length, Some, refl, sym, ap, ◌∙◌, subst, inl, inr, arith}
-use Rattle.std.specs.Prelude.{slice_get, cond}
+use Rattle.std.proofs.Common.{◌≡◌, ℕ, zero, suc, ◌<◌, List, length, Some, refl, ap, ◌∙◌, subst, inl, inr, arith}
+use Rattle.std.specs.Prelude.{slice_get}
 use Rattle.sedre.specs.Tree.{Tree, sequence, either_of, grouped, any_copies, one_or_none, tree_at, tree_of}
 use Rattle.sedtext.specs.Spans.{Matches}
 use Rattle.sedre.specs.Arena.{IsExpr}
@@ -9,7 +9,7 @@ use Rattle.sedre.specs.declared.types.Node.TheVariants.{Seq, Alt, Group, Star, O
 use Rattle.sedre.proofs.TreeLemmas.{tree_at-node}
 use Rattle.sedtext.specs.Caps.{Captures}
 use Rattle.sedtext.specs.Groups.{SpansOfGroups, forget}
-use Rattle.sedtext.specs.Matching.{groups_after, greatest_cut, last_start, spans}
+use Rattle.sedtext.specs.Matching.{groups_after}
 use Rattle.sedtext.proofs.NodeLemmas.{node_at}
 use Rattle.sedtext.proofs.MatchingLemmas.{groups_after-is}
 
@@ -30,23 +30,13 @@ forget-none (any_copies a first) none g = forget-none a none g
 forget-none (one_or_none a first) none g = forget-none a none g
 forget-none _ none g = refl
 
-cond-same : (b : Bool) (x y g : SpansOfGroups) → x ≡ g → y ≡ g → cond b x y ≡ g
-cond-same true x y g left right = left
-cond-same false x y g left right = right
-
 groups_after-none : (e : Tree) → NoGroups e → (w : List ℕ) (i j : ℕ) (g : SpansOfGroups) → groups_after e w i j g ≡ g
 unfolding groups_after
-groups_after-none (sequence a b) none w i j g =
-    let k = greatest_cut (spans a w) (spans b w) i j in
-    groups_after-none b none.1 w k j (groups_after a w i k g) ∙ groups_after-none a none.0 w i k g
-groups_after-none (either_of a b) none w i j g = cond-same (spans a w i j) (groups_after a w i j g) (groups_after b w i j g) g (groups_after-none a none.0 w i j g) (groups_after-none b none.1 w i j g)
+groups_after-none (sequence a b) none w i j g = grind (arith, groups_after-none a none.0 w i, groups_after-none b none.1 w)
+groups_after-none (either_of a b) none w i j g = grind (arith, groups_after-none a none.0 w i j g, groups_after-none b none.1 w i j g)
 groups_after-none (grouped k a) none w i j g = absurd none
-groups_after-none (any_copies a first) none w i j g =
-    cond-same _ _ _ g (groups_after-none a none w (last_start j (spans a w) i j) j (forget a g) ∙ forget-none a none g)
-    (cond-same _ _ _ g (groups_after-none a none w i i (forget a g) ∙ forget-none a none g) refl)
-groups_after-none (one_or_none a first) none w i j g =
-    cond-same _ _ _ g (groups_after-none a none w i j (forget a g) ∙ forget-none a none g)
-    (cond-same _ _ _ g (groups_after-none a none w i i (forget a g) ∙ forget-none a none g) refl)
+groups_after-none (any_copies a first) none w i j g = grind (arith, forget-none, groups_after-none a none w)
+groups_after-none (one_or_none a first) none w i j g = grind (arith, forget-none, groups_after-none a none w i)
 groups_after-none _ none w i j g = refl
 
 pub Captures-none : (e : Tree) → NoGroups e → (w : List ℕ) (i j : ℕ) (g : SpansOfGroups) → Matches e w i j → Captures e w i j g g
@@ -65,8 +55,7 @@ module _ (nodes : List Node) (groups : ℕ) (expr : IsExpr nodes groups) (few : 
   none_below zero x low inside = absurd (omega arith)
   none_below (suc n) x low inside =
       let node = node_at nodes x inside in
-      subst NoGroups (sym (tree_at-node nodes x node.0 expr.arena node.1))
-      (none_of (tree_at nodes) x node.0 node.1 (λ c below. none_below n c (omega arith) (omega arith)))
+      grind (arith, tree_at-node nodes x node.0 expr.arena node.1, none_of (tree_at nodes) x node.0 node.1, none_below n)
 
   pub no_groups_at : (x : ℕ) → x < length nodes → NoGroups (tree_at nodes x)
   no_groups_at x inside = none_below (suc x) x (omega arith) inside

@@ -1,5 +1,5 @@
 -- What the lanes of a vector hold.
-use Rattle.std.proofs.Common.{◌≡◌, ◌≢◌, ◌/◌, ◌%◌, ◌^◌, ◌<◌, ℕ, true, not, List, length, map, cond, eqb, ap, sym, ◌∙◌, refl, Bool, get_or, bit_and, replicate, arith, w8}
+use Rattle.std.proofs.Common.{◌≡◌, ◌≢◌, ◌/◌, ◌%◌, ◌^◌, ◌<◌, ℕ, true, not, List, length, map, cond, eqb, ap, ◌∙◌, refl, Bool, get_or, bit_and, replicate, arith, w8}
 use Rattle.std.specs.Int.{bit_at}
 use Rattle.std.specs.Simd.Lanes.{mask_l, top, zip2}
 use Rattle.std.proofs.lemmas.Bool.{agree_below_at, eqb-true, ne_eqb}
@@ -11,7 +11,7 @@ use Rattle.sedtext.specs.declared.counted.nibbles.TheConstants.{UPPER}
 
 -- two vectors combined lane by lane, and one with the same number in each lane
 pub lanes_zip : (f : ℕ → ℕ → ℕ) (a b : List ℕ) → length a ≡ 32 → length b ≡ 32 → HasLanes (zip2 f a b) (λ k. f (get_or a k 0) (get_or b k 0))
-lanes_zip f a b p q = (length-zip2 f a b (p ∙ sym q) ∙ p, λ k lt. get_or-zip2 f a b k 0 0 0 (omega (arith, p, lt)) (omega (arith, q, lt)))
+lanes_zip f a b p q = grind (arith, length-zip2, get_or-zip2)
 
 pub lanes_with : (f : ℕ → ℕ → ℕ) (a : List ℕ) (x : ℕ) → length a ≡ 32 → HasLanes (zip2 f a (replicate 32 x)) (λ k. f (get_or a k 0) x)
 lanes_with f a x p =
@@ -49,8 +49,4 @@ pub marked_lane : (rows : List ℕ) (byte row bit lane : ℕ) → byte < 256 →
 marked_lane rows byte row bit lane small mark is_row is_bit is none =
     let at = byte / 16 % 8 in
     let one = upper_bit (byte / 16) (omega (arith, small)) in
-    let both = bit_at_and row bit at in
-    let first : bit_at row at ≡ 1 = ap (λ r. bit_at r at) is_row ∙ mark small in
-    let second : bit_at bit at ≡ 1 = ap (λ r. bit_at r at) is_bit ∙ one in
-    let zero = ap (λ n. bit_at n at) (sym is ∙ none) ∙ bit_at-zero at in
-    omega (arith, both, first, second, zero)
+    grind (arith, one, mark small, bit_at_and row bit at, bit_at-zero at)

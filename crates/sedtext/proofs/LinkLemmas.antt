@@ -38,12 +38,8 @@ LeadAlike nodes links others = (w : List ℕ) (i j : ℕ) → ChainLeads nodes w
 
 -- links in place of others that lead alike
 module _ (nodes : List Node) (ls ms : List Link) where
-  lead_through : (here there : List Link) (w : List ℕ) → ((i j : ℕ) → ChainLeads nodes w here i j → ChainLeads nodes w there i j) → (i j : ℕ) →
-      ChainLeads nodes w (ls ++ (here ++ ms)) i j → ChainLeads nodes w (ls ++ (there ++ ms)) i j
-  lead_through here there w to i j at = grind (arith, chain_join, chain_split)
-
   alike_through : (here there : List Link) → LeadAlike nodes here there → LeadAlike nodes (ls ++ (here ++ ms)) (ls ++ (there ++ ms))
-  alike_through here there alike w i j = (lead_through here there w (λ a b. (alike w a b).0) i j, lead_through there here w (λ a b. (alike w a b).1) i j)
+  alike_through here there alike w i j = grind (arith, chain_join, chain_split, alike w)
 
 -- the nodes as links, the last one first
 abbrev pub others : List ℕ → List Link
@@ -60,12 +56,7 @@ total_join nodes (x ∷ xs) ys = let rest = total_join nodes xs ys in omega (ari
 
 -- a link leads on, within the text
 link_forward : (nodes : List Node) (w : List ℕ) (l : Link) (i j : ℕ) → LinkLeads nodes w l i j → i ≤ j
-link_forward nodes w (Byte s) i j at = omega (arith, at.1)
-link_forward nodes w (Run s) i j at = CopiesLead-forward (Matches (byte_of s) w) j i at
-link_forward nodes w Start i j at = omega (arith, at.0)
-link_forward nodes w End i j at = omega (arith, at.0, at.1)
-link_forward nodes w (Either x y) i j at = ⊎_elim (Matches-forward (tree_at nodes x) w i j) (Matches-forward (tree_at nodes y) w i j) at
-link_forward nodes w (Other x) i j at = Matches-forward (tree_at nodes x) w i j at
+link_forward nodes w l i j at = grind (arith, CopiesLead-forward, Matches-forward)
 
 link_within : (nodes : List Node) (w : List ℕ) (l : Link) (i j : ℕ) → i ≤ length w → LinkLeads nodes w l i j → j ≤ length w
 link_within nodes w (Byte s) i j within at = let inside = slice_get_within w i at.0.0 at.0.1 in omega (arith, inside, at.1)
@@ -80,10 +71,7 @@ pub chain_on : (nodes : List Node) (w : List ℕ) (q : ℕ) (links : List Link) 
     (k : ℕ) × (i ≤ k) × (k ≤ length w) × ChainLeads nodes w (drop q links) k j
 chain_on nodes w zero links i j within at = (i, omega arith, within, at)
 chain_on nodes w (suc q) [] i j within at = (i, omega arith, within, at)
-chain_on nodes w (suc q) (l ∷ ls) i j within at =
-    let on = link_forward nodes w l i at.0 at.1 in
-    let f = chain_on nodes w q ls at.0 j (link_within nodes w l i at.0 within at.1) at.2 in
-    (f.0, omega (arith, on, f.1), f.2, f.3)
+chain_on nodes w (suc q) (l ∷ ls) i j within at = grind (arith, link_forward, link_within, chain_on nodes w q ls at.0 j (link_within nodes w l i at.0 within at.1) at.2)
 
 -- what a node spans that is a link
 module _ (nodes : List Node) (arena : IsArena nodes) (x : ℕ) where
@@ -91,20 +79,16 @@ module _ (nodes : List Node) (arena : IsArena nodes) (x : ℕ) where
   at_node node is w i j = (open_at nodes w x node arena is i j, close_at nodes w x node arena is i j)
 
   pub byte_leads : (s : List Bool) → slice_get nodes x ≡ Some (Set s) → (w : List ℕ) (i j : ℕ) → HasSpan nodes w x i j ↔ (MemberAt s w i × (j ≡ i + 1))
-  byte_leads s is w i j = (
-    λ at. let f = (at_node (Set s) is w i j).0 at in ((f.0, f.1, f.2), f.3),
-    λ h. (at_node (Set s) is w i j).1 (h.0.0, h.0.1, h.0.2, h.1),
-  )
+  byte_leads s is w i j = grind (arith, at_node (Set s) is w i j)
 
   pub part_inside : (node : Node) (c : ℕ) → slice_get nodes x ≡ Some node → IsPart node c → c < length nodes
   part_inside node c is part = let low = arena.below x c node is part in let inside = slice_get_within nodes x node is in omega (arith, low, inside)
 
 pub run_leads : (nodes : List Node) (arena : IsArena nodes) (x : ℕ) (a : NodeId) (first : Bool) (s : List Bool) → slice_get nodes x ≡ Some (Star a first) → slice_get nodes a.index ≡ Some (Set s) →
     (w : List ℕ) (i j : ℕ) → HasSpan nodes w x i j ↔ SetRepeats s w i j
-run_leads nodes arena x a first s star set w i j = (
-  λ at. copies_alike (HasSpan nodes w a.index) (Matches (byte_of s) w) (open_at nodes w a.index (Set s) arena set) j i (open_at nodes w x (Star a first) arena star i j at),
-  λ copies. close_at nodes w x (Star a first) arena star i j (copies_alike (Matches (byte_of s) w) (HasSpan nodes w a.index) (close_at nodes w a.index (Set s) arena set) j i copies),
-)
+run_leads nodes arena x a first s star set w i j =
+    let part = at_node nodes arena a.index (Set s) set w in
+    grind (arith, part, at_node nodes arena x (Star a first) star w i j, copies_alike (HasSpan nodes w a.index) (Matches (byte_of s) w), copies_alike (Matches (byte_of s) w) (HasSpan nodes w a.index))
 
 -- The links, and after them the nodes that are left, lead as the links before do, and the node after them.
 pub record IsLeft (nodes : List Node) (before : List Link) (x : ℕ) (links : List Link) (rest : List ℕ) : Type 0 where
@@ -122,10 +106,9 @@ module _ (nodes : List Node) (before : List Link) (x : ℕ) where
         let old : links ++ others stack ≡ links ++ ((Other y ∷ []) ++ others rest) = ap (λ v. links ++ v) (ap others popped ∙ others_join rest (y ∷ [])) in
         let now : longer ++ others new ≡ links ++ (these ++ others rest) =
         ap (λ v. longer ++ v) (ap others is ∙ others_join rest more) ∙ sym (append_assoc longer (others more) (others rest)) ∙ ap (λ v. v ++ others rest) same ∙ append_assoc links these (others rest) in
-        let through = alike_through nodes links (others rest) (Other y ∷ []) these alike in
-        let leads = subst (LeadAlike nodes (before ++ (Other x ∷ []))) old left.spans in (
+        let through = alike_through nodes links (others rest) (Other y ∷ []) these alike in (
           record {
-            spans = subst (LeadAlike nodes (before ++ (Other x ∷ []))) (sym now) (λ w i j. ((λ at. (through w i j).0 ((leads w i j).0 at)), (λ at. (leads w i j).1 ((through w i j).1 at))));
+            spans = λ w i j. grind (arith, old, now, through w i j, left.spans w i j);
             inside = subst (All (λ v. v < length nodes)) (sym is) (All-append (λ v. v < length nodes) rest more (All-pop (λ v. v < length nodes) stack rest (Some y) popped left.inside).0 inside);
           },
           omega (arith, size_before, size_after, less),
@@ -142,24 +125,17 @@ module _ (nodes : List Node) (before : List Link) (x : ℕ) where
       pub left_parts : (a b : NodeId) (one both : List ℕ) → slice_get nodes y ≡ Some (Seq a b) → one ≡ rest ++ (b.index ∷ []) → both ≡ one ++ (a.index ∷ []) →
           IsLeft nodes before x links both × (total_size nodes both < total_size nodes stack)
       left_parts a b one both is with_second with_first =
-          let whole = size-parts nodes arena y (Seq a b) is in
           let left_in = part_inside nodes arena y (Seq a b) a.index is (inl refl) in
           let right_in = part_inside nodes arena y (Seq a b) b.index is (inr refl) in
-          left_with (Other a.index ∷ Other b.index ∷ []) links (b.index ∷ a.index ∷ []) both (λ w i j. (
-            (λ h. let f = open_at nodes w y (Seq a b) arena is i h.0 h.1 in (f.0, f.1, (h.0, f.2, h.2))),
-            (λ h. (h.2.0, close_at nodes w y (Seq a b) arena is i h.2.0 (h.0, h.1, h.2.1), h.2.2)),
-          )) (with_first ∙ ap (λ v. v ++ (a.index ∷ [])) with_second ∙ append_assoc rest (b.index ∷ []) (a.index ∷ [])) refl
-          (All-push (λ v. v < length nodes) (b.index ∷ []) a.index (All-push (λ v. v < length nodes) [] b.index (All-nil (λ v. v < length nodes)) right_in) left_in) (omega (arith, whole))
+          left_with (Other a.index ∷ Other b.index ∷ []) links (b.index ∷ a.index ∷ []) both (λ w i j. grind (arith, at_node nodes arena y (Seq a b) is w i))
+          (with_first ∙ ap (λ v. v ++ (a.index ∷ [])) with_second ∙ append_assoc rest (b.index ∷ []) (a.index ∷ [])) refl
+          (All-push (λ v. v < length nodes) (b.index ∷ []) a.index (All-push (λ v. v < length nodes) [] b.index (All-nil (λ v. v < length nodes)) right_in) left_in) (omega (arith, size-parts nodes arena y (Seq a b) is))
 
       pub left_inner : (number : ℕ) (a : NodeId) (one : List ℕ) → slice_get nodes y ≡ Some (Group number a) → one ≡ rest ++ (a.index ∷ []) →
           IsLeft nodes before x links one × (total_size nodes one < total_size nodes stack)
       left_inner number a one is inner =
-          let whole = size-parts nodes arena y (Group number a) is in
-          let part_in = part_inside nodes arena y (Group number a) a.index is refl in
-          left_with (Other a.index ∷ []) links (a.index ∷ []) one (λ w i j. (
-            (λ h. (h.0, open_at nodes w y (Group number a) arena is i h.0 h.1, h.2)),
-            (λ h. (h.0, close_at nodes w y (Group number a) arena is i h.0 h.1, h.2)),
-          )) inner refl (All-push (λ v. v < length nodes) [] a.index (All-nil (λ v. v < length nodes)) part_in) (omega (arith, whole))
+          left_with (Other a.index ∷ []) links (a.index ∷ []) one (λ w i j. grind (arith, at_node nodes arena y (Group number a) is w i)) inner refl
+          (All-push (λ v. v < length nodes) [] a.index (All-nil (λ v. v < length nodes)) (part_inside nodes arena y (Group number a) a.index is refl)) (omega (arith, size-parts nodes arena y (Group number a) is))
 
 -- behind the links before both alternatives are what a link is that is either
 pub both_ways : (nodes : List Node) (links left right : List Link) (q x y : ℕ) → q < length links → Either x y ≡ slice_index_or links q (Either x y) →
@@ -169,18 +145,8 @@ both_ways nodes links left right q x y inside is first second =
     let opened : take (q + 1) links ≡ before ++ (Either x y ∷ []) = take_more links q (Either x y) inside ∙ ap (λ v. before ++ (v ∷ [])) (sym is) in
     record {
       spans = λ w i j. (
-        (λ at.
-            let f = chain_split nodes w before (Either x y ∷ []) i j (subst (λ v. ChainLeads nodes w v i j) opened at) in
-            ⊎_elim
-            (λ h. inl ((first.spans w i j).0 (chain_join nodes w before (Other x ∷ []) i f.0 j f.1 (f.2.0, h, f.2.2))))
-            (λ h. inr ((second.spans w i j).0 (chain_join nodes w before (Other y ∷ []) i f.0 j f.1 (f.2.0, h, f.2.2))))
-            f.2.1),
-        (λ which. subst (λ v. ChainLeads nodes w v i j) (sym opened) (
-            ⊎_elim
-            (λ h. lead_through nodes before [] (Other x ∷ []) (Either x y ∷ []) w (λ a b s. (s.0, inl s.1, s.2)) i j ((first.spans w i j).1 h))
-            (λ h. lead_through nodes before [] (Other y ∷ []) (Either x y ∷ []) w (λ a b s. (s.0, inr s.1, s.2)) i j ((second.spans w i j).1 h))
-            which
-            )),
+        (λ at. grind (arith, opened, chain_split nodes w before (Either x y ∷ []) i j, chain_join nodes w before, first.spans w i j, second.spans w i j)),
+        (λ which. grind (arith, opened, chain_split nodes w before, chain_join nodes w before (Either x y ∷ []), first.spans w i j, second.spans w i j)),
       );
       within = (first.within, second.within);
     }

@@ -1,5 +1,5 @@
 -- The computed match is the one that the relations describe.
-use Rattle.std.proofs.Common.{◌≡◌, ℕ, zero, suc, ◌+◌, ◌-◌, ◌<◌, ◌≤◌, ◌⊎◌, ◌↔◌, Bool, true, false, ◌&&◌, ◌||◌, List, length, Option, Some, None, IsTrue, refl, sym, ap, ◌∙◌, subst, inl, inr, ⊎_elim, true≢false, arith}
+use Rattle.std.proofs.Common.{◌≡◌, ℕ, zero, suc, ◌+◌, ◌-◌, ◌<◌, ◌≤◌, ◌⊎◌, ◌↔◌, Bool, ◌&&◌, ◌||◌, List, length, Option, Some, None, IsTrue, refl, sym, ap, ◌∙◌, subst, inl, inr, ⊎_elim, arith}
 use Rattle.std.specs.Prelude.{cond, eqb, ltb, slice_set, is_some, unwrap_or, option_map}
 use Rattle.std.proofs.lemmas.Bool.{cond_both, and_parts, and_from, cases_lt, eqb-true, eq-eqb, ltb-true}
 use Rattle.std.proofs.lemmas.Bool.Decides.{Decides-and, Decides-eqb, Decides-ltb, Decides-or, Decides-below_or, nat_tests, same_from_decides}
@@ -29,16 +29,10 @@ abbrev pub GreatestBelow : (ℕ → Type 0) → ℕ → Option ℕ → Type 0
 GreatestBelow P n None = (k : ℕ) → k < n → P k → ⊥
 GreatestBelow P n (Some l) = (l < n) × P l × ((k : ℕ) → k < n → P k → k ≤ l)
 
--- one more number is tried
-greatest-step : (P : ℕ → Type 0) (n : ℕ) (b : Bool) (rest : Option ℕ) → (IsTrue b ↔ P n) → GreatestBelow P n rest → GreatestBelow P (suc n) (cond b (Some n) rest)
-greatest-step P n true rest is old = (omega arith, is.0 refl, λ k lt h. omega arith)
-greatest-step P n false None is old = grind arith
-greatest-step P n false (Some l) is old = grind arith
-
 greatest-is : (test : ℕ → Bool) (P : ℕ → Type 0) → ((k : ℕ) → IsTrue (test k) ↔ P k) → (n : ℕ) → GreatestBelow P n (greatest test n)
 unfolding greatest
 greatest-is test P each zero = λ k lt h. absurd (omega arith)
-greatest-is test P each (suc n) = greatest-step P n (test n) (greatest test n) (each n) (greatest-is test P each n)
+greatest-is test P each (suc n) = grind (arith, each n, greatest-is test P each n)
 
 module _ (step : ℕ → ℕ → Bool) (R : ℕ → ℕ → Type 0) (each : (i k : ℕ) → IsTrue (step i k) ↔ R i k) where
   -- a copy from i to k, and what leads on from there
@@ -46,8 +40,7 @@ module _ (step : ℕ → ℕ → Bool) (R : ℕ → ℕ → Type 0) (each : (i k
   copy-is b P i k on = Decides-and (ltb i k) (step i k && b) (Decides-ltb i k) (Decides-and (step i k) b (each i k) on)
 
   copies-begin : (j i : ℕ) → CopiesLead R j i → (i ≡ j) ⊎ ((k : ℕ) × (i < k) × R i k × CopiesLead R j k)
-  copies-begin j i no_copy = inl refl
-  copies-begin j i (one_more _ k lt r rest) = inr (k, lt, r, rest)
+  copies-begin j i at = grind arith
 
   copies-iff : (n i j : ℕ) → j ≤ n + i → IsTrue (copies n step i j) ↔ CopiesLead R j i
   unfolding copies
@@ -73,15 +66,11 @@ module _ (step : ℕ → ℕ → Bool) (R : ℕ → ℕ → Type 0) (each : (i k
   abbrev IsFirstCopy : ℕ → ℕ → ℕ → Type 0
   IsFirstCopy i j k = (i < k) × (k ≤ j) × R i k × CopiesLead R j k × ((l : ℕ) → i < l → R i l → CopiesLead R j l → l ≤ k)
 
-  first_copy-of : (i j m : ℕ) → i < m → R i m → CopiesLead R j m → (best : Option ℕ) → GreatestBelow (λ k. (i < k) × (R i k × CopiesLead R j k)) (j + 1) best → IsFirstCopy i j (unwrap_or best i)
-  first_copy-of i j m lt r rest None none = let on = CopiesLead-forward R j m rest in absurd (none m (omega arith) (lt, (r, rest)))
-  first_copy-of i j m lt r rest (Some k) (low, (up, (copy, on)), most) = grind (arith, CopiesLead-forward)
-
   first_copy-is : (i j m : ℕ) → i < m → R i m → CopiesLead R j m → IsFirstCopy i j (first_copy step i j)
   unfolding first_copy
   first_copy-is i j m lt r rest =
-      first_copy-of i j m lt r rest (greatest (λ k. ltb i k && (step i k && copies j step k j)) (j + 1))
-      (greatest-is (λ k. ltb i k && (step i k && copies j step k j)) (λ k. (i < k) × (R i k × CopiesLead R j k)) (λ k. copy-is (copies j step k j) (CopiesLead R j k) i k (copies-all j k)) (j + 1))
+      let is = greatest-is (λ k. ltb i k && (step i k && copies j step k j)) (λ k. (i < k) × (R i k × CopiesLead R j k)) (λ k. copy-is (copies j step k j) (CopiesLead R j k) i k (copies-all j k)) (j + 1) in
+      grind (arith, is, CopiesLead-forward)
 
   last_start-is : (n i j : ℕ) → i < j → j ≤ n + i → CopiesLead R j i → LastCopy R j i (last_start n step i j)
   unfolding last_start
@@ -90,11 +79,9 @@ module _ (step : ℕ → ℕ → Bool) (R : ℕ → ℕ → Type 0) (each : (i k
   last_start-is (suc n) i j lt few (one_more _ m up r rest) =
       let k = first_copy step i j in
       let is = first_copy-is i j m up r rest in
-      let first = is.0 in
-      let within = is.1 in
       cond_both (ltb k j) (last_start n step k j) i (LastCopy R j i)
-      (λ holds. let low = ltb-true k j holds in then_copy i k (last_start n step k j) first low is.2 is.3 is.4 (last_start-is n k j low (omega arith) is.3))
-      (λ fails. let same : k ≡ j = grind (arith, nat_tests, fails) in only i lt (subst (R i) same is.2))
+      (λ holds. let low = ltb-true k j holds in then_copy i k (last_start n step k j) is.0 low is.2 is.3 is.4 (last_start-is n k j low (omega (arith, is.0)) is.3))
+      (λ fails. only i lt (grind (arith, nat_tests, fails, is)))
 
 pub spans-iff : (e : Tree) (w : List ℕ) (i j : ℕ) → IsTrue (spans e w i j) ↔ Matches e w i j
 unfolding spans
@@ -103,45 +90,30 @@ spans-iff (byte_of has) w i j = grind arith
 spans-iff text_begin w i j = Decides-and (eqb i 0) (eqb j 0) (Decides-eqb i 0) (Decides-eqb j 0)
 spans-iff text_end w i j = Decides-and (eqb i (length w)) (eqb j (length w)) (Decides-eqb i (length w)) (Decides-eqb j (length w))
 spans-iff (sequence a b) w i j =
-    let is = any-is (λ k. spans a w i k && spans b w k j) (λ k. Matches a w i k × Matches b w k j) (λ k. Decides-and (spans a w i k) (spans b w k j) (spans-iff a w i k) (spans-iff b w k j)) (j + 1) in (
-      λ h. let k = is.0 h in (k.0, k.2.0, k.2.1),
-      λ h. let on = Matches-forward b w h.0 j h.2 in is.1 (h.0, omega arith, (h.1, h.2)),
-    )
+    let is = any-is (λ k. spans a w i k && spans b w k j) (λ k. Matches a w i k × Matches b w k j) (λ k. Decides-and (spans a w i k) (spans b w k j) (spans-iff a w i k) (spans-iff b w k j)) (j + 1) in
+    grind (arith, Matches-forward, is)
 spans-iff (either_of a b) w i j = Decides-or (spans a w i j) (spans b w i j) (spans-iff a w i j) (spans-iff b w i j)
 spans-iff (grouped k a) w i j = spans-iff a w i j
 spans-iff (any_copies a first) w i j = copies-all (spans a w) (Matches a w) (spans-iff a w) j i
 spans-iff (one_or_none a first) w i j = Decides-or (eqb i j) (spans a w i j) (Decides-eqb i j) (spans-iff a w i j)
 
 -- the longest match from a place of the text
-longest-of : (e : Tree) (w : List ℕ) (i : ℕ) → i ≤ length w → (best : Option ℕ) → GreatestBelow (Matches e w i) (length w + 1) best → IsLongestFrom e w i best
-longest-of e w i fits None none = λ k s. let within = Matches-within e w i k fits s in none k (omega arith) s
-longest-of e w i fits (Some j) some = (some.1, λ k s. let within = Matches-within e w i k fits s in some.2 k (omega arith) s)
-
 longest-is : (e : Tree) (w : List ℕ) (i : ℕ) → i ≤ length w → IsLongestFrom e w i (longest e w i)
 unfolding longest
-longest-is e w i fits = longest-of e w i fits (greatest (spans e w i) (length w + 1)) (greatest-is (spans e w i) (Matches e w i) (spans-iff e w i) (length w + 1))
+longest-is e w i fits = grind (arith, Matches-within, greatest-is (spans e w i) (Matches e w i) (spans-iff e w i) (length w + 1))
 
 -- what the relations say of an answer
 abbrev pub IsAnswer : Tree → List ℕ → ℕ → Option (ℕ × ℕ) → Type 0
 IsAnswer e w p None = NotFound e w p
 IsAnswer e w p (Some f) = IsLeftmostLongest e w p f.0 f.1
 
-none-step : (e : Tree) (w : List ℕ) (p : ℕ) → IsLongestFrom e w p None → NotFound e w (p + 1) → NotFound e w p
-none-step e w p none later = grind arith
-
-some-step : (e : Tree) (w : List ℕ) (p i j : ℕ) → IsLongestFrom e w p None → IsLeftmostLongest e w (p + 1) i j → IsLeftmostLongest e w p i j
-some-step e w p i j none later = grind arith
-
 answer-step : (e : Tree) (w : List ℕ) (p : ℕ) (best : Option ℕ) (rest : Option (ℕ × ℕ)) → IsLongestFrom e w p best → IsAnswer e w (p + 1) rest → IsAnswer e w p (unwrap_or (option_map (λ j. Some (p, j)) best) rest)
-answer-step e w p None None none later = none-step e w p none later
-answer-step e w p None (Some f) none later = some-step e w p f.0 f.1 none later
-answer-step e w p (Some j) rest some later = grind arith
+answer-step e w p best rest none later = grind arith
 
 found_from-is : (e : Tree) (w : List ℕ) (n p : ℕ) → p + n ≡ length w + 1 → IsAnswer e w p (found_from e w n p)
 unfolding found_from
 found_from-is e w zero p all = λ i k from fits s. omega arith
-found_from-is e w (suc n) p all =
-    answer-step e w p (longest e w p) (found_from e w n (p + 1)) (longest-is e w p (omega arith)) (found_from-is e w n (p + 1) (omega arith))
+found_from-is e w (suc n) p all = grind (arith, answer-step, longest-is, found_from-is e w n (p + 1) (omega arith))
 
 found-is : (e : Tree) (w : List ℕ) (p : ℕ) → p ≤ length w → IsAnswer e w p (leftmost_longest e w p)
 unfolding leftmost_longest
@@ -149,8 +121,7 @@ found-is e w p fits = found_from-is e w (length w + 1 - p) p (omega arith)
 
 -- what is spanned after the text is null, and spanned at each place
 CopiesLead-past : (R : ℕ → ℕ → Type 0) (j i : ℕ) → ((k : ℕ) → R i k → k ≡ i) → CopiesLead R j i → j ≡ i
-CopiesLead-past R j i still no_copy = refl
-CopiesLead-past R j i still (one_more _ k lt r rest) = let same = still k r in absurd (omega arith)
+CopiesLead-past R j i still at = grind arith
 
 past-everywhere : (e : Tree) (w : List ℕ) (i k : ℕ) → length w < i → Matches e w i k → (k ≡ i) × ((h : ℕ) → Matches e w h h)
 past-everywhere null_string w i k high s = (sym s, λ h. refl)
@@ -159,11 +130,7 @@ past-everywhere (sequence a b) w i k high s =
     let left = past-everywhere a w i s.0 high s.1 in
     let right = past-everywhere b w s.0 k (omega (arith, left.0)) s.2 in
     (right.0 ∙ left.0, λ h. (h, left.1 h, right.1 h))
-past-everywhere (either_of a b) w i k high s =
-    ⊎_elim
-    (λ l. let f = past-everywhere a w i k high l in (f.0, λ h. inl (f.1 h)))
-    (λ r. let f = past-everywhere b w i k high r in (f.0, λ h. inr (f.1 h)))
-    s
+past-everywhere (either_of a b) w i k high s = grind (arith, past-everywhere a w i k, past-everywhere b w i k)
 past-everywhere (grouped n a) w i k high s = past-everywhere a w i k high s
 past-everywhere (any_copies a first) w i k high s = (CopiesLead-past (Matches a w) k i (λ l r. (past-everywhere a w i l high r).0) s, λ h. no_copy)
 past-everywhere (one_or_none a first) w i k high s = (⊎_elim (λ (e : i ≡ k). sym e) (λ r. (past-everywhere a w i k high r).0) s, λ h. inl refl)
@@ -171,19 +138,11 @@ past-everywhere _ w i k high s = let at = s.0 in absurd (omega arith)
 
 -- a match that begins in the text or after it begins in the text
 pub IsLeftmostLongest-within : (e : Tree) (w : List ℕ) (p i j : ℕ) → p ≤ length w → IsLeftmostLongest e w p i j → i ≤ length w
-IsLeftmostLongest-within e w p i j fits f =
-    ⊎_elim
-    (λ (high : length w < i). absurd (f.leftmost p p (omega arith) (omega arith) ((past-everywhere e w i j high f.spans).1 p)))
-    (λ (low : i ≤ length w). low)
-    (cases_lt (length w) i)
-
-IsLeftmostLongest-unique : (e : Tree) (w : List ℕ) (p i j h k : ℕ) → IsLeftmostLongest e w p i j → IsLeftmostLongest e w p h k → (h ≡ i) × (k ≡ j)
-IsLeftmostLongest-unique e w p i j h k one other = grind arith
+IsLeftmostLongest-within e w p i j fits f = grind (arith, past-everywhere e w i j, cases_lt (length w) i, f.leftmost p p)
 
 answer-iff : (e : Tree) (w : List ℕ) (p : ℕ) → p ≤ length w → (answer : Option (ℕ × ℕ)) → IsAnswer e w p answer →
     ((i j : ℕ) → (answer ≡ Some (i, j)) ↔ IsLeftmostLongest e w p i j) × ((answer ≡ None) ↔ NotFound e w p) × (IsTrue (is_some answer) ↔ SomeFound e w p)
-answer-iff e w p fits None none = grind (arith, IsLeftmostLongest-within, none-some)
-answer-iff e w p fits (Some g) some = grind (arith, IsLeftmostLongest-unique, IsLeftmostLongest-within, none-some)
+answer-iff e w p fits answer none = grind (arith, IsLeftmostLongest-within, none-some)
 
 pub found-iff : (e : Tree) (w : List ℕ) (p i j : ℕ) → p ≤ length w → (leftmost_longest e w p ≡ Some (i, j)) ↔ IsLeftmostLongest e w p i j
 found-iff e w p i j fits = (answer-iff e w p fits (leftmost_longest e w p) (found-is e w p fits)).0 i j
@@ -197,16 +156,11 @@ some_found-iff e w p fits = (answer-iff e w p fits (leftmost_longest e w p) (fou
 pub same_test : (t : Bool) (e : Tree) (w : List ℕ) (p : ℕ) → p ≤ length w → (IsTrue t ↔ SomeFound e w p) → t ≡ is_some (leftmost_longest e w p)
 same_test t e w p fits shows = grind (arith, same_from_decides, some_found-iff)
 
-cut-of : (A B : ℕ → ℕ → Type 0) (i j m : ℕ) → ((k : ℕ) → B k j → k ≤ j) → A i m → B m j →
-    (best : Option ℕ) → GreatestBelow (λ k. A i k × B k j) (j + 1) best → LastCut A B i j (unwrap_or best i)
-cut-of A B i j m on l r None none = let within = on m r in absurd (none m (omega arith) (l, r))
-cut-of A B i j m on l r (Some k) (low, both, most) = grind arith
-
 cut-is : (a b : Tree) (w : List ℕ) (i j m : ℕ) → Matches a w i m → Matches b w m j → LastCut (Matches a w) (Matches b w) i j (greatest_cut (spans a w) (spans b w) i j)
 unfolding greatest_cut
 cut-is a b w i j m l r =
-    cut-of (Matches a w) (Matches b w) i j m (λ k s. Matches-forward b w k j s) l r (greatest (λ k. spans a w i k && spans b w k j) (j + 1))
-    (greatest-is (λ k. spans a w i k && spans b w k j) (λ k. Matches a w i k × Matches b w k j) (λ k. Decides-and (spans a w i k) (spans b w k j) (spans-iff a w i k) (spans-iff b w k j)) (j + 1))
+    let is = greatest-is (λ k. spans a w i k && spans b w k j) (λ k. Matches a w i k × Matches b w k j) (λ k. Decides-and (spans a w i k) (spans b w k j) (spans-iff a w i k) (spans-iff b w k j)) (j + 1) in
+    grind (arith, is, Matches-forward b w)
 
 pub LastCopy-copy : (R : ℕ → ℕ → Type 0) (j i c : ℕ) → LastCopy R j i c → R c j
 LastCopy-copy R j i c (only _ lt r) = r
@@ -228,14 +182,8 @@ groups_after-is (sequence a b) w i j old s =
     let k = greatest_cut (spans a w) (spans b w) i j in
     let is = cut-is a b w i j s.0 s.1 s.2 in
     (k, is, (groups_after a w i k old, groups_after-is a w i k old is.left, groups_after-is b w k j (groups_after a w i k old) is.right))
-groups_after-is (either_of a b) w i j old s =
-    cond_both (spans a w i j) (groups_after a w i j old) (groups_after b w i j old) (λ g. (Matches a w i j × Captures a w i j old g) ⊎ ((Matches a w i j → ⊥) × Captures b w i j old g))
-    (λ holds. let l = (spans-iff a w i j).0 holds in inl (l, groups_after-is a w i j old l))
-    (λ fails.
-    let missing : Matches a w i j → ⊥ = λ l. true≢false (sym ((spans-iff a w i j).1 l) ∙ fails) in
-    inr (missing, groups_after-is b w i j old (⊎_elim (λ (l : Matches a w i j). absurd (missing l)) (λ (r : Matches b w i j). r) s)))
-groups_after-is (grouped k a) w i j old s =
-    (groups_after a w i j (forget (grouped k a) old), groups_after-is a w i j (forget (grouped k a) old) s, refl)
+groups_after-is (either_of a b) w i j old s = grind (arith, nat_tests, cond_both, spans-iff, groups_after-is a w i j old, groups_after-is b w i j old)
+groups_after-is (grouped k a) w i j old s = grind (arith, groups_after-is a w i j (forget (grouped k a) old) s)
 groups_after-is (any_copies a first) w i j old s =
     let c = last_start j (spans a w) i j in
     copied a first w i j old (groups_after a w c j (forget a old)) (λ new. (c : ℕ) × LastCopy (Matches a w) j i c × Captures a w c j (forget a old) new) (CopiesLead-forward (Matches a w) j i s)

@@ -1,7 +1,8 @@
 -- What a mirrored expression matches in the text read from its end.
-use Rattle.std.proofs.Common.{◌≡◌, ℕ, ◌+◌, ◌-◌, ◌<◌, ◌≤◌, ◌↔◌, List, length, reverse, Some, ap, ◌∙◌, subst, inl, inr, ⊎_elim, arith}
-use Rattle.std.specs.Prelude.{slice_get, slice_index_or, true}
-use Rattle.std.proofs.lemmas.Option.{get_or_from_slice_get, slice_get-get_or}
+use Rattle.std.proofs.lemmas.Grind.{common_steps}
+use Rattle.std.proofs.Common.{◌≡◌, ℕ, ◌+◌, ◌-◌, ◌≤◌, ◌↔◌, List, length, reverse, Some, arith}
+use Rattle.std.specs.Prelude.{slice_get, true}
+use Rattle.std.proofs.lemmas.Option.{gets}
 use Rattle.std.proofs.lemmas.List.{length-reverse, reverse-reverse, get_or-reverse}
 use Rattle.sedre.specs.Tree.{Tree, null_string, byte_of, text_begin, text_end, sequence, either_of, grouped, any_copies, one_or_none, WrittenExpression}
 use Rattle.sedre.specs.Mirror.{mirror, seen}
@@ -12,51 +13,33 @@ use Rattle.sedtext.proofs.SpanLemmas.{Matches-within, CopiesLead-append}
 
 -- a byte of the text, in the text read from its end
 pub get-reverse : (w : List ℕ) (i b byte : ℕ) → i + 1 + b ≡ length w → slice_get w i ≡ Some byte → slice_get (reverse w) b ≡ Some byte
-get-reverse w i b byte sum is =
-    let low : b < length w = omega arith in
-    let inside : b < length (reverse w) = omega (arith, length-reverse w) in
-    let at : length w - 1 - b ≡ i = omega arith in
-    slice_get-get_or (reverse w) b 0 inside
-    ∙ ap (λ (v : ℕ). Some v) (get_or-reverse w b 0 low ∙ ap (λ (k : ℕ). slice_index_or w k 0) at ∙ get_or_from_slice_get w i byte 0 is)
+get-reverse w i b byte sum is = grind (arith, common_steps, gets, get_or-reverse)
 
 -- the same of all numbers that come before
 CopiesLead-mirror : (R S : ℕ → ℕ → Type 0) (n : ℕ) →
     ((i j a b : ℕ) → i + a ≡ n → j + b ≡ n → R i j → S b a) → ((i j : ℕ) → i ≤ n → R i j → j ≤ n) →
     (j i a b : ℕ) → i + a ≡ n → j + b ≡ n → CopiesLead R j i → CopiesLead S a b
-CopiesLead-mirror R S n each within j i a b left right no_copy =
-    let same : a ≡ b = omega arith in
-    subst (λ v. CopiesLead S a v) same no_copy
+CopiesLead-mirror R S n each within j i a b left right no_copy = grind (arith, no_copy)
 CopiesLead-mirror R S n each within j i a b left right (one_more _ k lt r rest) =
-    let low : k ≤ n = within i k (omega arith) r in
-    let c = n - k in
-    let middle : k + c ≡ n = omega arith in
-    CopiesLead-append S c b a (CopiesLead-mirror R S n each within j k c b middle right rest) (omega arith) (each i k a c left middle r)
+    let low = within i k (omega arith) r in
+    CopiesLead-append S (n - k) b a (CopiesLead-mirror R S n each within j k (n - k) b (omega (arith, low)) right rest) (omega (arith, low)) (each i k a (n - k) left (omega (arith, low)) r)
 
 -- what the expression matches is matched from its end by the mirrored one
 pub Matches-mirror : (e : Tree) (w : List ℕ) (i j a b : ℕ) → i + a ≡ length w → j + b ≡ length w → Matches e w i j → Matches (mirror e) (reverse w) b a
 Matches-mirror null_string w i j a b left right s = omega arith
 Matches-mirror (byte_of members) w i j a b left right s = grind (arith, get-reverse)
-Matches-mirror text_begin w i j a b left right s = let long = length-reverse w in (omega arith, omega arith)
+Matches-mirror text_begin w i j a b left right s = grind (arith, length-reverse w)
 Matches-mirror text_end w i j a b left right s = (omega arith, omega arith)
-Matches-mirror (sequence x y) w i j a b left right s =
-    let low : s.0 ≤ length w = Matches-within x w i s.0 (omega arith) s.1 in
-    let c = length w - s.0 in
-    let middle : s.0 + c ≡ length w = omega arith in
-    (c, Matches-mirror y w s.0 j c b middle right s.2, Matches-mirror x w i s.0 a c left middle s.1)
-Matches-mirror (either_of x y) w i j a b left right s =
-    ⊎_elim (λ (l : Matches x w i j). inl (Matches-mirror x w i j a b left right l)) (λ (r : Matches y w i j). inr (Matches-mirror y w i j a b left right r)) s
+Matches-mirror (sequence x y) w i j a b left right s = grind (arith, Matches-within, Matches-mirror x w i s.0 a (length w - s.0), Matches-mirror y w s.0 j (length w - s.0) b)
+Matches-mirror (either_of x y) w i j a b left right s = grind (arith, Matches-mirror x w i j a b, Matches-mirror y w i j a b)
 Matches-mirror (grouped k x) w i j a b left right s = Matches-mirror x w i j a b left right s
 Matches-mirror (any_copies x first) w i j a b left right s =
     CopiesLead-mirror (Matches x w) (Matches (mirror x) (reverse w)) (length w) (Matches-mirror x w) (Matches-within x w) j i a b left right s
-Matches-mirror (one_or_none x first) w i j a b left right s =
-    ⊎_elim (λ (e : i ≡ j). inl (let same : b ≡ a = omega arith in same)) (λ (h : Matches x w i j). inr (Matches-mirror x w i j a b left right h)) s
+Matches-mirror (one_or_none x first) w i j a b left right s = grind (arith, Matches-mirror x w i j a b)
 
 -- and nothing else is
 pub Matches-unmirror : (e : Tree) (w : List ℕ) (i j a b : ℕ) → i + a ≡ length w → j + b ≡ length w → Matches (mirror e) (reverse w) b a → Matches e w i j
-Matches-unmirror e w i j a b left right s =
-    let long = length-reverse w in
-    let back : Matches (mirror (mirror e)) (reverse (reverse w)) i j = Matches-mirror (mirror e) (reverse w) b a j i (omega arith) (omega arith) s in
-    subst (λ t. Matches t w i j) (mirror-mirror e) (subst (λ v. Matches (mirror (mirror e)) v i j) (reverse-reverse w) back)
+Matches-unmirror e w i j a b left right s = grind (arith, Matches-mirror (mirror e) (reverse w) b a j i, length-reverse w, mirror-mirror, reverse-reverse w)
 
 -- the same at the nodes of an expression
 pub HasSpan-mirror : (e nodes : WrittenExpression) (w bytes : List ℕ) (x i j a b : ℕ) → nodes ≡ seen true e → bytes ≡ reverse w → i + a ≡ length w → j + b ≡ length w →

@@ -1,8 +1,7 @@
 -- Members of a set that are marked, one byte after another.
-use Rattle.std.proofs.Common.{◌≡◌, ◌≢◌, ℕ, ◌+◌, ◌*◌, ◌/◌, ◌%◌, ◌^◌, ◌<◌, ◌≤◌, Bool, bit_or, w8, List, length, ap, sym, ◌∙◌, ⊎_elim, arith}
+use Rattle.std.proofs.Common.{ℕ, ◌+◌, ◌*◌, ◌/◌, ◌%◌, ◌^◌, ◌<◌, ◌≤◌, Bool, bit_or, w8, List, length, ⊎_elim, arith}
 use Rattle.std.specs.Prelude.{slice_index, slice_set}
-use Rattle.std.specs.Int.{bit_at}
-use Rattle.std.proofs.lemmas.Bool.{cases_lt, cases_eq}
+use Rattle.std.proofs.lemmas.Bool.{cases_lt}
 use Rattle.std.proofs.lemmas.List.{get_or-set_same, get_or-set_other}
 use Rattle.std.proofs.lemmas.Nat.Bits.{bit_at_or, bit_at_set_same, bit_at-lt}
 use Rattle.sedtext.specs.Sieve.{IsMarked}
@@ -20,16 +19,6 @@ module _ (set : List Bool) (rows : List ℕ) (byte : ℕ) where
       let row = bit_or (slice_index rows (byte % 16)) (1 * 2 ^ (byte / 16 % 8) % 256) in
       let new = bit_at_set_same w8 (slice_index rows (byte % 16)) (byte / 16 % 8) (omega arith) in
       ⊎_elim
-      (λ (less : c < byte).
-      let old = before c less is small in
-      ⊎_elim
-      (λ (same : c % 16 ≡ byte % 16).
-      ap (λ r. bit_at r (c / 16 % 8)) (ap (λ i. slice_index (slice_set rows (byte % 16) row) i) same ∙ get_or-set_same rows (byte % 16) row 0 inside)
-      ∙ (let set = ap (λ i. bit_at (slice_index rows i) (c / 16 % 8)) (sym same) ∙ old in omega (arith, set, bit_at_or (slice_index rows (byte % 16)) (1 * 2 ^ (byte / 16 % 8) % 256) (c / 16 % 8), bit_at-lt row (c / 16 % 8))))
-      (λ (apart : c % 16 ≢ byte % 16). ap (λ r. bit_at r (c / 16 % 8)) (get_or-set_other rows (byte % 16) (c % 16) row 0 apart) ∙ old)
-      (cases_eq (c % 16) (byte % 16)))
-      (λ (ge : byte ≤ c).
-      let e : c ≡ byte = omega arith in
-      ap (λ b. bit_at (slice_index (slice_set rows (byte % 16) row) (b % 16)) (b / 16 % 8)) e
-      ∙ ap (λ r. bit_at r (byte / 16 % 8)) (get_or-set_same rows (byte % 16) row 0 inside) ∙ new)
+      (λ (less : c < byte). grind (arith, before c less is small, get_or-set_same, get_or-set_other, bit_at_or (slice_index rows (byte % 16)) (1 * 2 ^ (byte / 16 % 8) % 256) (c / 16 % 8), bit_at-lt row (c / 16 % 8)))
+      (λ (ge : byte ≤ c). grind (arith, new, get_or-set_same))
       (cases_lt c byte)

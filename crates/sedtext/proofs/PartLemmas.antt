@@ -1,6 +1,6 @@
 -- The spans of groups lie in the text.
 use Rattle.std.proofs.lemmas.Grind.{common_steps}
-use Rattle.std.proofs.Common.{◌≡◌, ℕ, zero, suc, ◌≤◌, inl, inr, List, Option, Some, None, refl, sym, subst, ⊎_elim, arith}
+use Rattle.std.proofs.Common.{◌≡◌, ℕ, ◌≤◌, inl, inr, List, Option, Some, None, sym, subst, arith}
 use Rattle.std.specs.Prelude.{slice_set, replicate}
 use Rattle.sedre.specs.Tree.{Tree, sequence, either_of, grouped, any_copies, one_or_none}
 use Rattle.sedtext.specs.Spans.{Matches}
@@ -26,15 +26,8 @@ Lie-forget n (one_or_none a first) g old = Lie-forget n a g old
 Lie-forget n _ g old = old
 
 pub Captures-lie : (n : ℕ) (e : Tree) (w : List ℕ) (i j : ℕ) (old new : SpansOfGroups) → i ≤ j → j ≤ n → Captures e w i j old new → Lie n old → Lie n new
-Captures-lie n (sequence a b) w i j old new up high h lie =
-    let left = Matches-forward a w i h.0 h.1.left in
-    let right = Matches-forward b w h.0 j h.1.right in
-    Captures-lie n b w h.0 j h.2.0 new right high h.2.2 (Captures-lie n a w i h.0 old h.2.0 left (omega arith) h.2.1 lie)
-Captures-lie n (either_of a b) w i j old new up high h lie =
-    ⊎_elim
-    (λ (l : Matches a w i j × Captures a w i j old new). Captures-lie n a w i j old new up high l.1 lie)
-    (λ (r : (Matches a w i j → ⊥) × Captures b w i j old new). Captures-lie n b w i j old new up high r.1 lie)
-    h
+Captures-lie n (sequence a b) w i j old new up high h lie = grind (arith, Matches-forward, Captures-lie n a w i h.0 old h.2.0, Captures-lie n b w h.0 j h.2.0 new)
+Captures-lie n (either_of a b) w i j old new up high h lie = grind (arith, Captures-lie n a w i j old new, Captures-lie n b w i j old new)
 Captures-lie n (grouped k a) w i j old new up high h lie =
     subst (Lie n) (sym h.2) (Lie-set n h.0 k (Some (i, j)) (up, high) (Captures-lie n a w i j (forget (grouped k a) old) h.0 up high h.1 (Lie-forget n (grouped k a) old lie)))
 Captures-lie n (any_copies a first) w i j old new up high (inl h) lie =
@@ -50,11 +43,7 @@ Captures-lie n (one_or_none a first) w i j old new up high (inr (inr h)) lie = s
 Captures-lie n _ w i j old new up high h lie = subst (Lie n) (sym h) lie
 
 replicate_none : (m k : ℕ) → span_of (replicate m None) k ≡ None
-replicate_none zero k = refl
-replicate_none (suc m) zero = refl
-replicate_none (suc m) (suc k) = replicate_none m k
+replicate_none m k = grind (arith, common_steps)
 
 pub report_lies : (n : ℕ) (e : Tree) (w : List ℕ) (i j : ℕ) (groups : SpansOfGroups) → i ≤ j → j ≤ n → IsReport e w i j groups → Lie n groups
-report_lies n e w i j groups up high h =
-    subst (Lie n) (sym h.2) (Lie-set n h.0 0 (Some (i, j)) (up, high)
-    (Captures-lie n e w i j no_groups h.0 up high h.1 (λ k. subst (SpanIn n) (sym (replicate_none 10 k)) tt)))
+report_lies n e w i j groups up high h = grind (arith, Lie-set n h.0 0 (Some (i, j)), Captures-lie n e w i j no_groups h.0, replicate_none 10)

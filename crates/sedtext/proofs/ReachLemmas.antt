@@ -1,5 +1,5 @@
 -- What a node spans by its parts, and where these are entered.
-use Rattle.std.proofs.Common.{◌≡◌, ℕ, ◌≤◌, ◌⊎◌, ◌↔◌, Bool, false, List, Option, Some, None, IsTrue, refl, sym, subst, inl, inr, true≢false, arith}
+use Rattle.std.proofs.Common.{◌≡◌, ℕ, ◌≤◌, ◌⊎◌, ◌↔◌, Bool, false, List, Option, Some, IsTrue, sym, subst, inl, inr, true≢false, arith}
 use Rattle.std.specs.Prelude.{slice_get, slice_index_or}
 use Rattle.sedtext.specs.Spans.{CopiesLead, no_copy, Matches}
 use Rattle.sedre.specs.Arena.{IsArena, IsPart}
@@ -40,8 +40,7 @@ FromNode nodes w r p y c j (Opt a first) = Enters nodes w r p y j
 FromNode nodes w r p y c j _ = ⊥
 
 pub BeginsWith-part : (node : Node) (c : ℕ) → BeginsWith node c → IsPart node c
-BeginsWith-part (Seq a b) c h = inl h
-BeginsWith-part _ c h = h
+BeginsWith-part node c h = grind arith
 
 -- two nodes with one part are one
 pub same_node : (nodes : List Node) → IsArena nodes → (y z c : ℕ) (node other : Node) → slice_get nodes y ≡ Some node → slice_get nodes z ≡ Some other → IsPart node c → IsPart other c → (y ≡ z) × (node ≡ other)
@@ -49,8 +48,7 @@ same_node nodes arena y z c node other is is' part part' = grind arith
 
 -- a byte that is taken is there, and in the list
 pub takes_some : (byte : Option ℕ) (members : List Bool) → IsTrue (byte_is_in byte members) → (b : ℕ) × (byte ≡ Some b) × IsTrue (slice_index_or members b false)
-takes_some None members h = absurd (true≢false (sym h))
-takes_some (Some b) members h = (b, refl, h)
+takes_some byte members h = grind (arith, true≢false)
 
 -- nothing is entered before the first start
 pub Enters-from : (nodes : List Node) (w : List ℕ) (r : ℕ) (p : Starts) (x j : ℕ) → Enters nodes w r p x j → p.first ≤ j
@@ -82,10 +80,7 @@ module _ (nodes : List Node) (w : List ℕ) (r : ℕ) (p : Starts) (arena : IsAr
   ByNode c j = (z : ℕ) × (node : Node) × (slice_get nodes z ≡ Some node) × IsPart node c × (z ≤ r) × FromNode nodes w r p z c j node
 
   how_entered : (c j : ℕ) → Enters nodes w r p c j → ((c ≡ r) × IsStart p j) ⊎ ByNode c j
-  how_entered c j (at_root _ _ last begin) = inl (last, begin)
-  how_entered c j (with_whole z _ _ other is begins e) = inr (z, other, is, BeginsWith-part other c begins, Enters-inside z j e, FromNode-with_whole z c j other is begins e)
-  how_entered c j (after_left z _ i _ a b is right e at) = inr (z, Seq a b, is, inr right, Enters-inside z i e, inr (right, (i, e, at)))
-  how_entered c j (again z _ i _ a first is inner e at) = inr (z, Star a first, is, inner, Enters-inside z i e, (i, e, at))
+  how_entered c j at = grind (arith, BeginsWith-part, Enters-inside, FromNode-with_whole)
 
   -- a part is entered through its node alone
   pub Enters-part : (y : ℕ) → y ≤ r → (c j : ℕ) (node : Node) → slice_get nodes y ≡ Some node → IsPart node c → Enters nodes w r p c j → FromNode nodes w r p y c j node

@@ -5,11 +5,9 @@ use Rattle.std.proofs.lemmas.Grind.{common_steps}
 use Rattle.std.proofs.lemmas.Option.{slice_get_within, get_or_from_slice_get, slice_get-get_or}
 use Rattle.memchr.specs.Find.{IsFirst, OccursAt}
 use Rattle.sedre.specs.Tree.{Tree}
-use Rattle.sedre.specs.declared.types.Node.{Node}
 use Rattle.sedre.specs.Sets.{has, only}
 use Rattle.sedre.specs.WordLaws.{has-set_of}
 use Rattle.std.proofs.lemmas.Bool.Decides.{Decides-eqb}
-use Rattle.sedtext.specs.Links.{ChainLeads}
 use Rattle.sedtext.specs.Spans.{IsIn, NotFound}
 use Rattle.sedtext.specs.Required.{AllHold, FirstLiteral, IsLiteral, IsRequired, Narrowed}
 use Rattle.sedtext.specs.declared.links.Link.{Link}
@@ -22,10 +20,6 @@ use Rattle.sedtext.proofs.LinkLemmas.{chain_on}
 occurs_iff : (w bytes after : List ℕ) (byte i : ℕ) → after ≡ bytes ++ byte ∷ [] → OccursAt w after i ↔ (OccursAt w bytes i × (slice_get w (i + length bytes) ≡ Some byte))
 occurs_iff w bytes after byte i is = grind (arith, common_steps, slice_get_within, get_or_from_slice_get, slice_get-get_or)
 
-chain_byte : (nodes : List Node) (w : List ℕ) (s : List Bool) (byte : ℕ) (links : List Link) (p r j : ℕ) → IsIn byte s → ((c : ℕ) → IsIn c s → c ≡ byte) → r ≡ p + 1 →
-    ChainLeads nodes w (Byte s ∷ links) p j ↔ ((slice_get w p ≡ Some byte) × ChainLeads nodes w links r j)
-chain_byte nodes w s byte links p r j is alone next = grind arith
-
 pub one_longer : (links : List Link) (q byte : ℕ) (bytes after : List ℕ) (s : List Bool) → IsLiteral links q bytes → q + length bytes < length links →
     Byte s ≡ slice_index_or links (q + length bytes) (Byte s) → s ≡ only byte → ((c : ℕ) → IsIn c s → c ≡ byte) → byte < 256 → after ≡ bytes ++ byte ∷ [] → IsLiteral links q after
 one_longer links q byte bytes after s literal inside here sole alone fits is =
@@ -35,13 +29,7 @@ one_longer links q byte bytes after s literal inside here sole alone fits is =
     let opened : drop (q + n) links ≡ Byte s ∷ drop (q + length after) links = drop-cons links (q + n) (Byte s) inside ∙ ap (λ v. v ∷ drop (suc (q + n)) links) (sym here) ∙ ap (λ v. Byte s ∷ drop v links) next in
     let member : IsIn byte s = ap (λ v. has v byte) sole ∙ has-set_of (λ c. c == byte) byte fits ∙ (Decides-eqb byte byte).1 refl in (
       omega (arith, long, inside),
-      λ nodes w i j within.
-          let old = literal.1 nodes w i j within in
-          let step = chain_byte nodes w s byte (drop (q + length after) links) (i + n) (i + length after) j member alone (omega (arith, long)) in
-          let both = occurs_iff w bytes after byte i is in (
-            (λ at. let f = old.0 at in let g = step.0 (subst (λ v. ChainLeads nodes w v (i + n) j) opened f.1) in (both.1 (f.0, g.0), g.1)),
-            (λ h. let f = both.0 h.0 in old.1 (f.0, subst (λ v. ChainLeads nodes w v (i + n) j) (sym opened) (step.1 (f.1, h.1)))),
-          ),
+      λ nodes w i j within. grind (arith, opened, literal.1 nodes w i j within, member, alone, long, occurs_iff w bytes after byte i is),
     )
 
 -- a literal of the chain
@@ -65,11 +53,8 @@ module _ (e : Tree) (w : List ℕ) (p : ℕ) (n : RequiredLiteral) (holds : IsRe
 
   -- where each match begins with it, none begins before it
   pub required_first : (place : ℕ) → IsTrue n.is_prefix → FirstLiteral w n.finder p (Some place) → Narrowed e w p (Some place)
-  required_first place is_prefix first =
-      let within : place ≤ length w = omega (arith, first.1.fits) in (
-        first.0,
-        within,
-        λ i k low lt s.
-            let h = holds w i k (omega arith) s in
-            first.2 i low lt (subst (OccursAt w n.finder) (h.2 is_prefix) h.3),
-      )
+  required_first place is_prefix first = (
+    first.0,
+    omega (arith, first.1.fits),
+    λ i k low lt s. let h = holds w i k (omega (arith, first.1.fits)) s in first.2 i low lt (subst (OccursAt w n.finder) (h.2 is_prefix) h.3),
+  )

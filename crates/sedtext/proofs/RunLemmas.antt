@@ -10,7 +10,7 @@ use Rattle.sedtext.proofs.SpanLemmas.{CopiesLead-forward}
 
 -- no byte is at the end of the text
 pub stops_behind : (members : List Bool) (w : List ℕ) (place : ℕ) → length w ≤ place → MemberAt members w place → ⊥
-stops_behind members w place long can = let inside = slice_get_within w place can.0 can.1 in absurd (omega arith)
+stops_behind members w place long can = grind (arith, slice_get_within)
 
 -- a run goes forward
 pub run_forward : (members : List Bool) (w : List ℕ) (i k : ℕ) → IsRun members w i k → i ≤ k
@@ -19,7 +19,7 @@ run_forward members w i k run = CopiesLead-forward (Matches (byte_of members) w)
 -- the longest of the copies is the run
 pub run_longest : (members : List Bool) (w : List ℕ) (i k : ℕ) → IsRun members w i k →
     (k ≤ length w) × SetRepeats members w i k × ((j : ℕ) → SetRepeats members w i j → j ≤ k)
-run_longest members w i k run = (run.0, run.1, λ j copies. grind (arith, run_forward members w i k run, repeated_in members w k j i, run.2, copies))
+run_longest members w i k run = grind (arith, run_forward members w i k run, repeated_in members w k)
 
 -- copies of relations of which one has what the other has
 pub copies_alike : (R S : ℕ → ℕ → Type 0) → ((p q : ℕ) → R p q → S p q) → (j i : ℕ) → CopiesLead R j i → CopiesLead S j i

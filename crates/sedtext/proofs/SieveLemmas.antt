@@ -1,9 +1,9 @@
 -- Where bytes of three sets are, and bytes of one.
-use Rattle.std.proofs.Common.{Bool, ◌≡◌, ◌≢◌, ℕ, ◌+◌, ◌-◌, ◌<◌, ◌≤◌, List, length, max, ap, subst, ⊎_elim, arith, w64, ◌∙◌, Option, Some, None}
+use Rattle.std.proofs.Common.{Bool, ◌≡◌, ◌≢◌, ℕ, ◌+◌, ◌-◌, ◌<◌, ◌≤◌, List, length, max, arith, w64, Option, Some, None}
 use Rattle.std.specs.Prelude.{IfSome}
 use Rattle.sedtext.specs.Beginnings.{NextStart}
 use Rattle.sedtext.specs.declared.beginnings.Begins.TheVariants.{Before, With}
-use Rattle.std.specs.Int.{bit_at, trailing_zeros}
+use Rattle.std.specs.Int.{trailing_zeros}
 use Rattle.std.proofs.lemmas.Bool.{cases_lt}
 use Rattle.std.proofs.lemmas.Nat.Bits.{bit_at_above, bit_at-trailing_zeros, bit_at-zero}
 use Rattle.std.proofs.lemmas.Option.{slice_get_within}
@@ -13,28 +13,19 @@ use Rattle.sedtext.specs.declared.counted.sieve.Sieve.{Sieve}
 
 -- none up to a place, and none from there on
 pub none_on : (P : ℕ → Type 0) (p q n : ℕ) → ((i : ℕ) → p ≤ i → i < q → P i → ⊥) → ((i : ℕ) → q ≤ i → i < n → P i → ⊥) → (i : ℕ) → p ≤ i → i < n → P i → ⊥
-none_on P p q n before after i low high is = ⊎_elim (λ (less : i < q). before i low less is) (λ (ge : q ≤ i). after i ge high is) (cases_lt i q)
+none_on P p q n before after i low high is = grind (arith, cases_lt i q)
 
 module _ (P : ℕ → Type 0) (p marks : ℕ) (are : MarksPlaces P p marks) where
   -- no mark is set
   pub none_marked : marks ≡ 0 → (i : ℕ) → p ≤ i → i < p + 32 → P i → ⊥
-  none_marked none i low high is =
-      let set = are.1 (i - p) (omega arith) (subst P (let e : i ≡ p + (i - p) = omega arith in e) is) in
-      let clear = ap (λ m. bit_at m (i - p)) none ∙ bit_at-zero (i - p) in
-      absurd (omega (arith, set, clear))
+  none_marked none i low high is = grind (arith, are.1 (i - p), bit_at-zero)
 
   -- the lowest mark that is set
   pub first_marked : marks ≢ 0 → (trailing_zeros w64 marks < 32) × ((i : ℕ) → p ≤ i → i < p + trailing_zeros w64 marks → P i → ⊥)
   first_marked some =
       let lowest = bit_at-trailing_zeros w64 marks (omega (arith, some)) (omega (arith, are.0)) in
-      let k = trailing_zeros w64 marks in
-      let few : k < 32 =
-      ⊎_elim (λ (less : k < 32). less) (λ (ge : 32 ≤ k). absurd (omega (arith, bit_at_above marks 32 k are.0 ge, lowest.1))) (cases_lt k 32) in (
-        few,
-        λ i low high is.
-            let set = are.1 (i - p) (omega (arith, few)) (subst P (let e : i ≡ p + (i - p) = omega arith in e) is) in
-            absurd (omega (arith, set, lowest.2 (i - p) (omega (arith, high)))),
-      )
+      let few : trailing_zeros w64 marks < 32 = grind (arith, lowest, bit_at_above marks 32 (trailing_zeros w64 marks) are.0) in
+      (few, λ i low high is. grind (arith, few, lowest, are.1 (i - p)))
 
 -- a place after which they come is farther from the end than the greatest distance
 pub passes_within : (s : Sieve) (w : List ℕ) (i : ℕ) → PassesSieve s w i → i + max (max s.first.offset s.second.offset) s.third.offset < length w

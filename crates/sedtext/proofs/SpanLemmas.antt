@@ -1,5 +1,5 @@
 -- Spans go forward, and copies can be cut and joined at their end.
-use Rattle.std.proofs.Common.{◌≡◌, ℕ, ◌<◌, ◌≤◌, ◌⊎◌, List, length, refl, subst, inl, inr, ⊎_elim, arith}
+use Rattle.std.proofs.Common.{◌≡◌, ℕ, ◌<◌, ◌≤◌, ◌⊎◌, List, length, refl, inl, ⊎_elim, arith}
 use Rattle.std.proofs.lemmas.Option.{slice_get_within}
 use Rattle.sedre.specs.Tree.{Tree, byte_of, sequence, either_of, grouped, any_copies, one_or_none}
 use Rattle.sedtext.specs.Spans.{CopiesLead, no_copy, one_more, Matches}
@@ -37,8 +37,4 @@ CopiesLead-append R k i j (one_more _ l step first rest) lt r = one_more i l ste
 -- without a copy nothing is spanned, else there is a last one
 pub CopiesLead-last : (R : ℕ → ℕ → Type 0) (j i : ℕ) → CopiesLead R j i → (i ≡ j) ⊎ ((k : ℕ) × CopiesLead R k i × (k < j) × R k j)
 CopiesLead-last R j i no_copy = inl refl
-CopiesLead-last R j i (one_more _ k lt r rest) =
-    ⊎_elim
-    (λ (e : k ≡ j). inr (i, no_copy, omega arith, subst (λ v. R i v) e r))
-    (λ (h : (l : ℕ) × CopiesLead R l k × (l < j) × R l j). inr (h.0, one_more i k lt r h.1, h.2, h.3))
-    (CopiesLead-last R j k rest)
+CopiesLead-last R j i (one_more _ k lt r rest) = grind (arith, one_more, no_copy, CopiesLead-last R j k rest)

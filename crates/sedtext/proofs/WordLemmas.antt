@@ -1,5 +1,5 @@
 -- Marks as words of 64.
-use Rattle.std.proofs.Common.{[], ◌≡◌, ◌≢◌, ℕ, ◌*◌, ◌+◌, ◌/◌, ◌%◌, ◌^◌, ◌<◌, ◌≤◌, Bool, false, List, length, sym, ap, ◌∙◌, ◌⊎◌, ⊎_elim, inl, inr, subst, mul-le-mul_left, arith}
+use Rattle.std.proofs.Common.{[], ◌≡◌, ◌≢◌, ℕ, ◌*◌, ◌+◌, ◌/◌, ◌%◌, ◌^◌, ◌<◌, ◌≤◌, Bool, false, List, length, sym, ap, ◌∙◌, ◌⊎◌, mul-le-mul_left, arith}
 use Rattle.std.specs.Prelude.{eqb, slice_index_or, slice_set, replicate}
 use Rattle.std.specs.Int.{bit_at}
 use Rattle.sedre.specs.Words.{is_set}
@@ -26,11 +26,7 @@ table-is f n xs long same = grind (arith, get_or_default, length-table, same_lis
 table-set : (f g : ℕ → Bool) (n i : ℕ) (v : Bool) → i < n → g i ≡ v → ((k : ℕ) → k < n → k ≢ i → g k ≡ f k) → tabulated g n ≡ slice_set (tabulated f n) i v
 table-set f g n i v lt here other =
     table-is g n (slice_set (tabulated f n) i v) (length-set (tabulated f n) i v ∙ length-table f n)
-    (λ k low.
-    ⊎_elim
-    (λ (e : k ≡ i). subst (λ x. g x ≡ slice_index_or (slice_set (tabulated f n) i v) x false) (sym e) (here ∙ sym (get_or-set_same (tabulated f n) i v false (omega (arith, length-table f n, lt)))))
-    (λ (ne : k ≢ i). other k low ne ∙ sym (table-get f n k false low) ∙ sym (get_or-set_other (tabulated f n) i k v false ne))
-    (cases_eq k i))
+    (λ k low. grind (arith, here, other k low, cases_eq k i, length-table f n, get_or-set_same, get_or-set_other, table-get f n))
 
 pub zero_unmarked : (words : List ℕ) (i : ℕ) → slice_index_or words (i / 64) 0 ≡ 0 → is_set words i ≡ false
 unfolding is_set
@@ -57,10 +53,7 @@ pub row_clear : (words : List ℕ) (width n : ℕ) → n ≤ 64 * width → word
 unfolding row_at
 row_clear words width n fits is =
     rows_of-get words width n 1 0 (omega arith)
-    ∙ table-is (λ k. is_set words (64 * (width * 0) + k)) n (replicate n false) (length-replicate n false)
-    (λ k lt.
-    let at = 64 * (width * 0) + k in
-    zero_unmarked words at (ap (λ (l : List ℕ). slice_index_or l (at / 64) 0) is ∙ get_or-replicate width (at / 64) 0 0 (omega arith)) ∙ sym (get_or-replicate n k false false lt))
+    ∙ table-is (λ k. is_set words (64 * (width * 0) + k)) n (replicate n false) (length-replicate n false) (λ k lt. grind (arith, zero_unmarked, get_or-replicate))
 
 -- a mark is a bit
 row_mark : (words : List ℕ) (width marks n q i : ℕ) → q < n → i < marks → slice_index_or (row_of (rows_of words width marks n) q) i false ≡ is_set words (64 * (width * q) + i)
@@ -79,29 +72,17 @@ pub marked_same : (words other : List ℕ) (base from i : ℕ) → slice_index_o
 unfolding is_set
 marked_same words other base from i same = grind arith
 
-marked_kept : (words after : List ℕ) (i : ℕ) → slice_index_or after (i / 64) 0 ≡ slice_index_or words (i / 64) 0 → is_set after i ≡ is_set words i
-unfolding is_set
-marked_kept words after i same = ap (λ v. eqb (bit_at v (i % 64)) 1) same
-
 -- a row whose words are the same is the same
 row_kept : (words after : List ℕ) (width marks q : ℕ) → marks ≤ 64 * width →
     ((k : ℕ) → k < width → slice_index_or after (width * q + k) 0 ≡ slice_index_or words (width * q + k) 0) → row_at after width marks q ≡ row_at words width marks q
-unfolding row_at
+unfolding row_at is_set
 row_kept words after width marks q low same =
     table-is (λ k. is_set after (64 * (width * q) + k)) marks (tabulated (λ k. is_set words (64 * (width * q) + k)) marks) (length-table (λ k. is_set words (64 * (width * q) + k)) marks)
-    (λ i lt.
-    let place : (64 * (width * q) + i) / 64 ≡ width * q + i / 64 = omega arith in
-    marked_kept words after (64 * (width * q) + i)
-    (subst (λ x. slice_index_or after x 0 ≡ slice_index_or words x 0) (sym place) (same (i / 64) (omega arith)))
-    ∙ sym (table-get (λ k. is_set words (64 * (width * q) + k)) marks i false lt))
+    (λ i lt. grind (arith, table-get, same (i / 64)))
 
 -- words of one row are not those of another
 row_apart : (width q p k c : ℕ) → k < width → c ≤ width → q ≢ p → (width * q + k < width * p) ⊎ (width * p + c ≤ width * q + k)
-row_apart width q p k c lt low apart =
-    ⊎_elim
-    (λ (less : q < p). inl (let up : q + 1 ≤ p = omega arith in omega (arith, mul-le-mul_left width up)))
-    (λ (more : p ≤ q). inr (let up : p + 1 ≤ q = omega arith in omega (arith, mul-le-mul_left width up)))
-    (cases_lt q p)
+row_apart width q p k c lt low apart = grind (arith, cases_lt q p, mul-le-mul_left {m = q + 1} {n = p} width, mul-le-mul_left {m = p + 1} {n = q} width)
 
 -- what is known of the words of a row, for rows that contracts see as a list
 module _ (r : Inside) (seen : List (List Bool)) (is : rows_of r.words.items r.width r.marks r.count ≡ seen) (inside : (r.marks ≤ 64 * r.width) × (r.width * r.count ≤ length r.words.items)) where

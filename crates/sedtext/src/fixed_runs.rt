@@ -36,6 +36,7 @@ pub fn fixed_run_of(chain: &[Link]) -> Option<(ByteSet, usize)>
 /// The first place from `from` on at which `count` bytes in a row begin that are in the set, if there is one.
 /// Counts a look for each byte from `from` to their end.
 #[inline(never)]
+#[tactic(auto, using(crate::proofs::FixedRunLemmas::repeating), unfolding(sedre::specs::Steps::TakesAtLeast, sedre::specs::Steps::IsCounted))]
 pub fn find_fixed_run(
     set: &ByteSet,
     count: usize,

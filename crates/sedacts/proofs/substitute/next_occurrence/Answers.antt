@@ -1,11 +1,16 @@
 use Rattle.std.proofs.Common.{rules, ◌∙◌, length, None, Some, arith, refl, sym}
 use Rattle.std.proofs.lemmas.Bool.{false≢true}
 use Rattle.sedacts.proofs.DecidingGroups.{takes_none, shown_paid, none_paid}
+use Rattle.sedacts.specs.SubstituteParts.{IsNextOccurrence}
+use Rattle.sedacts.proofs.substitute.next_occurrence.Goals.{In_ok-span}
 use Rattle.sedacts.proofs.substitute.next_occurrence.Goals as goal
+
+found : (c : In_ok-span) → IsNextOccurrence c.args.matcher.now c.args.text.now c.args.last (Some c.in_ok-span.span)
+found c = search rules
 
 pub returns-then-wanted : goal.returns-then-wanted
 returns-then-wanted c = record {
-  next = search rules;
+  next = found (goal.at.returns-then-wanted c).In_ok-span;
   groups = λ shown. let w = c.decide_groups.ensures in (rw c.in_ok-span.ensures.same at w.groups, w.groups_in);
   same = let w = c.decide_groups.ensures in (w.same ∙ c.in_ok-span.ensures.same, w.scratch ∙ c.in_ok-span.ensures.scratch);
   serves = rw c.new.ensures at c.in_ok-span.ensures.serves;

@@ -2,19 +2,20 @@ use Rattle.std.proofs.Common.{◌∙◌, ℕ, ◌+◌, ◌-◌, ◌/◌, refl, s
 use Rattle.sedpass.specs.Decide.{AreRoomy, AreTables, HasSpace, SameRooms}
 use Rattle.sedpass.specs.Table.{IsRoomy, IsTable, SameRoom}
 use Rattle.sedpass.specs.declared.groups.Tables.{Tables}
-use Rattle.sedpass.specs.declared.nodes.Prepared.{Prepared}
+use Rattle.sedre.specs.Tree.{WrittenExpression}
 use Rattle.sedpass.specs.declared.table.Table.{Table}
 use Rattle.sedpass.proofs.DecideLemmas.{space_again}
 use Rattle.sedpass.proofs.TableLemmas.{roomy_still}
 use Rattle.sedmatch.proofs.passes.shared_groups.Goals as goal
 
 -- tables that were fitted to an expression and served it have all their room
-all_used : (m : ℕ) (p : Prepared) (t fitted after : Tables) → AreRoomy m t → SameRooms t fitted → SameRooms fitted after → AreTables p after → AreRoomy m after
+all_used : (m : ℕ) (p : WrittenExpression) (t fitted after : Tables) → AreRoomy m t → SameRooms t fitted → SameRooms fitted after → AreTables p after → AreRoomy m after
 all_used m p t fitted after roomy fit same are = record {
   ways = are.ways;
   forward_any = one t.forward_any fitted.forward_any after.forward_any roomy.forward_any fit.forward_any same.forward_any are.forward_any;
   reverse_one = one t.reverse_one fitted.reverse_one after.reverse_one roomy.reverse_one fit.reverse_one same.reverse_one are.reverse_one;
   forward_one = one t.forward_one fitted.forward_one after.forward_one roomy.forward_one fit.forward_one same.forward_one are.forward_one;
+  forward_part = one t.forward_part fitted.forward_part after.forward_part roomy.forward_part fit.forward_part same.forward_part are.forward_part;
 }
   where
     one : (u v w : Table) → IsRoomy m u → SameRoom u v → SameRoom v w → IsTable p w → IsRoomy m w

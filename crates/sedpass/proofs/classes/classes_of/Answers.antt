@@ -27,9 +27,8 @@ loop-i-preserved c =
       | in-Some-2 w ↦
           let byte = w.in-Some.byte in
           let fits : byte < 256 = omega (arith, rw w.in-Some.is at c.sole.type_inv) in
-          let marked = get_or-set_same alone byte true false (omega (arith, c.loop-i.invariant.each, fits)) in
-          rw (w.classes-is, w.alone-is) (alone_more sets i here (slice_set alone byte true) byte (slice_set old.of byte old.count) (old.count + 1) read w.in-Some.ensures.member marked
-          (apart_more sets i alone byte old.of old.count w.if-classes-lt256.true fits c.loop-i.invariant))
+          rw (w.classes-is, w.alone-is) (alone_more sets i here (slice_set alone byte true) byte (slice_set old.of byte old.count) (old.count + 1) read w.in-Some.ensures.member
+          (get_or-set_same alone byte true false (omega (arith, c.loop-i.invariant.each, fits))) (apart_more sets i alone byte old.of old.count w.if-classes-lt256.true fits c.loop-i.invariant))
       | in_default w ↦ rw (w.classes-is, w.alone-is) (parted_more sets i w.index-sets-i-in_default.result alone old.of _ old.count _
           (slice_get_read sets (length sets) i w.index-sets-i-in_default.result refl (omega arith) w.index-sets-i-in_default.is) c.loop-i.invariant w.split-classes.ensures)
     ]

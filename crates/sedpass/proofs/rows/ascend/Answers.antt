@@ -11,7 +11,7 @@ pub loop-x-preserved : goal.loop-x-preserved
 unfolding TakesAtLeast IsCounted
 loop-x-preserved c =
     let act = c.args.act in
-    let e = act.prepared.now.arena.expr in
+    let e = act.prepared.now in
     let nodes = nodes_of act.way e in
     let x = c.loop-x.x in
     let node = c.look-node.result in
@@ -34,6 +34,4 @@ loop-x-preserved c =
 
 pub returns-clause-ended : goal.returns-clause-ended
 returns-clause-ended c w s place nulls took n there =
-    let from = (c.low-low.ensures.range c.args.act.way.mirrored n).1 there in
-    let high = from.1 in
-    c.loop-x.invariant.ended w s place nulls took n (there, omega arith)
+    c.loop-x.invariant.ended w s place nulls took n (there, omega (arith, ((c.low-low.ensures.range c.args.act.way.mirrored n).1 there).1))

@@ -7,13 +7,13 @@ abbrev pub invariant-loop-start : goal.invariant-loop-start
 invariant-loop-start l = record {
   forward_one : IsForwardOne l.subject.prepared.now l.forward_one;
   forward_one_shape : SameShape l.initial.forward_one l.forward_one;
-  none : NoneIn (expression_tree l.subject.prepared.now.arena.expr) l.subject.text.now l.from l.start;
+  none : NoneIn (expression_tree l.subject.prepared.now) l.subject.text.now l.from l.start;
   after : l.from ≤ l.start;
   within : l.start ≤ length l.subject.text.now + 1;
   few : l.start ≤ length l.subject.text.now → l.tried ≤ max l.initial.tried (length l.subject.text.now / 8);
   room : l.tried ≤ max l.initial.tried (length l.subject.text.now / 8) + (length l.subject.text.now + 1 - l.from);
   counts : TakesAtLeast l.initial.steps l.steps (l.start - l.from);
-  cost : CostsWithin l.initial.steps l.steps (40 * length l.subject.prepared.now.arena.expr.nodes * l.tried + 3 * l.start) (40 * length l.subject.prepared.now.arena.expr.nodes * l.initial.tried + 3 * l.from);
+  cost : CostsWithin l.initial.steps l.steps (40 * length l.subject.prepared.now.nodes * l.tried + 3 * l.start) (40 * length l.subject.prepared.now.nodes * l.initial.tried + 3 * l.from);
 }
 
 abbrev pub decreases-loop-start : goal.decreases-loop-start

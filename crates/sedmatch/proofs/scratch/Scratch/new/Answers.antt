@@ -5,22 +5,16 @@ use Rattle.sedmatch.proofs.scratch.Scratch.new.Goals as goal
 pub invariant_of-result : goal.invariant_of-result
 invariant_of-result c =
     let text = c.args.max_text in
-    let block = c.width_for-block.result in
-    let room = c.in_ok-new.field-0 in
     let made = c.in_ok-new.ensures in
-    let edges = made.edges in
     let reverse_any = c.in_ok-with_room.ensures.table in
     let shared = c.in_ok-with_room-2.ensures in
-    let states = shared.room.0 in
-    let width : c.in_ok-with_room-2.field-0.reverse_one.room - 1 ≡ block = omega (arith, states) in
-    let few = c.width_for-block.ensures.blocks c.requires.text in (
+    let width : c.in_ok-with_room-2.field-0.reverse_one.room - 1 ≡ c.width_for-block.result = omega (arith, shared.room.0) in (
       record {
-        space = subst (λ v. HasSpace text (text / v + 1) c.args.max_nodes room) (sym width) made;
+        space = subst (λ v. HasSpace text (text / v + 1) c.args.max_nodes c.in_ok-new.field-0) (sym width) made;
         reverse_any = (reverse_any.0, reverse_any.1);
-        states = reverse_any.2 ∙ sym states;
+        states = reverse_any.2 ∙ sym shared.room.0;
         shared = shared.tables;
-        few = omega (arith, edges, few);
+        few = omega (arith, made.edges, c.width_for-block.ensures.blocks c.requires.text);
       },
-      c.in_ok-prepared.ensures.nodes,
-      c.in_ok-prepared.ensures.facts,
+      c.in_ok-analysis.ensures,
     )

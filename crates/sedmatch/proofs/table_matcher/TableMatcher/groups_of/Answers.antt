@@ -1,9 +1,8 @@
 use Rattle.std.proofs.Common.{◌≡◌, ℕ, zero, suc, ◌+◌, ◌-◌, ◌*◌, ◌≤◌, ap, arith, mul-le-mul_left, length, rules}
 use Rattle.sedre.specs.Tree.{expression_tree}
-use Rattle.sedmatch.specs.Passes.{searched_expression, AnswersGroups}
+use Rattle.sedmatch.specs.Passes.{AnswersGroups}
 use Rattle.sedtext.proofs.MatchingLemmas.{report-iff}
 use Rattle.sedtext.proofs.PartLemmas.{report_lies}
-use Rattle.sedmatch.proofs.MatcherLemmas.{direct_is, passes_are}
 use Rattle.sedmatch.proofs.table_matcher.TableMatcher.groups_of.Goals.{in-Direct, in-Passes}
 use Rattle.sedmatch.proofs.table_matcher.TableMatcher.groups_of.Goals as goal
 
@@ -15,26 +14,16 @@ square (suc n) = omega arith
 groups_within : (m n long : ℕ) → long ≤ n → 172 * m * (m - 1) * long + 2 * m ≤ 51 * m * m * (n + 1) * (n + 1)
 groups_within zero n long few = omega arith
 groups_within (suc k) n long few =
-    let m = suc k in
-    let is : m ≡ k + 1 = omega arith in
-    let sq = square n in
-    let ksq = mul-le-mul_left k sq in
-    let inner : 172 * (k * n) + 2 ≤ 51 * (k + 1) * (n + 1) * (n + 1) = omega (arith, sq, ksq) in
-    let a = mul-le-mul_left m inner in
-    let b : 51 * m * m * (n + 1) * (n + 1) ≡ 51 * m * (k + 1) * (n + 1) * (n + 1) = ap (λ v. 51 * m * v * (n + 1) * (n + 1)) is in
-    let c : 172 * m * (m - 1) * long ≡ 172 * m * k * long = ap (λ v. 172 * m * v * long) (omega arith) in
-    let d = mul-le-mul_left (172 * m * k) few in
-    omega (arith, a, b, c, d)
+    let same : 172 * suc k * (suc k - 1) * long ≡ 172 * suc k * k * long = ap (λ v. 172 * suc k * v * long) (omega arith) in
+    omega (arith, same, mul-le-mul_left (172 * suc k * k) few, square n, mul-le-mul_left k (square n), mul-le-mul_left (k * k) (square n))
 
 answered : (c : goal.Joined-self) → AnswersGroups c.args.self.now c.args.text.now (c.args.start, c.args.end) c.args.steps.now c.match-self.steps c.match-self.result
 answered c =
     elim c.match-self.branch [
       | in-Direct w ↦
-          let is = direct_is c.self.inside.engine c.args.self.now w.in-Direct.field-0 w.in-Direct.field-1 c.self.view_is c.self.invariant w.in-Direct.is in
+          let is = rw (c.self.view_is, w.in-Direct.is) at c.self.invariant in
           rw (w.result-is, w.steps-is) (w.whole_alone.ensures c.args.self.now c.args.text.now c.args.steps.now is.2 is.1 c.requires.spans)
-      | in-Passes w ↦
-          let is = passes_are c.self.inside.engine c.args.self.now w.deref_mut.result.now _ c.self.view_is (ap searched_expression w.in-Passes.is) w.deref_mut.ensures.value in
-          rw (w.result-is, w.steps-is) (rw is at w.groups_by.ensures.answered)
+      | in-Passes w ↦ rw (w.result-is, w.steps-is) (rw c.self.view_is at w.groups_by.ensures.answered)
     ]
 
 pub returns : goal.returns

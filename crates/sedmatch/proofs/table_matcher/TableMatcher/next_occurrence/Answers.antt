@@ -1,4 +1,4 @@
-use Rattle.std.proofs.Common.{◌≡◌, ◌∙◌, ℕ, zero, suc, ◌+◌, ◌-◌, ◌*◌, ◌≤◌, Bool, true, false, List, Option, Some, None, IfSome, IsTrue, refl, ap, arith, mul-le-mul_left, mul-add, length, rules}
+use Rattle.std.proofs.Common.{◌≡◌, ◌∙◌, ℕ, ◌+◌, ◌-◌, ◌*◌, ◌≤◌, List, Option, Some, None, IfSome, IsTrue, ap, arith, mul-add, length, rules}
 use Rattle.std.proofs.Math.Nat.{mul-le-mul_right}
 use Rattle.sedre.specs.Steps.{Takes, CostsWithin}
 use Rattle.sedre.specs.Tree.{WrittenExpression, expression_tree}
@@ -6,49 +6,32 @@ use Rattle.sedtext.specs.Following.{LiesOn}
 use Rattle.sedpass.proofs.OccurrenceLemmas.{search_falls}
 use Rattle.sedmatch.proofs.OccurrenceLemmas.{owed_as}
 use Rattle.sedmatch.specs.Occurrences.{ServesFrom, ServesOn, owed, owed_after, owed_direct, AnswersNext}
-use Rattle.sedmatch.specs.Passes.{searched_expression}
 use Rattle.sedmatch.specs.declared.occurrences.Occurrences.{Occurrences}
 use Rattle.sedpass.specs.Search.{owed_after_search}
 use Rattle.sedtext.proofs.FollowingLemmas.{if_occurs}
-use Rattle.sedmatch.proofs.MatcherLemmas.{direct_is, passes_are}
 use Rattle.sedmatch.proofs.table_matcher.TableMatcher.next_occurrence.Goals.{in-Direct, in-Passes}
 use Rattle.sedmatch.proofs.table_matcher.TableMatcher.next_occurrence.Goals as goal
 
 -- a node at least pays for looks
 direct_owed : (m n : ℕ) (last : Option ℕ) (o : Occurrences) (r : Option (ℕ × ℕ)) (s t : ℕ) → 1 ≤ m → (last ≡ None → IsTrue o.is_fresh) → IfSome r (LiesOn n last) → CostsWithin s t (owed_direct n last) (owed_after_search (λ q. owed_direct n (Some q)) r) →
     CostsWithin s t (owed m n last o) (owed_after m n r o)
-direct_owed m n None o None s t some fresh lies pays = (pays.0, omega (arith, mul-le-mul_right (n + 1) some, pays.1))
-direct_owed m n None o (Some f) s t some fresh lies pays = (pays.0, omega (arith, mul-le-mul_right (n + 1) some, owed_as m n f.1 o true (fresh refl), pays.1))
-direct_owed m n (Some q) o r s t some fresh lies pays = (pays.0, by o.is_fresh refl r lies pays.1)
-  where
-    by : (b : Bool) → o.is_fresh ≡ b → (r : Option (ℕ × ℕ)) → IfSome r (LiesOn n (Some q)) → t + owed_after_search (λ q. owed_direct n (Some q)) r ≤ s + owed_direct n (Some q) → t + owed_after m n r o ≤ s + owed m n (Some q) o
-    by true is None lies h = omega (arith, owed_as m n q o true is, h)
-    by true is (Some f) lies h = omega (arith, owed_as m n q o true is, owed_as m n f.1 o true is, h)
-    by false is None lies h = omega (arith, owed_as m n q o false is, mul-le-mul_right (n + 1 - q) some, h)
-    by false is (Some f) lies h =
-        let up : q ≤ f.1 = omega (arith, lies.2.1) in
-        let rest : n + 1 - q ≡ n + 1 - f.1 + (f.1 - q) = omega (arith, up, lies.1) in
-        let all : 86 * m * (n + 1 - q) ≡ 86 * m * (n + 1 - f.1) + 86 * m * (f.1 - q) = ap (λ x. 86 * m * x) rest ∙ mul-add (86 * m) (n + 1 - f.1) (f.1 - q) in
-        omega (arith, rest, all, mul-le-mul_right (f.1 - q) some, search_falls m n o.seeking q f.1 up, owed_as m n q o false is, owed_as m n f.1 o false is, h)
+direct_owed m n None o r s t some fresh lies pays = grind (arith, mul-le-mul_right (n + 1) some, owed_as)
+direct_owed m n (Some q) o None s t some fresh lies pays = grind (arith, mul-le-mul_right (n + 1 - q) some, owed_as m n q o)
+direct_owed m n (Some q) o (Some f) s t some fresh lies pays =
+    let rest : n + 1 - q ≡ n + 1 - f.1 + (f.1 - q) = omega arith in
+    let all = ap (λ x. 86 * m * x) rest ∙ mul-add (86 * m) (n + 1 - f.1) (f.1 - q) in
+    grind (arith, rest, all, mul-le-mul_right (f.1 - q) some, search_falls m n o.seeking q f.1 (omega arith), owed_as)
 
 one_call : (m n : ℕ) → 1 ≤ m → 12 * (n + 1) ≤ 64 * m * m * (n + 1) * (n + 1)
-one_call zero n some = omega (arith, some)
-one_call (suc m) n some =
-    let one : 1 ≤ n + 1 = omega arith in
-    let a = mul-le-mul_left (64 * suc m * suc m * (n + 1)) one in
-    let b : 1 ≤ suc m = omega arith in
-    let c = mul-le-mul_left (64 * suc m * (n + 1)) b in
-    omega (arith, a, c)
+one_call m n some = grind arith
 
 -- and one call by itself
 direct_once : (m n : ℕ) (last : Option ℕ) (r : Option (ℕ × ℕ)) (s t : ℕ) → 1 ≤ m → CostsWithin s t (owed_direct n last) (owed_after_search (λ q. owed_direct n (Some q)) r) → Takes s t (64 * m * m * (n + 1) * (n + 1))
-direct_once m n None r s t some pays = (pays.0, (let h = pays.1 in let k = one_call m n some in omega (arith, h, k)))
-direct_once m n (Some q) r s t some pays = (pays.0, (let h = pays.1 in let k = one_call m n some in omega (arith, h, k)))
+direct_once m n last r s t some pays = grind (arith, one_call)
 
 -- what is kept serves on, where it was not looked at
 serves_same : (e : WrittenExpression) (w : List ℕ) (last : Option ℕ) (o : Occurrences) (r : Option (ℕ × ℕ)) → ServesFrom e w last o → ServesOn e w r o o
-serves_same e w last o None serves = ((refl, λ text es sought room. room), tt)
-serves_same e w last o (Some f) serves = ((refl, λ text es sought room. room), record { room = serves.room; fresh = λ h. cc; used = serves.used })
+serves_same e w last o r serves = grind arith
 
 answered : (c : goal.Joined-self) → AnswersNext c.args.self.now c.args.text.now c.args.last c.args.occurrences.now c.match-self.occurrences c.args.steps.now c.match-self.steps c.match-self.result
 answered c =
@@ -58,7 +41,7 @@ answered c =
           let s = c.args.steps.now in
           let t = w.next_direct.new.steps in
           let r = w.next_direct.result in
-          let is = direct_is c.self.inside.engine e w.in-Direct.field-0 w.in-Direct.form c.self.view_is c.self.invariant w.in-Direct.is in
+          let is = rw (c.self.view_is, w.in-Direct.is) at c.self.invariant in
           let next = w.next_direct.ensures in
           rw (w.result-is, w.occurrences-is, w.steps-is) record {
             next = next.next e is;
@@ -69,9 +52,7 @@ answered c =
             counts = next.counts;
             passes = next.passes e is;
           }
-      | in-Passes w ↦
-          let is = passes_are c.self.inside.engine c.args.self.now w.deref_mut.result.now _ c.self.view_is (ap searched_expression w.in-Passes.is) w.deref_mut.ensures.value in
-          rw (w.result-is, w.occurrences-is, w.steps-is) (rw is at w.next_by_passes.ensures.answered)
+      | in-Passes w ↦ rw (w.result-is, w.occurrences-is, w.steps-is) (rw c.self.view_is at w.next_by_passes.ensures.answered)
     ]
 
 pub returns : goal.returns

@@ -13,7 +13,7 @@ invariant-loop-place l = record {
   offset : IsOffset l.forward_one l.offset;
   follows : Follows l.subject.prepared.now l.subject.text.now l.forward_one l.a l.from l.place l.offset;
   meets : Meet l.subject.prepared.now l.subject.text.now l.initial.table l.initial.self l.a l.from l.from l.place;
-  cost : CostsWithin l.initial.steps l.steps (owed_region (length l.subject.prepared.now.arena.expr.nodes) l.initial.self.region l.from + 36 * length l.subject.prepared.now.arena.expr.nodes * l.place) (owed_region (length l.subject.prepared.now.arena.expr.nodes) l.self.region l.place + 36 * length l.subject.prepared.now.arena.expr.nodes * l.from);
+  cost : CostsWithin l.initial.steps l.steps (owed_region (length l.subject.prepared.now.nodes) l.initial.self.region l.from + 36 * length l.subject.prepared.now.nodes * l.place) (owed_region (length l.subject.prepared.now.nodes) l.self.region l.place + 36 * length l.subject.prepared.now.nodes * l.from);
   counts : TakesAtLeast l.initial.steps l.steps (2 * (l.place - l.from));
 }
 

@@ -14,7 +14,7 @@ invariant-loop-place l = record {
   shape : SameShape l.initial.table l.table;
   same : SameKept l.initial.self l.self;
   to : l.place < l.end → l.place < l.self.region.to;
-  cost : CostsWithin l.initial.steps l.steps (39 * length l.subject.prepared.now.arena.expr.nodes * l.end) (39 * length l.subject.prepared.now.arena.expr.nodes * l.place);
+  cost : CostsWithin l.initial.steps l.steps (39 * length l.subject.prepared.now.nodes * l.end) (39 * length l.subject.prepared.now.nodes * l.place);
   counts : TakesAtLeast l.initial.steps l.steps (2 * (l.end - l.place));
 }
 

@@ -12,6 +12,6 @@ invariant-loop-place l = record {
   offset : IsOffset l.forward_one l.offset;
   meets : (a i : ℕ) → a ≤ l.self.region.root → i ≤ l.from → Follows l.subject.prepared.now l.subject.text.now l.initial.forward_one a i l.from l.initial.offset →
       Follows l.subject.prepared.now l.subject.text.now l.forward_one a i l.place l.offset × Meet l.subject.prepared.now l.subject.text.now l.table l.self a i l.from l.place;
-  cost : CostsWithin l.initial.steps l.steps (36 * length l.subject.prepared.now.arena.expr.nodes * l.place) (36 * length l.subject.prepared.now.arena.expr.nodes * l.from);
+  cost : CostsWithin l.initial.steps l.steps (36 * length l.subject.prepared.now.nodes * l.place) (36 * length l.subject.prepared.now.nodes * l.from);
   counts : TakesAtLeast l.initial.steps l.steps (2 * (l.place - l.from));
 }

@@ -10,6 +10,6 @@ invariant-loop-place l = record {
   to : l.place < l.high → l.place < l.self.region.to;
   steady : l.initial.table.count + (l.high - l.low) ≤ l.initial.table.room →
       (l.self.region.to ≡ l.initial.self.region.to) × (l.table.count + (l.place - l.low) ≤ l.initial.table.room);
-  cost : CostsWithin l.initial.steps l.steps (35 * length l.subject.prepared.now.arena.expr.nodes * l.high) (35 * length l.subject.prepared.now.arena.expr.nodes * l.place);
+  cost : CostsWithin l.initial.steps l.steps (35 * length l.subject.prepared.now.nodes * l.high) (35 * length l.subject.prepared.now.nodes * l.place);
   counts : TakesAtLeast l.initial.steps l.steps (2 * (l.high - l.place));
 }

@@ -1,14 +1,14 @@
-use Rattle.std.proofs.Common.{◌≡◌, ℕ, ◌+◌, ◌*◌, ◌%◌, ◌^◌, ◌<◌, ◌≤◌, length, length-set, refl, subst, arith, rules, slice_index_or}
-use Rattle.sedpass.proofs.Words.{with_item, Table}
+use Rattle.std.proofs.Common.{◌≡◌, ◌+◌, ◌*◌, ◌%◌, ◌^◌, ◌<◌, ◌≤◌, length, length-set, refl, inl, inr, arith, rules}
+use Rattle.sedpass.proofs.Words.{cases_eq, shl_whole, with_item, Table}
 use Rattle.sedpass.specs.Table.{AddsStates, HasRoom, cell_of}
-use Rattle.sedpass.proofs.TableLemmas.{shifted, one_shifted, cell_inside, state_added, state_adds, one_more}
+use Rattle.sedpass.proofs.TableLemmas.{shifted, cell_inside, state_added, state_adds, table_more}
 use Rattle.sedpass.proofs.table.Table.add.Goals as goal
 
 pub returns-clause-table : goal.returns-clause-table
 returns-clause-table c =
     let T = c.args.self.now in
     let t = c.requires.table in
-    let m = length c.args.prepared.now.arena.expr.nodes in
+    let m = length c.args.prepared.now.nodes in
     let N : Table = record T {
       count = T.count + 1;
       roots = with_item T.roots T.count c.args.root;
@@ -19,12 +19,15 @@ returns-clause-table c =
     let adds : AddsStates m T N = state_adds m T N c.args.root c.requires.room t.room (refl, refl, refl, refl, capacity) refl refl refl refl in
     let added = state_added m T N c.args.root c.requires.room t.room (refl, refl, refl, refl, capacity) refl refl refl refl in
     let place = shifted T.count T.room T.layout.shift c.requires.room t.room.rows.few t.layout.small in
-    let long : (T.count + 1) * 2 ^ T.layout.shift ≤ length N.cells.items = omega (arith, place, c.empty_cells.ensures.long, one_shifted T.layout.shift t.layout.small) in
+    let small = t.layout.small in
+    let long : (T.count + 1) * 2 ^ T.layout.shift ≤ length N.cells.items = omega (arith, place, c.empty_cells.ensures.long, shl_whole 1 16 T.layout.shift 64 (omega arith) (omega arith)) in
     let old = t.room in
     let room : HasRoom m N = search (rules, length-set) in
     let size = 2 ^ T.layout.shift in
-    let before : (q k : ℕ) → q < T.count → k < 2 * T.layout.columns → cell_of N q k ≡ cell_of T q k =
-    (λ q k lt low. c.empty_cells.ensures.before (q * size + k) (let inside = cell_inside size q k T.count (2 * T.layout.columns) (T.count * size) lt low t.layout.fits (omega arith) in omega (arith, inside, place))) in
-    let clear : (k : ℕ) → k < 2 * T.layout.columns → cell_of N T.count k ≡ 0 =
-    (λ k low. subst (λ x. slice_index_or c.empty_cells.new.cells.items (x + k) 0 ≡ 0) place (c.empty_cells.ensures.clear k low)) in
-    one_more c.args.prepared.now T N adds refl t room refl refl before clear (rw added.0 c.requires.root)
+    table_more c.args.prepared.now T N adds refl t room (λ q low. elim (cases_eq q T.count) [ inl e ↦ inr (rw (e, added.0) c.requires.root) | inr ne ↦ inl (omega (arith, ne)) ])
+    (λ q k there low some. elim (cases_eq q T.count) [
+      | inl e ↦ let none : cell_of N q k ≡ 0 = rw (e, ← place) (c.empty_cells.ensures.clear k low) in absurd (omega (arith, none, some))
+      | inr ne ↦
+          let less : q < T.count = omega (arith, ne) in
+          inl (less, c.empty_cells.ensures.before (q * size + k) (omega (arith, cell_inside size q k T.count (2 * T.layout.columns) (T.count * size) less low t.layout.fits (omega arith), place)))
+    ]) (λ root kind. inl refl)

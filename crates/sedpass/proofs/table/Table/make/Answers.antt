@@ -13,11 +13,11 @@ keeps : (c : After-descend) → KeepsRows (IsApart 2 c.make_room.new.self.count)
 keeps c = keeps_then (λ q. q ≢ 1) (IsApart 1 c.make_room.new.self.count) (IsApart 2 c.make_room.new.self.count) _ _ _ (λ q far. (λ e. omega (arith, e, far.0), (omega (arith, far.0), far.1, far.2))) c.ascend.ensures.keeps c.descend.ensures.keeps
 
 -- the row is the one asked for
-made : (c : After-descend) (a : PassState) → HasNewRow (length c.args.act.prepared.now.arena.expr.nodes) (record c.make_room.new.self { rows = c.descend.new.rows }) c.args.act.root a →
-    IsMade c.args.act c.args.byte c.args.first (bits (length c.args.act.prepared.now.arena.expr.nodes) (row_of c.make_room.new.self.rows (leaves_row c.args.from))) a
+made : (c : After-descend) (a : PassState) → HasNewRow (length c.args.act.prepared.now.nodes) (record c.make_room.new.self { rows = c.descend.new.rows }) c.args.act.root a →
+    IsMade c.args.act c.args.byte c.args.first (bits (length c.args.act.prepared.now.nodes) (row_of c.make_room.new.self.rows (leaves_row c.args.from))) a
 made c a has =
     let act = c.args.act in
-    let e = act.prepared.now.arena.expr in
+    let e = act.prepared.now in
     let leaves = row_of c.make_room.new.self.rows (leaves_row c.args.from) in
     record {
       root = has.0;

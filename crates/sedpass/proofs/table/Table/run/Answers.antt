@@ -1,7 +1,8 @@
-use Rattle.std.proofs.Common.{◌+◌, ◌-◌, ◌*◌, ◌<◌, ◌≤◌, ◌∙◌, length, sym, ap, subst, inl, inr, arith, nat_eq}
+use Rattle.std.proofs.Common.{◌+◌, ◌-◌, ◌*◌, ◌<◌, ◌≤◌, length, sym, ap, subst, arith, nat_eq, ◌≡◌, ◌⊎◌, true}
+use Rattle.std.proofs.lemmas.Grind.{common_steps}
 use Rattle.sedre.specs.Steps.{TakesAtLeast, IsCounted}
 use Rattle.sedpass.proofs.Words.{not-false, Way, eqb-true, eq-eqb, least_less, least_both}
-use Rattle.sedpass.specs.Rows.{nodes_of}
+use Rattle.sedpass.specs.Rows.{nodes_of, root_of}
 use Rattle.sedpass.specs.Table.{BeginsIn, NamesState}
 use Rattle.sedpass.specs.Forwards.{Arrives}
 use Rattle.sedpass.proofs.KeptLemmas.{same_shape}
@@ -12,7 +13,7 @@ use Rattle.sedpass.proofs.table.Table.run.Goals as goal
 pub loop-here-init : goal.loop-here-init
 loop-here-init c =
     let p = c.args.prepared.now in
-    let m = length p.arena.expr.nodes in
+    let m = length p.nodes in
     let T = c.args.self.now in
     let S = c.first-code.new.self in
     let w = c.args.text.now in
@@ -20,11 +21,9 @@ loop-here-init c =
     let way = c.first-code.ensures.codes.adds.shape.0 in
     let kind = c.kind_of-kind.result in
     let here = c.arrive-here.ensures.place in
-    let end = c.kind_of-kind.ensures.end in
-    let is = c.len.ensures.is in
     let names = subst (λ (x : Way). NamesState m S (Arrives p x w from from) c.first-code.result) (sym way)
-    (names_map m S (BeginsIn (nodes_of T.way p.arena.expr) T.way p.root kind) (Arrives p T.way w from from) c.first-code.result
-    (λ a begins. arrives_first p T.way w from kind a c.requires.forwards c.requires.from c.kind_of-kind.ensures.begin ((λ h. end.0 h ∙ is), (λ e. end.1 (e ∙ sym is))) begins) c.first-code.ensures.codes.names) in
+    (names_map m S (BeginsIn (nodes_of T.way p) T.way (root_of p) kind) (Arrives p T.way w from from) c.first-code.result
+    (λ a begins. arrives_first p T.way w from kind a c.requires.forwards c.requires.from c.kind_of-kind.ensures.begin (rw c.len.ensures.is at c.kind_of-kind.ensures.end) begins) (rw c.root.ensures.value at c.first-code.ensures.codes.names)) in
     let cost = c.first-code.ensures.cost in
     record {
       table = c.first-code.ensures.codes.table;
@@ -41,7 +40,7 @@ loop-here-preserved c =
     let i = c.loop-here.invariant in
     let at = c.follow-here.ensures in
     let moved = at.moved (not-false c.follow-here.result.over c.if-not-here.false) in
-    let cost = over_cost (length c.args.prepared.now.arena.expr.nodes) c.loop-here.here.place c.follow-here.result.place (c.len-last.result - 1) c.loop-here.steps c.follow-here.new.steps (omega (arith, i.table.expr.arena.nonempty)) moved at.cost.1 in
+    let cost = over_cost (length c.args.prepared.now.nodes) c.loop-here.here.place c.follow-here.result.place (c.len-last.result - 1) c.loop-here.steps c.follow-here.new.steps (omega (arith, i.table.expr.arena.nonempty)) moved at.cost.1 in
     record {
       table = i.table;
       shape = i.shape;
@@ -56,13 +55,13 @@ pub loop-here-preserved-then-not-here : goal.loop-here-preserved-then-not-here
 unfolding TakesAtLeast IsCounted
 loop-here-preserved-then-not-here c =
     let i = c.loop-here.invariant in
-    let m = length c.args.prepared.now.arena.expr.nodes in
+    let m = length c.args.prepared.now.nodes in
     let one : 1 ≤ m = omega (arith, i.table.expr.arena.nonempty) in
     let from = c.loop-here.here.place in
     let mid = c.follow-here.result in
     let last = c.len-last.result - 1 in
     let is = c.len-last.ensures.is in
-    let inside : from < length c.args.text.now = omega (arith, c.if-here-len.true, c.len-in-loop-here.ensures.is) in
+    let inside : from < length c.args.text.now = grind (arith, common_steps) in
     let up = c.follow-here.ensures in
     let byte = c.byte-byte.ensures in
     let next = c.next-code.ensures in
@@ -82,26 +81,15 @@ loop-here-preserved-then-not-here c =
       counts = omega (arith, place, i.passes.after, up.after, i.counts, up.counts, byte.cost.1, next.counts);
     }
 
-pub returns-else-here-len-clause-longest : goal.returns-else-here-len-clause-longest
-returns-else-here-len-clause-longest c =
-    run_longest c.args.prepared.now c.args.self.now.way c.loop-here.self c.args.text.now c.args.at c.loop-here.here c.loop-here.invariant.shape.0 c.requires.forwards c.requires.from c.loop-here.invariant.passes (inr (omega (arith, c.if-here-len.false, c.len-in-loop-here.ensures.is)))
+-- the pass is over, or at the text's end
+done : (c : goal.After-loop-here) → (c.loop-here.here.over ≡ true) ⊎ (length c.args.text.now ≤ c.loop-here.here.place)
+done c = grind (arith, common_steps)
 
-pub returns-else-here-len-clause-found : goal.returns-else-here-len-clause-found
-returns-else-here-len-clause-found c =
-    run_found c.args.prepared.now c.args.self.now.way c.loop-here.self c.args.text.now c.args.at c.loop-here.here c.loop-here.invariant.shape.0 c.requires.forwards c.requires.from c.loop-here.invariant.passes (inr (omega (arith, c.if-here-len.false, c.len-in-loop-here.ensures.is)))
+pub returns-clause-longest : goal.returns-clause-longest
+returns-clause-longest c = run_longest c.args.prepared.now c.args.self.now.way c.loop-here.self c.args.text.now c.args.at c.loop-here.here c.loop-here.invariant.shape.0 c.requires.forwards c.requires.from c.loop-here.invariant.passes (done c)
 
-pub returns-else-here-len-clause-passes : goal.returns-else-here-len-clause-passes
-returns-else-here-len-clause-passes c =
-    run_passes c.args.prepared.now c.args.self.now.way c.loop-here.self c.args.text.now c.args.at c.loop-here.here c.loop-here.invariant.shape.0 c.requires.forwards c.requires.from c.loop-here.invariant.passes (inr (omega (arith, c.if-here-len.false, c.len-in-loop-here.ensures.is))) c.args.steps.now c.loop-here.steps c.loop-here.invariant.counts
+pub returns-clause-found : goal.returns-clause-found
+returns-clause-found c = run_found c.args.prepared.now c.args.self.now.way c.loop-here.self c.args.text.now c.args.at c.loop-here.here c.loop-here.invariant.shape.0 c.requires.forwards c.requires.from c.loop-here.invariant.passes (done c)
 
-pub returns-after-loop-here-clause-longest : goal.returns-after-loop-here-clause-longest
-returns-after-loop-here-clause-longest c =
-    run_longest c.args.prepared.now c.args.self.now.way c.loop-here.self c.args.text.now c.args.at c.loop-here.here c.loop-here.invariant.shape.0 c.requires.forwards c.requires.from c.loop-here.invariant.passes (inl (not-false c.loop-here.here.over c.loop-here-test.false))
-
-pub returns-after-loop-here-clause-found : goal.returns-after-loop-here-clause-found
-returns-after-loop-here-clause-found c =
-    run_found c.args.prepared.now c.args.self.now.way c.loop-here.self c.args.text.now c.args.at c.loop-here.here c.loop-here.invariant.shape.0 c.requires.forwards c.requires.from c.loop-here.invariant.passes (inl (not-false c.loop-here.here.over c.loop-here-test.false))
-
-pub returns-after-loop-here-clause-passes : goal.returns-after-loop-here-clause-passes
-returns-after-loop-here-clause-passes c =
-    run_passes c.args.prepared.now c.args.self.now.way c.loop-here.self c.args.text.now c.args.at c.loop-here.here c.loop-here.invariant.shape.0 c.requires.forwards c.requires.from c.loop-here.invariant.passes (inl (not-false c.loop-here.here.over c.loop-here-test.false)) c.args.steps.now c.loop-here.steps c.loop-here.invariant.counts
+pub returns-clause-passes : goal.returns-clause-passes
+returns-clause-passes c = run_passes c.args.prepared.now c.args.self.now.way c.loop-here.self c.args.text.now c.args.at c.loop-here.here c.loop-here.invariant.shape.0 c.requires.forwards c.requires.from c.loop-here.invariant.passes (done c) c.args.steps.now c.loop-here.steps c.loop-here.invariant.counts

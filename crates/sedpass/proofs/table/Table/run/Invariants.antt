@@ -10,7 +10,7 @@ invariant-loop-here l = record {
   shape : SameShape l.fn.self l.self;
   offset : IsOffset l.self l.here.offset;
   passes : PassIs l.prepared l.self l.text l.at l.here;
-  cost : CostsWithin l.fn.steps l.steps (40 * length l.prepared.arena.expr.nodes * (l.here.place + 1)) (40 * length l.prepared.arena.expr.nodes * l.at);
+  cost : CostsWithin l.fn.steps l.steps (40 * length l.prepared.nodes * (l.here.place + 1)) (40 * length l.prepared.nodes * l.at);
   counts : TakesAtLeast l.fn.steps l.steps (2 * (l.here.place - l.at) + 1);
 }
 

@@ -1,13 +1,7 @@
-use Rattle.std.proofs.Common.{rules, ◌≡◌, ℕ, ◌*◌, ◌<◌, ◌≤◌, length, refl, subst, arith, replicate, vec_capacity}
-use Rattle.sedpass.proofs.Words.{PlaceKind, Table}
-use Rattle.sedpass.specs.Table.{beginning_at}
+use Rattle.std.proofs.Common.{rules, ◌≡◌, length, refl, arith, replicate}
+use Rattle.sedpass.proofs.Words.{Table}
 use Rattle.sedpass.proofs.TableLemmas.{few_kinds, has_parts, none_noted}
-use Rattle.sedpass.proofs.table.Table.with_room.Goals.{After-vec-3}
 use Rattle.sedpass.proofs.table.Table.with_room.Goals as goal
-
--- each beginning is among them
-beginnings_fit : (c : After-vec-3) → (root : ℕ) (kind : PlaceKind) → root < c.args.most → beginning_at c.args.way.all_starts root kind < c.if-way.kinds
-beginnings_fit c root kind low = search (rules, few_kinds)
 
 pub returns : goal.returns
 returns c =
@@ -24,9 +18,7 @@ returns c =
       index = c.in_ok-vec-2.field-0;
       beginnings = c.in_ok-vec-3.field-0;
     } in
-    let index : 2 ≤ length T.index.items = omega (arith, c.in_ok-vec-2.ensures.len, T.index.ok) in
     let begins : length T.beginnings.items ≡ c.if-way.kinds = omega (arith, c.in_ok-vec-3.ensures.len, T.beginnings.ok) in
-    let noted = none_noted T.beginnings.items c.if-way.kinds (c.in_ok-vec-3.ensures.items_if_clones_equal (λ y h. h)) in
     let has = has_parts T c.if-way.kinds
     (record {
       some = c.requires.some;
@@ -35,5 +27,6 @@ returns c =
       long = λ q lt. c.in_ok-new.ensures.marks q (omega (arith, lt, c.in_ok-new.ensures.count));
       roots = omega (arith, c.in_ok-vec.ensures.len, T.roots.ok);
     })
-    (subst (λ n. c.args.room * n ≤ vec_capacity c.in_ok-with_capacity.field-0) c.min.ensures c.in_ok-with_capacity.ensures.capacity) index begins (beginnings_fit (goal.at.returns c).After-vec-3) noted in
+    (rw (← c.min.ensures) c.in_ok-with_capacity.ensures.capacity) (omega (arith, c.in_ok-vec-2.ensures.len, T.index.ok)) begins (λ root kind low. search (rules, few_kinds))
+    (none_noted T.beginnings.items c.if-way.kinds (c.in_ok-vec-3.ensures.items_if_clones_equal (λ y h. h))) in
     record { table = (has, refl, refl) }

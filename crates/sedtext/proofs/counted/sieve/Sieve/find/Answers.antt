@@ -9,9 +9,7 @@ returns-then-marks-ne0-clause-none c =
     (omega (arith, c.loop-place.invariant.after), none_on _ c.args.from c.loop-place.place _ c.loop-place.invariant.none first.1)
 
 pub returns-then-marks-ne0-clause-inside : goal.returns-then-marks-ne0-clause-inside
-returns-then-marks-ne0-clause-inside c =
-    let first = first_marked (PassesSieve c.args.self.now c.args.bytes.now) c.loop-place.place c.marks-marks.result c.marks-marks.ensures c.if-marks-ne0.true in
-    omega (arith, first.0)
+returns-then-marks-ne0-clause-inside c = grind (arith, first_marked (PassesSieve c.args.self.now c.args.bytes.now) c.loop-place.place c.marks-marks.result c.marks-marks.ensures)
 
 pub loop-place-preserved : goal.loop-place-preserved
 loop-place-preserved c =
@@ -33,6 +31,4 @@ returns-clause-none c =
     )
 
 pub returns-clause-inside : goal.returns-clause-inside
-returns-clause-inside c =
-    let first = first_marked (PassesSieve c.args.self.now c.args.bytes.now) _ c.marks-marks-2.result c.marks-marks-2.ensures (omega (arith, c.if-marks-eq0.false)) in
-    omega (arith, first.0, c.loop-place.invariant.within)
+returns-clause-inside c = grind (arith, first_marked (PassesSieve c.args.self.now c.args.bytes.now) _ c.marks-marks-2.result c.marks-marks-2.ensures)

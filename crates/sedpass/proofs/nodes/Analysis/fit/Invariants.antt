@@ -1,0 +1,13 @@
+use Rattle.std.proofs.Common.{◌≡◌, length, vec_capacity}
+use Rattle.sedre.specs.Steps.{Takes, TakesAtLeast}
+use Rattle.sedpass.specs.Prepared.{AreFacts}
+use Rattle.sedpass.proofs.nodes.Analysis.fit.Given as goal
+
+abbrev pub invariant-loop-x : goal.invariant-loop-x
+invariant-loop-x l = record {
+  cost : Takes l.initial.steps l.steps l.x;
+  counts : TakesAtLeast l.initial.steps l.steps l.x;
+  all : length l.self.facts.items ≡ l.x;
+  facts : AreFacts l.expr.nodes l.self.facts.items;
+  room : vec_capacity l.self.facts ≡ vec_capacity l.initial.self.facts;
+}
