@@ -1,7 +1,9 @@
 -- What reporting the groups of the occurrences in a text takes together.
-use Rattle.std.proofs.Common.{◌≡◌, ℕ, zero, suc, ◌+◌, ◌-◌, ◌*◌, ◌≤◌, Option, Some, None, subst, arith, mul-le-mul_left}
+use Rattle.std.proofs.Common.{◌≡◌, ℕ, ◌+◌, ◌-◌, ◌*◌, ◌≤◌, length, Option, Some, None, subst, arith, mul-le-mul_left}
 use Rattle.std.specs.Prelude.{IfSome}
 use Rattle.sedre.specs.Steps.{Takes, CostsWithin}
+use Rattle.sedre.specs.Tree.{WrittenExpression, expression_tree}
+use Rattle.sedmatch.specs.Groups.{group_depth}
 use Rattle.sedmatch.specs.Following.{LiesOn}
 use Rattle.sedacts.specs.SubstituteParts.{owed_groups, owed_groups_after, place_cost}
 
@@ -14,57 +16,53 @@ at_first : (k t long places rest : ℕ) → long ≤ places → k * long + t + (
 at_first k t long places rest most = omega (arith, mul-le-mul_left k most)
 
 -- the groups of the occurrence that comes next are paid by the places up to its end
-pub shown_paid : (m n s t : ℕ) (last : Option ℕ) (span : ℕ × ℕ) → LiesOn n last span →
-    Takes s t (172 * m * (m - 1) * (span.1 - span.0) + 2 * m) →
-    CostsWithin s t (owed_groups m n last) (owed_groups_after m n (Some span))
-shown_paid m n s t None span lies shown =
+pub shown_paid : (e : WrittenExpression) (n s t : ℕ) (last : Option ℕ) (span : ℕ × ℕ) → LiesOn n last span →
+    Takes s t (172 * length e.nodes * group_depth (expression_tree e) * (span.1 - span.0) + 2 * length e.nodes) →
+    CostsWithin s t (owed_groups e n last) (owed_groups_after e n (Some span))
+shown_paid e n s t None span lies shown =
+    let m = length e.nodes in
     let parted : n - span.1 + span.1 ≡ n = omega (arith, lies.1) in
-    let paid = at_first (172 * m * (m - 1)) (2 * m) (span.1 - span.0) span.1 (n - span.1) (omega arith) in
-    let all = subst (λ (places : ℕ). 172 * m * (m - 1) * (span.1 - span.0) + 2 * m + place_cost m * (n - span.1)
-    ≤ place_cost m * places + 2 * m) parted paid in
+    let paid = at_first (172 * m * group_depth (expression_tree e)) (2 * m) (span.1 - span.0) span.1 (n - span.1) (omega arith) in
+    let all = subst (λ (places : ℕ). 172 * m * group_depth (expression_tree e) * (span.1 - span.0) + 2 * m + place_cost e * (n - span.1)
+    ≤ place_cost e * places + 2 * m) parted paid in
     (shown.0, omega (arith, shown.1, all))
-shown_paid m n s t (Some q) span lies shown =
+shown_paid e n s t (Some q) span lies shown =
+    let m = length e.nodes in
     let parted : n - span.1 + (span.1 - q) ≡ n - q = omega (arith, lies.1, lies.2.1) in
-    let paid = by_places (172 * m * (m - 1)) (2 * m) (span.1 - span.0) (span.1 - q) (n - span.1) (omega (arith, lies.2.0))
+    let paid = by_places (172 * m * group_depth (expression_tree e)) (2 * m) (span.1 - span.0) (span.1 - q) (n - span.1) (omega (arith, lies.2.0))
     (omega (arith, lies.2.1)) in
-    let all = subst (λ (places : ℕ). 172 * m * (m - 1) * (span.1 - span.0) + 2 * m + place_cost m * (n - span.1)
-    ≤ place_cost m * places) parted paid in
+    let all = subst (λ (places : ℕ). 172 * m * group_depth (expression_tree e) * (span.1 - span.0) + 2 * m + place_cost e * (n - span.1)
+    ≤ place_cost e * places) parted paid in
     (shown.0, omega (arith, shown.1, all))
 
 -- where none are reported, no more is owed after the occurrence that comes next
-pub none_paid : (m n s : ℕ) (last : Option ℕ) (r : Option (ℕ × ℕ)) → IfSome r (LiesOn n last) →
-    CostsWithin s s (owed_groups m n last) (owed_groups_after m n r)
-none_paid m n s last None lies = (omega arith, omega arith)
-none_paid m n s None (Some span) lies =
+pub none_paid : (e : WrittenExpression) (n s : ℕ) (last : Option ℕ) (r : Option (ℕ × ℕ)) → IfSome r (LiesOn n last) →
+    CostsWithin s s (owed_groups e n last) (owed_groups_after e n r)
+none_paid e n s last None lies = (omega arith, omega arith)
+none_paid e n s None (Some span) lies =
     let fewer : n - span.1 ≤ n = omega arith in
-    (omega arith, omega (arith, mul-le-mul_left (place_cost m) fewer))
-none_paid m n s (Some q) (Some span) lies =
+    (omega arith, omega (arith, mul-le-mul_left (place_cost e) fewer))
+none_paid e n s (Some q) (Some span) lies =
     let fewer : n - span.1 ≤ n - q = omega (arith, lies.2.1) in
-    (omega arith, omega (arith, mul-le-mul_left (place_cost m) fewer))
-
-more_in_all : (m p n : ℕ) → m ≡ p + 1 → (172 * m * p + 2 * m) * n + 2 * m ≤ 172 * m * m * (n + 1)
-more_in_all m p n is = rw is (more p n)
-  where
-    more : (p n : ℕ) → (172 * (p + 1) * p + 2 * (p + 1)) * n + 2 * (p + 1) ≤ 172 * (p + 1) * (p + 1) * (n + 1)
-    more p n = omega arith
-
-owed_in_all : (m n : ℕ) → owed_groups m n None ≤ 172 * m * m * (n + 1)
-owed_in_all zero n = omega arith
-owed_in_all (suc m) n = more_in_all (suc m) (suc m - 1) n (omega arith)
+    (omega arith, omega (arith, mul-le-mul_left (place_cost e) fewer))
 
 -- the most that is owed
-owed_most : (m n : ℕ) (last : Option ℕ) → owed_groups m n last ≤ 172 * m * m * (n + 1)
-owed_most m n None = owed_in_all m n
-owed_most m n (Some q) =
+owed_most : (e : WrittenExpression) (n : ℕ) (last : Option ℕ) → owed_groups e n last ≤ 172 * length e.nodes * (group_depth (expression_tree e) + 1) * (n + 1)
+owed_most e n None = omega arith
+owed_most e n (Some q) =
     let fewer : n - q ≤ n = omega arith in
-    omega (arith, mul-le-mul_left (place_cost m) fewer, owed_in_all m n)
+    omega (arith, mul-le-mul_left (place_cost e) fewer)
 
 -- what reporting the groups of all that is replaced takes
-pub all_took : (m n a b c : ℕ) (last : Option ℕ) (first : ℕ × ℕ) →
-    CostsWithin a b (owed_groups m n last) (owed_groups_after m n (Some first)) → Takes b c (owed_groups m n (Some first.1)) →
-    Takes a c (172 * m * m * (n + 1))
-all_took m n a b c last first paid later =
-    (omega (arith, paid.0, later.0), omega (arith, paid.1, later.1, owed_most m n last))
+pub all_took : (e : WrittenExpression) (n a b c : ℕ) (last : Option ℕ) (first : ℕ × ℕ) →
+    CostsWithin a b (owed_groups e n last) (owed_groups_after e n (Some first)) → Takes b c (owed_groups e n (Some first.1)) →
+    Takes a c (172 * length e.nodes * (group_depth (expression_tree e) + 1) * (n + 1))
+all_took e n a b c last first paid later =
+    (omega (arith, paid.0, later.0), omega (arith, paid.1, later.1, owed_most e n last))
+
+-- what searches and groups take together
+pub together : (m d n a b s t : ℕ) → Takes a b (416 * m * (n + 1)) → Takes s t (172 * m * (d + 1) * (n + 1)) → b + t ≤ a + s + 588 * m * (d + 1) * (n + 1)
+together m d n a b s t searches groups = omega (arith, searches.1, groups.1)
 
 -- what searches take, one after another
 pub searches_two : {a b c : ℕ} (x y z : ℕ) → CostsWithin a b x y → CostsWithin b c y z → Takes a c x

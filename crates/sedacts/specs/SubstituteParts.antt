@@ -2,7 +2,7 @@
 -- What the parts of a substitution answer.
 use Rattle.std.specs.Prelude.{◌≡◌, ℕ, ◌+◌, ◌-◌, ◌*◌, ◌<◌, List, [], ◌∷◌, ◌++◌, length, drop, Bool, true, false, Option, Some, None, option_map, IfSome, Result, Ok, Err, if◌then◌else◌}
 use Rattle.sedre.specs.Tree.{WrittenExpression, expression_tree}
-use Rattle.sedmatch.specs.Groups.{SpansOfGroups, span_of}
+use Rattle.sedmatch.specs.Groups.{SpansOfGroups, group_depth, span_of}
 use Rattle.sedmatch.specs.Matching.{next_match, reported_groups}
 use Rattle.sedmatch.specs.Answer.{SpanIn}
 use Rattle.sedmatch.specs.Following.{EndsWithin, LiesOn}
@@ -93,20 +93,20 @@ abbrev pub groups_cost : Option (ℕ × ℕ) → Bool → ℕ → ℕ
 groups_cost None wanted k = 0
 groups_cost (Some span) wanted k = if wanted then k else 0
 
--- what deciding the groups of an occurrence takes for each place that it takes, with m nodes; a null match takes 2 m
-abbrev pub place_cost : ℕ → ℕ
-place_cost m = 172 * m * (m - 1) + 2 * m
+-- what deciding the groups of an occurrence takes for each place that it takes; a null match takes 2 for each node
+abbrev pub place_cost : WrittenExpression → ℕ
+place_cost e = 172 * length e.nodes * group_depth (expression_tree e) + 2 * length e.nodes
 
--- The steps that deciding groups may still take after an occurrence that ended at the place, if there is one, with m nodes in a
--- text of n bytes: each takes places that no other does, but for a null match at the beginning.
-abbrev pub owed_groups : ℕ → ℕ → Option ℕ → ℕ
-owed_groups m n None = place_cost m * n + 2 * m
-owed_groups m n (Some q) = place_cost m * (n - q)
+-- The steps that deciding groups may still take after an occurrence that ended at the place, if there is one, in a text of n bytes:
+-- each takes places that no other does, but for a null match at the beginning.
+abbrev pub owed_groups : WrittenExpression → ℕ → Option ℕ → ℕ
+owed_groups e n None = place_cost e * n + 2 * length e.nodes
+owed_groups e n (Some q) = place_cost e * (n - q)
 
 -- the steps that deciding groups may still take after an answer: none where there is no occurrence
-abbrev pub owed_groups_after : ℕ → ℕ → Option (ℕ × ℕ) → ℕ
-owed_groups_after m n None = 0
-owed_groups_after m n (Some span) = owed_groups m n (Some span.1)
+abbrev pub owed_groups_after : WrittenExpression → ℕ → Option (ℕ × ℕ) → ℕ
+owed_groups_after e n None = 0
+owed_groups_after e n (Some span) = owed_groups e n (Some span.1)
 
 -- the most that deciding the groups of all occurrences but the first takes, where those of one take k
 abbrev pub later_cost : ℕ → List Occurrence → ℕ

@@ -5,6 +5,7 @@ ghost use Rattle.sedre.specs.Steps.{CostsWithin, Takes};
 ghost use Rattle.sedmatch.specs.Following.{EndsWithin, LiesOn};
 ghost use Rattle.sedmatch.specs.Occurrences.{KeepsRoom, ServesFrom, ServesOn, owed, owed_after};
 ghost use Rattle.sedmatch.specs.SearchRoom.{FitInto};
+ghost use Rattle.sedmatch.specs.Groups.{group_depth};
 ghost use Rattle.sedmatch.specs.Matching.{reported_groups};
 ghost use Rattle.sedmatch.specs.Spans.{Matches};
 ghost use Rattle.sedscript.specs.Pieces.{PieceGroupsWithin, pieces_in};
@@ -87,7 +88,10 @@ pub fn build_text(
         * length (to_replace substitution.now.number substitution.now.global
         (each_occurrence (search_for matcher.old text.now) n))) }
     ensures linear_group_cost { let m = length matcher.old.nodes in let n = length text.now in
-        Takes findings.old.group_steps findings.new.group_steps (172 * m * m * (n + 1)) }
+        Takes findings.old.group_steps findings.new.group_steps (172 * m * (group_depth (expression_tree matcher.old) + 1) * (n + 1)) }
+    ensures cost_together { let m = length matcher.old.nodes in let n = length text.now in
+        findings.new.steps + findings.new.group_steps ≤ findings.old.steps + findings.old.group_steps
+        + 588 * m * (group_depth (expression_tree matcher.old) + 1) * (n + 1) }
 {
     let skipped = substitution.number - 1;
     let Some(last) = end_of_skipped(matcher, text, skipped, seeking, scratch, findings) else {
@@ -176,8 +180,8 @@ fn next_occurrence(
         CostsWithin findings.old.steps findings.new.steps (owed m n last seeking.old) (owed_after m n result seeking.new) }
     ensures group_cost { let m = length matcher.old.nodes in let n = length text.now in
         Takes findings.old.group_steps findings.new.group_steps (groups_cost result wanted (51 * m * m * (n + 1) * (n + 1))) }
-    ensures linear_group_cost { let m = length matcher.old.nodes in let n = length text.now in
-        CostsWithin findings.old.group_steps findings.new.group_steps (owed_groups m n last) (owed_groups_after m n result) }
+    ensures linear_group_cost { let n = length text.now in
+        CostsWithin findings.old.group_steps findings.new.group_steps (owed_groups matcher.old n last) (owed_groups_after matcher.old n result) }
 {
     let steps = &mut findings.steps;
     let span = matcher.next_occurrence(&Text::new(text), last, seeking, scratch, steps)?;
@@ -209,7 +213,7 @@ fn decide_groups(
     ensures cost { let m = length matcher.old.nodes in let n = length text.now in
         Takes findings.old.group_steps findings.new.group_steps (51 * m * m * (n + 1) * (n + 1)) }
     ensures linear_cost { let m = length matcher.old.nodes in
-        Takes findings.old.group_steps findings.new.group_steps (172 * m * (m - 1) * (span.1 - span.0) + 2 * m) }
+        Takes findings.old.group_steps findings.new.group_steps (172 * m * group_depth (expression_tree matcher.old) * (span.1 - span.0) + 2 * m) }
 {
     let steps = &mut findings.group_steps;
     findings.groups = matcher.groups_of(&Text::new(text), span.0, span.1, scratch, steps);
@@ -241,8 +245,8 @@ fn append_replaced(
     ensures group_cost { let m = length matcher.old.nodes in let n = length replacing.entry.text.now in
         Takes findings.old.group_steps findings.new.group_steps (later_cost (51 * m * m * (n + 1) * (n + 1))
         (pending matcher.old replacing.entry.text.now replacing.entry.substitution.now.global (Some first))) }
-    ensures linear_group_cost { let m = length matcher.old.nodes in let n = length replacing.entry.text.now in
-        Takes findings.old.group_steps findings.new.group_steps (owed_groups m n (Some first.1)) }
+    ensures linear_group_cost { let n = length replacing.entry.text.now in
+        Takes findings.old.group_steps findings.new.group_steps (owed_groups matcher.old n (Some first.1)) }
 {
     let Replacing {
         substitution,

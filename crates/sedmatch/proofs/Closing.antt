@@ -1,8 +1,6 @@
 -- Lemmas that close goals of functions, which name them all in `lib.rt`.
-use Rattle.sedtext.proofs.RunLemmas.{run_forward}
-use Rattle.sedpass.proofs.DecideLemmas.{space_again}
-use Rattle.sedpass.proofs.OccurrenceLemmas.{answer_found, further_found, further_none}
-use Rattle.sedmatch.proofs.OccurrenceLemmas.{one_more}
+use Rattle.sedmatch.proofs.Words.{run_forward, space_again}
+use Rattle.sedmatch.proofs.OccurrenceLemmas.{answer_found, further_found, further_none, one_more}
 use Rattle.sedmatch.proofs.StretchLemmas.{first_within}
 
 pub ruleset closing = (answer_found, first_within, further_found, further_none, one_more, run_forward, space_again)

@@ -4,3 +4,4 @@ pub mod Closing
 pub mod OccurrenceLemmas
 pub mod RoomLemmas
 pub mod StretchLemmas
+pub mod Words

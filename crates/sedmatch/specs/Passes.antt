@@ -1,11 +1,11 @@
 -- Private to the proofs: no contract of a public item cites what is here.
 -- An expression that is searched by passes, with its tables, and the room for passes.
-use Rattle.std.specs.Prelude.{◌≡◌, ℕ, ◌+◌, ◌-◌, ◌*◌, ◌/◌, ◌≤◌, ◌↔◌, Bool, true, List, length, IfSome, IsTrue}
+use Rattle.std.specs.Prelude.{◌≡◌, ℕ, ◌+◌, ◌-◌, ◌*◌, ◌/◌, ◌<◌, ◌≤◌, ◌↔◌, Bool, true, List, length, IfSome, IsTrue}
 use Rattle.sedre.specs.Tree.{WrittenExpression, expression_tree}
 use Rattle.sedre.specs.Steps.{Takes, TakesAtLeast}
 use Rattle.sedtext.specs.Caps.{IsReport}
 use Rattle.sedtext.specs.Following.{LooksPast}
-use Rattle.sedtext.specs.Groups.{SpansOfGroups}
+use Rattle.sedtext.specs.Groups.{SpansOfGroups, group_depth}
 use Rattle.sedtext.specs.Spans.{SomeFound}
 use Rattle.sedpass.specs.Prepared.{IsAnalysis}
 use Rattle.sedpass.specs.Decide.{AreRoomy, AreTables, HasSpace, spans_in}
@@ -60,6 +60,7 @@ pub record AnswersMatch (e : WrittenExpression) (w : List ℕ) (from before afte
 pub record AnswersGroups (e : WrittenExpression) (w : List ℕ) (span : ℕ × ℕ) (before after : ℕ) (groups : SpansOfGroups) : Type 0 where
   pub report : IsReport (expression_tree e) w span.0 span.1 groups
   pub none_cost : e.groups ≡ 0 → after ≡ before
-  pub cost : Takes before after (172 * length e.nodes * (length e.nodes - 1) * (span.1 - span.0) + 2 * length e.nodes)
+  pub cost : Takes before after (172 * length e.nodes * group_depth (expression_tree e) * (span.1 - span.0) + 2 * length e.nodes)
+  pub deep : group_depth (expression_tree e) < length e.nodes
   pub counts : TakesAtLeast before after (spans_in groups - 1)
   pub entered : EntersGroups (expression_tree e) w span.0 span.1 before after

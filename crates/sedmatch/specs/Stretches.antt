@@ -44,10 +44,6 @@ FirstOf Spans n p (Some f) =
 abbrev pub FollowTo : Option (List Bool) → List ℕ → ℕ → ℕ → Type 0
 FollowTo rest w i j = (j ≤ length w) × Follow rest w i j × ((k : ℕ) → Follow rest w i k → k ≤ j)
 
--- i is the first place from p on from which the text is of bytes that follow
-abbrev pub FollowFrom : Option (List Bool) → List ℕ → ℕ → ℕ → Type 0
-FollowFrom rest w p i = (p ≤ i) × (i ≤ length w) × Follow rest w i (length w) × ((h : ℕ) → p ≤ h → h < i → Follow rest w h (length w) → ⊥)
-
 -- the place behind what comes first where it was found, or the end n of the text
 abbrev pub passed_first : Option (List Bool) → ℕ → Option ℕ → ℕ
 passed_first first n None = n

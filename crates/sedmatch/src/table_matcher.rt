@@ -1,11 +1,11 @@
 //! An expression that is sought many times.
-ghost use Rattle.std.specs.Prelude.{◌≡◌, ℕ, ◌+◌, ◌-◌, ◌*◌, ◌≤◌, ◌↔◌, length, IfOk, IfSome, IsTrue, Some, is_some};
+ghost use Rattle.std.specs.Prelude.{◌≡◌, ℕ, ◌+◌, ◌-◌, ◌*◌, ◌<◌, ◌≤◌, ◌↔◌, length, IfOk, IfSome, IsTrue, Some, is_some};
 ghost use Rattle.sedre.specs.Tree.{WrittenExpression, expression_tree};
 ghost use Rattle.sedre.specs.Steps.{Takes, TakesAtLeast, CostsWithin};
 ghost use Rattle.sedtext.specs.Following.{CanEndEarly, EndsWithin, LiesOn, OccursAfter, LooksPast, bytes_passed, next_span};
 ghost use Rattle.sedtext.specs.Matching.{leftmost_longest, reported_groups};
 ghost use Rattle.sedtext.specs.Answer.{SpanIn};
-ghost use Rattle.sedtext.specs.Groups.{span_of};
+ghost use Rattle.sedtext.specs.Groups.{group_depth, span_of};
 ghost use Rattle.sedtext.specs.SearchRoom.{FitInto};
 ghost use Rattle.sedtext.specs.Spans.{SomeFound, Matches};
 ghost use Rattle.sedmatch.specs.Candidates.{NoMatchBefore};
@@ -296,7 +296,8 @@ impl TableMatcher {
         ensures cost { let m = length self.old.nodes in let n = length text.now in
             Takes steps.old steps.new (51 * m * m * (n + 1) * (n + 1)) }
         ensures linear_cost { let m = length self.old.nodes in
-            Takes steps.old steps.new (172 * m * (m - 1) * (end - start) + 2 * m) }
+            Takes steps.old steps.new (172 * m * group_depth (expression_tree self.old) * (end - start) + 2 * m) }
+        ensures deep { group_depth (expression_tree self.old) < length self.old.nodes }
         ensures counts { TakesAtLeast steps.old steps.new (spans_in result - 1) }
         ensures entered { EntersGroups (expression_tree self.old) text.now start end steps.old steps.new }
     {

@@ -5,6 +5,7 @@ ghost use Rattle.sedtext.specs.Answer.{IsComputed, MatchAnswer};
 ghost use Rattle.sedtext.specs.SearchRoom.{FitInto};
 ghost use Rattle.sedre.specs.Steps.{StepsWithin, Takes, TakesAtLeast};
 ghost use Rattle.sedpass.specs.Walks.{EntersGroups};
+ghost use Rattle.sedtext.specs.Groups.{group_depth};
 
 use crate::passes::shared_groups;
 use crate::scratch::Scratch;
@@ -35,7 +36,7 @@ pub fn find(
     ensures cost { let m = length expr.now.nodes in let n = length text.now in
         Takes steps.old steps.new (64 * m * m * (n + 1) * (n + 1)) }
     ensures linear_cost { let m = length expr.now.nodes in let n = length text.now in
-        StepsWithin steps.old steps.new (172 * m * m * (n + 1)) }
+        StepsWithin steps.old steps.new (172 * m * (group_depth (expression_tree expr.now) + 1) * (n + 1)) }
     ensures cost_without_groups { let m = length expr.now.nodes in let n = length text.now in expr.now.groups ≡ 0 →
         StepsWithin steps.old steps.new (64 * m * (n + 1) * (n + 1)) × StepsWithin steps.old steps.new (143 * m * (n + 1)) }
     ensures cost_of_none { let m = length expr.now.nodes in let n = length text.now in

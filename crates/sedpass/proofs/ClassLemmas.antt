@@ -1,8 +1,5 @@
 -- How classes of bytes are found.
-use Rattle.std.proofs.Common.{rules, ◌≡◌, ℕ, ◌+◌, ◌*◌, ◌<◌, ◌≤◌, Bool, true, false, List, length, Some, IsTrue, slice_get, slice_index_or, slice_set}
-use Rattle.sedpass.proofs.Words.{from_bool, cases_eq, same_Some}
-use Rattle.sedre.specs.Sets.{has}
-use Rattle.sedpass.specs.Classes.{IsNumbering, IsFiner}
+use Rattle.sedpass.proofs.Words.{rules, ◌≡◌, ℕ, ◌+◌, ◌*◌, ◌<◌, ◌≤◌, Bool, true, false, List, length, Some, IsTrue, slice_get, slice_index_or, slice_set, both_ways, from_bool, cases_eq, same_Some, has, IsNumbering, IsFiner}
 
 abbrev at : List ℕ → ℕ → ℕ
 at xs k = slice_index_or xs k 0
@@ -10,9 +7,6 @@ at xs k = slice_index_or xs k 0
 -- the key of a byte: its class, and whether it is in the set
 abbrev pub key_of : List ℕ → List Bool → ℕ → ℕ
 key_of classes members byte = 2 * at classes byte + from_bool (has members byte)
-
-pub bit_low : (b : Bool) → from_bool b ≤ 1
-bit_low b = search rules
 
 -- the first n bytes have the numbers of their keys
 abbrev pub AreGiven : (ℕ → ℕ) → List ℕ → List ℕ → ℕ → ℕ → Type 0
@@ -30,6 +24,9 @@ pub record AreParted (sets : List (List Bool)) (n : ℕ) (of : List ℕ) (count 
   pub below : (byte : ℕ) → byte < 256 → at of byte < count
   pub alike : (k : ℕ) (members : List Bool) → k < n → slice_get sets k ≡ Some members → (one other : ℕ) → one < 256 → other < 256 → at of one ≡ at of other → has members one ≡ has members other
   pub apart : (b other : ℕ) → b < 256 → other < 256 → IsTrue (slice_index_or alone b false) → at of other ≡ at of b → other ≡ b
+
+pub parted_none : (sets : List (List Bool)) (of : List ℕ) (alone : List Bool) → length of ≡ 256 → length alone ≡ 256 → ((b : ℕ) → b < 256 → at of b ≡ 0) → ((b : ℕ) → b < 256 → slice_index_or alone b false ≡ false) → AreParted sets 0 of 1 alone
+parted_none sets of alone wide each low unmarked = search (rules, both_ways)
 
 pub parted_more : (sets : List (List Bool)) (n : ℕ) (members alone : List Bool) (old of : List ℕ) (count next : ℕ) → slice_get sets n ≡ Some members → AreParted sets n old count alone → IsFiner old members of next →
     AreParted sets (n + 1) of next alone

@@ -1,14 +1,6 @@
 -- The groups that are given as due, as the state of a decision; what nodes and regions cost.
-use Rattle.std.proofs.Common.{rules, ◌≡◌, ℕ, zero, suc, ◌+◌, ◌-◌, ◌*◌, ◌<◌, ◌≤◌, ◌&&◌, not, Bool, true, false, List, [], ◌∷◌, length, Option, None, Some, IsTrue, refl, sym, ◌∙◌, true≢false, arith, IfSome, eqb, replicate, slice_get, slice_set, slice_index_or, vec_capacity}
-use Rattle.sedpass.proofs.Words.{cases_Bool, cases_lt, ext_get_or, length-set, mul-le-mul_right, Tree, tree_at, IsArena, IsExpr, AreRanges, Node, NodeId, Seq, Group, Star, tree_at-node, LastCut, LastCopy, SpansOfGroups, HasSpan, one_start, node_at, Matches-forward, Decided, GroupSet, Matched, Kept, Subject, Facts}
-use Rattle.sedpass.specs.Decide.{spans_in, flags_of, known_groups, HasBlank, IsAtEnd, HasDesk, AreTables, HasSpace, nodes_in, subject_text, NoneSettled, NodeMatches}
-use Rattle.sedpass.specs.Kept.{SameSpace, ends_shown}
-use Rattle.sedpass.specs.Prepared.{IsFacts, is_one_set, repeated_set, reported, holds, AllLong}
-use Rattle.sedpass.specs.Regions.{IsRunOf, repeated, in_group, IsSetAt}
-use Rattle.sedpass.specs.Walks.{settle, drop_groups, NoneDue, IsFirstState}
-use Rattle.sedpass.specs.declared.groups.GroupRoom.{GroupRoom}
-use Rattle.sedpass.specs.declared.groups.Tables.{Tables}
-use Rattle.sedpass.proofs.LengthLemmas.{all_long, copies_long}
+use Rattle.sedpass.proofs.Words.{rules, ◌≡◌, ℕ, zero, suc, ◌+◌, ◌-◌, ◌*◌, ◌<◌, ◌≤◌, ◌&&◌, not, Bool, true, false, List, [], ◌∷◌, length, Option, None, Some, IsTrue, refl, sym, ◌∙◌, true≢false, arith, IfSome, eqb, inl, inr, replicate, slice_get, slice_set, slice_index_or, vec_capacity, cases_Bool, cases_lt, and_parts, or_cases, expression_tree, size, group_depth, sequence, either_of, grouped, any_copies, one_or_none, ext_get_or, length-set, mul-le-mul_right, Tree, WrittenExpression, tree_at, IsArena, IsExpr, AreRanges, Node, NodeId, Seq, Group, Star, tree_at-node, LastCut, LastCopy, SpansOfGroups, HasSpan, one_start, node_at, Matches-forward, Decided, GroupSet, Matched, Kept, Subject, Facts, spans_in, flags_of, known_groups, HasBlank, IsAtEnd, HasDesk, AreTables, HasSpace, nodes_in, subject_text, NoneSettled, NodeMatches, SameSpace, ends_shown, IsFacts, is_one_set, repeated_set, reported, holds, IsRunOf, repeated, in_group, IsSetAt, root_of, has_group, settle, drop_groups, NoneDue, IsFirstState, GroupRoom, Tables}
+use Rattle.sedpass.proofs.LengthLemmas.{all_long, copies_long, AllLong}
 use Rattle.sedpass.proofs.OneGroupLemmas.{copy_spans, deed, drop_as, left, set_due, settle-due}
 use Rattle.sedpass.proofs.TurnLemmas.{opened}
 use Rattle.sedpass.proofs.TableLemmas.{same_all}
@@ -26,6 +18,30 @@ due_reported due k whole is = search rules
 pub none_due : (nodes : List Node) (x : ℕ) (facts : Facts) (t : Decided) → IsFacts (tree_at nodes x) x facts → holds t.due 0 ≡ false →
     ((k : ℕ) → IsTrue (holds facts.groups k) → IsTrue (holds t.due k) → ⊥) → NoneDue (tree_at nodes x) (known_groups t)
 none_due nodes x facts t is whole apart k has = search (rules, cases_Bool (holds t.due k), due_reported t.due k, flags_at t.due k, is.groups k)
+
+-- a node with a group is decided in a region at least
+group_deep : (e : Tree) (k : ℕ) → has_group e k ≡ true → 1 ≤ group_depth e
+group_deep (sequence a b) k has = elim (or_cases (has_group a k) (has_group b k) has) [ inl l ↦ grind (arith, group_deep a k l) | inr m ↦ omega (arith, group_deep b k m) ]
+group_deep (either_of a b) k has = elim (or_cases (has_group a k) (has_group b k) has) [ inl l ↦ omega (arith, group_deep a k l) | inr m ↦ omega (arith, group_deep b k m) ]
+group_deep (grouped n a) k has = omega arith
+group_deep (any_copies a first) k has = grind (arith, group_deep a k has)
+group_deep (one_or_none a first) k has = group_deep a k has
+group_deep other k has = cc
+
+-- and lies no deeper than there are nodes beside it
+group_small : (e : Tree) → group_depth e + 1 ≤ size e
+group_small (sequence a b) = grind (arith, group_small a, group_small b)
+group_small (either_of a b) = omega (arith, group_small a, group_small b)
+group_small (grouped n a) = omega (arith, group_small a)
+group_small (any_copies a first) = grind (arith, group_small a)
+group_small (one_or_none a first) = omega (arith, group_small a)
+group_small other = omega arith
+
+pub depth_few : (e : WrittenExpression) (groups : ℕ) → IsExpr e.nodes groups → group_depth (expression_tree e) + 1 ≤ length e.nodes
+depth_few e groups expr = search (rules, group_small (expression_tree e), expr.sizes (root_of e), expr.arena.nonempty)
+
+pub facts_deep : (e : Tree) (x : ℕ) (facts : Facts) (k : ℕ) → IsFacts e x facts → IsTrue (holds facts.groups k) → 1 ≤ group_depth e
+facts_deep e x facts k is has = search (rules, group_deep e k, is.groups k, and_parts)
 
 -- what is due and is not taken is due still
 flags_left : (old other new : GroupSet) (n : ℕ) (x : Bool) (v : Option (ℕ × ℕ)) → holds old 0 ≡ false → holds other n ≡ (reported n && x) → holds new n ≡ (holds old n && not (holds other n)) →

@@ -1,25 +1,17 @@
 -- What is found out of each node once, and what it means for passes.
-use Rattle.std.proofs.Common.{rules, ◌≡◌, ℕ, zero, suc, ◌+◌, ◌<◌, ◌≤◌, ◌⊎◌, ◌↔◌, Bool, true, false, ◌&&◌, List, [], ◌∷◌, ◌++◌, length, Some, IsTrue, refl, ap, inl, inr, arith, bit_and, bit_or, ◌||◌, slice_get, eqb}
-use Rattle.sedpass.proofs.Words.{option_eq, bit_at_and, bit_at_or, bit_at-lt, cases_lt, same_Some, none-some, size, IsArena, IsExpr, IsPart, FollowsParts, mirror, seen, Node, NodeId, Seq, Alt, Group, Star, Opt, tree_at-node, tree_at-mirror, seen-length, Matches, no_copy, IsPlace, Matches-forward, node_at, Facts, PlaceKind, either-iff, both-iff}
-use Rattle.sedre.specs.Tree.{Tree, byte_of, sequence, either_of, grouped, WrittenExpression, tree_of, tree_at}
-use Rattle.sedre.proofs.Written.{size_positive}
-use Rattle.sedpass.specs.Prepared.{nullable, null_in, null_at, is_one_set, IsFacts, AreFacts, IsShort, length_of}
-use Rattle.sedpass.specs.Rows.{at_begin, at_edge, IsNodeRange, AreNull}
+use Rattle.sedpass.proofs.Words.{rules, ◌≡◌, ℕ, zero, suc, ◌+◌, ◌<◌, ◌≤◌, ◌⊎◌, ◌↔◌, Bool, true, false, ◌&&◌, List, [], ◌∷◌, ◌++◌, length, Some, IsTrue, refl, ap, inl, inr, arith, bit_and, bit_or, ◌||◌, slice_get, eqb, option_eq, bit_at_and, bit_at_or, bit_at-lt, cases_lt, same_Some, none-some, size, IsArena, IsExpr, IsPart, FollowsParts, mirror, seen, Node, Seq, Alt, Group, Star, Opt, tree_at-node, tree_at-mirror, seen-length, Matches, no_copy, IsPlace, Matches-forward, node_at, Facts, PlaceKind, either-iff, both-iff, Tree, byte_of, sequence, either_of, grouped, WrittenExpression, tree_of, tree_at, size_positive, nullable, null_in, null_at, is_one_set, IsFacts, AreFacts, IsShort, length_of, at_begin, at_edge, IsNodeRange, AreNull}
 use Rattle.sedpass.proofs.LengthLemmas.{sum_parts, same_parts}
 use Rattle.sedpass.proofs.RowLemmas.{not_true, range_of, mirror_range}
 use Rattle.sedpass.proofs.GroupSetLemmas.{two_bits}
 
 -- null strings
-
 module _ (w : List ℕ) (p : ℕ) (first last : Bool) (there : IsPlace w p first last) where
   -- the null string at a place of the kind
   pub nullable_is : (t : Tree) → IsTrue (nullable first last t) ↔ Matches t w p p
   nullable_is (byte_of members) = not_true (Matches (byte_of members) w p p) (λ h. omega (arith, h.3))
   nullable_is (sequence a b) =
-      let both = both-iff (nullable first last a) (nullable first last b) (Matches a w p p) (Matches b w p p) (nullable_is a) (nullable_is b) in (
-        λ h. (p, (both.0 h).0, (both.0 h).1),
-        λ h. let e : h.0 ≡ p = omega (arith, Matches-forward a w p h.0 h.1, Matches-forward b w h.0 p h.2) in both.1 (rw e at h.1, rw e at h.2),
-      )
+      let both = both-iff (nullable first last a) (nullable first last b) (Matches a w p p) (Matches b w p p) (nullable_is a) (nullable_is b) in
+      (λ h. (p, (both.0 h).0, (both.0 h).1), λ h. let e : h.0 ≡ p = omega (arith, Matches-forward a w p h.0 h.1, Matches-forward b w h.0 p h.2) in both.1 (rw e at h.1, rw e at h.2))
   nullable_is (either_of a b) = either-iff (nullable first last a) (nullable first last b) (Matches a w p p) (Matches b w p p) (nullable_is a) (nullable_is b)
   nullable_is (grouped k a) = nullable_is a
   nullable_is other = search (rules, no_copy)
@@ -45,79 +37,50 @@ null_shows false e kind w p there c low = nullable_is w p kind.begin kind.end th
 null_shows true e kind w p there c low = search (rules, tree_at-mirror, nullable_mirror, nullable_is)
 
 -- trees are ranges
-
 module _ (nodes : List Node) (groups : ℕ) (expr : IsExpr nodes groups) where
   abbrev pub RangesBelow : ℕ → Type 0
   RangesBelow n = (y low : ℕ) → y < n → low + size (tree_at nodes y) ≡ y + 1 → IsNodeRange nodes low y
 
-  one_part : (x low : ℕ) (a : NodeId) (node : Node) → slice_get nodes x ≡ Some node → IsPart node a.index → ((c : ℕ) → IsPart node c → a.index ≡ c) → a.index + 1 ≡ x → RangesBelow x →
-      low + (1 + size (tree_at nodes a.index)) ≡ x + 1 → IsNodeRange nodes low x
-  one_part x low a node is part only next below long =
-      let some = size_positive (tree_at nodes a.index) in
-      let range = below a.index low (omega arith) (omega arith) in
-      range_of nodes x low node is (omega arith) (λ c from to. (a.index, part, (range c).0 (from, omega arith)))
-      (λ b c that tree. let g = (range c).1 (rw (only b that) tree) in (g.0, omega (arith, g.1)))
-
-  two_parts : (x low : ℕ) (a b : NodeId) (node : Node) → slice_get nodes x ≡ Some node → IsPart node a.index → IsPart node b.index → ((c : ℕ) → IsPart node c → (a.index ≡ c) ⊎ (b.index ≡ c)) →
-      (a.index + size (tree_at nodes b.index) + 1 ≡ x) × (b.index + 1 ≡ x) → RangesBelow x → low + (1 + size (tree_at nodes a.index) + size (tree_at nodes b.index)) ≡ x + 1 → IsNodeRange nodes low x
-  two_parts x low a b node is left right only follows below long =
-      let some = size_positive (tree_at nodes a.index) in
-      let some' = size_positive (tree_at nodes b.index) in
-      let range = below a.index low (omega (arith, follows.0)) (omega (arith, follows.0)) in
-      let range' = below b.index (a.index + 1) (omega (arith, follows.1)) (omega (arith, follows.0)) in
-      range_of nodes x low node is (omega arith)
-      (λ c from to. elim (cases_lt a.index c) [ inl lt ↦ (b.index, right, (range' c).0 (omega arith, omega (arith, follows.1))) | inr ge ↦ (a.index, left, (range c).0 (from, ge)) ])
-      (λ d c that tree. elim (only d that) [
-        | inl e ↦ let g = (range c).1 (rw e tree) in (g.0, omega (arith, g.1, follows.0))
-        | inr e ↦ let g = (range' c).1 (rw e tree) in (omega (arith, g.0, follows.0), omega (arith, g.1, follows.1))
-      ])
+  -- the parts are a, and b, if that is another one: from low on, and from mid on
+  by_parts : (x low mid a b : ℕ) (node : Node) → slice_get nodes x ≡ Some node → IsPart node a → IsPart node b → ((c : ℕ) → IsPart node c → (a ≡ c) ⊎ (b ≡ c)) →
+      (mid ≤ a + 1) × (low ≤ mid) × (a < x) × (b + 1 ≡ x) × (low + size (tree_at nodes a) ≡ a + 1) × (mid + size (tree_at nodes b) ≡ b + 1) → RangesBelow x → IsNodeRange nodes low x
+  by_parts x low mid a b node is left right only long below =
+      let range = below a low (omega (arith, long)) (omega (arith, long)) in
+      let range' = below b mid (omega (arith, long)) (omega (arith, long)) in
+      range_of nodes x low node is (omega (arith, long)) (λ c from to. let at = cases_lt a c in search rules) (λ d c that tree. let at = only d that in search rules)
 
   range_by : (x low : ℕ) (node : Node) → slice_get nodes x ≡ Some node → FollowsParts nodes x node → RangesBelow x → low + size (tree_of (tree_at nodes) node) ≡ x + 1 → IsNodeRange nodes low x
-  range_by x low (Seq a b) is follows below long = two_parts x low a b (Seq a b) is (inl refl) (inr refl) (λ c part. part) follows below long
-  range_by x low (Alt a b) is follows below long = two_parts x low a b (Alt a b) is (inl refl) (inr refl) (λ c part. part) follows below long
-  range_by x low (Group k a) is follows below long = one_part x low a (Group k a) is refl (λ c part. part) follows below long
-  range_by x low (Star a f) is follows below long = one_part x low a (Star a f) is refl (λ c part. part) follows below long
-  range_by x low (Opt a f) is follows below long = one_part x low a (Opt a f) is refl (λ c part. part) follows below long
+  range_by x low (Seq a b) is follows below long = by_parts x low (a.index + 1) a.index b.index _ is (inl refl) (inr refl) (λ c part. part) (search (rules, size_positive)) below
+  range_by x low (Alt a b) is follows below long = by_parts x low (a.index + 1) a.index b.index _ is (inl refl) (inr refl) (λ c part. part) (search (rules, size_positive)) below
+  range_by x low (Group k a) is follows below long = by_parts x low low a.index a.index _ is refl refl (λ c part. inl part) (search (rules, size_positive)) below
+  range_by x low (Star a f) is follows below long = by_parts x low low a.index a.index _ is refl refl (λ c part. inl part) (search (rules, size_positive)) below
+  range_by x low (Opt a f) is follows below long = by_parts x low low a.index a.index _ is refl refl (λ c part. inl part) (search (rules, size_positive)) below
   range_by x low other is follows below long = search (rules, range_of)
 
   ranges_below : (n : ℕ) → n ≤ length nodes → RangesBelow n
   ranges_below zero small y low less long = absurd (omega arith)
-  ranges_below (suc n) small y low less long = elim (cases_lt y n) [
-    | inl lt ↦ ranges_below n (omega arith) y low lt long
-    | inr ge ↦
-        let here = node_at nodes y (omega arith) in
-        let same : y ≡ n = omega arith in
-        range_by y low here.0 here.1 (expr.ranges y here.0 here.1) (rw same (ranges_below n (omega arith))) (omega (arith, long, ap size (tree_at-node nodes y here.0 expr.arena here.1)))
-  ]
+  ranges_below (suc n) small y low less long =
+      let here = node_at nodes y (omega arith) in
+      range_by y low here.0 here.1 (expr.ranges y here.0 here.1) (λ z l lt. ranges_below n (omega arith) z l (omega arith)) (omega (arith, long, ap size (tree_at-node nodes y here.0 expr.arena here.1)))
 
-  -- the nodes in x are those from low to x
-  pub range_is : (x low : ℕ) → x < length nodes → low + size (tree_at nodes x) ≡ x + 1 → IsNodeRange nodes low x
-  range_is x low inside long = ranges_below (x + 1) (omega arith) x low (omega arith) long
-
--- in the mirrored expression too
-pub range_seen : (mirrored : Bool) (e : WrittenExpression) (low x : ℕ) → IsNodeRange e.nodes low x → IsNodeRange (seen mirrored e).nodes low x
-range_seen false e low x range = range
-range_seen true e low x range = mirror_range e low x range
+-- the nodes in x are those from low to x, in the mirrored expression too
+pub range_is : (mirrored : Bool) (e : WrittenExpression) → IsExpr e.nodes e.groups → (x low : ℕ) → x < length e.nodes → low + size (tree_at e.nodes x) ≡ x + 1 → IsNodeRange (seen mirrored e).nodes low x
+range_is false e expr x low inside long = ranges_below e.nodes e.groups expr (x + 1) (omega arith) x low (omega arith) long
+range_is true e expr x low inside long = mirror_range e low x (ranges_below e.nodes e.groups expr (x + 1) (omega arith) x low (omega arith) long)
 
 pub inside_seen : (mirrored : Bool) (e : WrittenExpression) (x : ℕ) → x < length e.nodes → x < length (seen mirrored e).nodes
 inside_seen mirrored e x inside = omega (arith, seen-length mirrored e)
 
--- what is known of a node, by what is known of its parts
-
 -- a node without parts whose matches have one byte is a set
-set_by : (t : Tree) → size t ≡ 1 → option_eq eqb (length_of t) (Some 1) ≡ true → is_one_set t ≡ true
-set_by t small long = search (rules, size_positive)
-
 pub shown_set : (a : Tree) (x : ℕ) (part : Facts) → IsFacts a x part → part.low ≡ x → option_eq eqb part.length (Some 1) ≡ true → is_one_set a ≡ true
-shown_set a x part shown low long = let size_is = shown.low in set_by a (omega arith) (rw (← shown.long) long)
+shown_set a x part shown low long = let size_is = shown.low in let same = shown.long in search (rules, size_positive)
 
 -- an expression has no longer matches of one length than nodes
 length_short : (t : Tree) (n : ℕ) → length_of t ≡ Some n → n ≤ size t
-length_short (byte_of members) n is = let one_long : 1 ≡ n = cc in omega arith
 length_short (sequence a b) n is = let parts = sum_parts (length_of a) (length_of b) n is in omega (arith, parts.4, length_short a parts.0 parts.2, length_short b parts.1 parts.3)
 length_short (either_of a b) n is = omega (arith, length_short a n (same_parts (length_of a) (length_of b) n is).0)
 length_short (grouped k a) n is = omega (arith, length_short a n is)
-length_short other n is = search rules
+length_short other n is = search (rules, same_Some)
 
 pub shown_short : (a : Tree) (x : ℕ) (part : Facts) → IsFacts a x part → size a ≤ 65536 → IsShort part.length
 shown_short a x part shown small = search (rules, length_short)

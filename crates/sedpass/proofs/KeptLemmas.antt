@@ -1,13 +1,9 @@
 -- What is kept of a pass backwards, and how it comes down by a place.
-use Rattle.std.proofs.Common.{inl, inr, ◌≡◌, ◌≢◌, ℕ, ◌+◌, ◌-◌, ◌*◌, ◌/◌, ◌^◌, ◌<◌, ◌≤◌, ◌↔◌, length-set, mul-le-mul_right, Bool, true, false, List, length, Some, sym, ◌∙◌, subst, arith, IsTrue, not, reverse, slice_get, slice_index_or, slice_set, rules}
-use Rattle.sedpass.proofs.Words.{with_item, StateFlags, div-mul-le_self, lt-div-mul-add, beq, length-reverse, get_or_default, get_or-set_same, get_or-set_other, seen, Starts, IsStart, one_start, IsPlace, get-reverse, KeepsRows, row_of, Kept, cases_lt, WrittenExpression, Way, Table, PlaceKind}
-use Rattle.sedpass.specs.Regions.{Opposite, ReachesEnd, MeetsAt}
-use Rattle.sedpass.specs.Rows.{AreWide, leaves_row, ends_row, bits, nodes_of}
-use Rattle.sedpass.specs.Kept.{starts_shown, ends_shown, ComesDown, RowKept, KeptAt, IsLive, IsRegion, PassesDownTo, IsEdge, SameKept, SameSpace, EdgesFrom, IsKept, KeepsRegion, Follows}
-use Rattle.sedpass.specs.Table.{code_of, Codes, IsNext, PassState, state_of, LeadsOn, BeginsIn, IsTable, SameShape, AddsStates, IsOffset}
+use Rattle.sedpass.proofs.Words.{inl, inr, ◌≡◌, ◌≢◌, ℕ, ◌+◌, ◌-◌, ◌*◌, ◌/◌, ◌^◌, ◌<◌, ◌≤◌, ◌↔◌, Bool, true, false, List, length, Some, sym, ◌∙◌, subst, arith, IsTrue, not, reverse, slice_get, slice_index_or, slice_set, rules, with_item, StateFlags, div-mul-le_self, lt-div-mul-add, beq, length-reverse, get_or_default, get_or-set_same, get_or-set_other, seen, Starts, IsStart, one_start, IsPlace, get-reverse, KeepsRows, row_of, Kept, cases_lt, WrittenExpression, Way, Table, PlaceKind, ReachesEnd, MeetsAt, AreWide, leaves_row, ends_row, bits, nodes_of, starts_shown, ends_shown, ComesDown, RowKept, KeptAt, IsLive, IsRegion, PassesDownTo, IsEdge, SameKept, SameSpace, EdgesFrom, IsKept, KeepsRegion, Follows, code_of, Codes, IsNext, PassState, state_of, LeadsOn, BeginsIn, IsTable, SameShape, AddsStates, IsOffset, length-set, mul-le-mul_right}
 use Rattle.sedpass.proofs.TableLemmas.{names_offset, names_state}
 use Rattle.sedpass.proofs.RowLemmas.{behind_reaches, meet_rows, bits_here}
 use Rattle.sedpass.proofs.MeetingLemmas.{set_early}
+use Rattle.sedpass.proofs.LeaveLemmas.{Opposite}
 
 -- the starts of the mirrored pass are the places where its matches end
 pub shown_opposite : (all_starts : Bool) (n end : ℕ) → end ≤ n → Opposite n (starts_shown all_starts n end) (ends_shown all_starts end)
@@ -121,14 +117,7 @@ edges_none p w t k block short b above before = search (rules, mul-le-mul_right)
 -- what a pass came down to is kept
 pub kept_passed : (p : WrittenExpression) (w : List ℕ) (t : Table) (k other : Kept) (place offset : ℕ) → PassesDownTo p w t k place offset → EdgesFrom p w t k other.region.low → other.region.low ≤ place → other.region.from ≡ place →
     other.states ≡ k.states → other.edges ≡ k.edges → other.region.root ≡ k.region.root → other.region.end ≡ k.region.end → other.region.to ≡ k.region.to → IsKept p w t other
-kept_passed p w t k other place offset passes kept low from states edges root end to =
-    record {
-      region = search (rules, passes.region);
-      low = omega arith;
-      from = omega (arith, passes.within);
-      live = λ q above before. rw (root, end, states) (passes.live q (omega arith) (omega arith));
-      edges = λ b above before. rw (root, end, edges) (kept b above (omega (arith, end, before)));
-    }
+kept_passed p w t k other place offset passes kept low from states edges root end to = grind arith
 
 -- the state of the region's end
 pub first_at : (p : WrittenExpression) (w : List ℕ) (t : Table) (k : Kept) (way : Way) (place : ℕ) (kind : PlaceKind) (a : PassState) → IsRegion p w t k → way ≡ t.way → place ≡ k.region.end →
@@ -160,10 +149,7 @@ kept_mark p w t k x q s row mark kept inside above before read at_row is =
 
 -- and its rows are there
 pub kept_rows : (p : WrittenExpression) (w : List ℕ) (t : Table) (k : Kept) (q s : ℕ) → IsKept p w t k → k.region.from ≤ q → q < k.region.to → s ≡ slice_index_or k.states.items q s → AreWide (length p.nodes) s t.rows
-kept_rows p w t k q s kept above before read =
-    let room = kept.region.table.room in
-    let low : s < t.room = omega (arith, (kept.live q above before).0, room.count, kept_read p w t k q s kept before read) in
-    omega (arith, low, room.rows, room.marks)
+kept_rows p w t k q s kept above before read = grind (arith, kept_read)
 
 -- a mark that is as asked, and one that isn't
 pub as_asked : (A : Type 0) (mark asked : Bool) → beq mark asked ≡ true → (IsTrue mark ↔ A) → IsTrue asked ↔ A

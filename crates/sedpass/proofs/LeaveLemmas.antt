@@ -1,7 +1,9 @@
 -- How a part is left, by what follows it in its node, and what a node is left to that nothing follows.
-use Rattle.std.proofs.Common.{rules, ◌≡◌, ℕ, ◌+◌, ◌-◌, ◌≤◌, ◌⊎◌, ◌↔◌, true, List, length, reverse, Some, refl, inl, arith, slice_get}
-use Rattle.sedpass.proofs.Words.{IsArena, IsPart, HasTwoParts, WrittenExpression, tree_at, mirror_node, seen, seen-node, old_node, Node, Seq, Alt, Group, Star, Opt, Starts, no_copy, HasSpan, BeginsWith, IsStart, Enters, at_root, with_whole, after_left, again, CanEnd, Matches-forward, close_at, same_node, HasSpan-mirror}
-use Rattle.sedpass.specs.Regions.{EndsWith, CanLeave, at_end, with_end, before_right, before_copies, ReachesEnd, EndsPastIn, Opposite, IsLastPart, IsLastIn, all_of, last_of}
+use Rattle.sedpass.proofs.Words.{rules, ◌≡◌, ℕ, ◌+◌, ◌-◌, ◌<◌, ◌≤◌, ◌⊎◌, ◌↔◌, true, List, length, reverse, Some, refl, inl, arith, slice_get, IsArena, IsPart, HasTwoParts, WrittenExpression, tree_at, mirror_node, seen, seen-node, old_node, Node, Seq, Alt, Group, Star, Opt, Starts, no_copy, HasSpan, BeginsWith, IsStart, Enters, at_root, with_whole, after_left, again, CanEnd, Matches-forward, close_at, same_node, HasSpan-mirror, EndsWith, CanLeave, at_end, with_end, before_right, before_copies, ReachesEnd, EndsPastIn, IsLastPart, IsLastIn, all_of, last_of}
+
+-- the starts s, counted from the end of n bytes, are the places t
+abbrev pub Opposite : ℕ → Starts → Starts → Type 0
+Opposite n s t = (i d : ℕ) → i + d ≡ n → IsStart s d ↔ IsStart t i
 
 -- how the part c of the node at y is left at i
 abbrev pub OutOf : List Node → List ℕ → ℕ → Starts → ℕ → ℕ → ℕ → Node → Type 0
@@ -65,11 +67,12 @@ module _ (nodes : List Node) (w : List ℕ) (r : ℕ) (t : Starts) (arena : IsAr
       last-leaves y i up (OutOf-last y x i node (arena.distinct y node is) last (CanLeave-part y (last_inside y up) x i node is part l))
 
 -- a node that is last in r is marked exactly where it matches up to one of the ends
-pub reaches_ends : (nodes : List Node) (w : List ℕ) (r x p : ℕ) (t : Starts) → IsArena nodes → IsLastIn nodes r x → ReachesEnd nodes w r t x p ↔ ((k : ℕ) × IsStart t k × HasSpan nodes w x p k)
-reaches_ends nodes w r x p t arena last = (λ h. (h.0, last-leaves nodes w r t arena x h.0 last h.2, h.1), λ h. (h.0, h.2, CanLeave-last nodes w r t arena x h.0 last h.1))
+pub reaches_ends : (nodes : List Node) (w : List ℕ) (r x p : ℕ) (t : Starts) → IsArena nodes → IsLastIn nodes r x →
+    ReachesEnd nodes w r t x p ↔ ((k : ℕ) × IsStart t k × HasSpan nodes w x p k × ((p < k) ⊎ (x ≡ r)))
+reaches_ends nodes w r x p t arena last = (λ h. (h.0, last-leaves nodes w r t arena x h.0 last h.2, h.1, h.3), λ h. (h.0, h.2, CanLeave-last nodes w r t arena x h.0 last h.1, h.3))
 
--- a node ends with a byte or without
-pub ends_at : (nodes : List Node) (w : List ℕ) (r x q : ℕ) (s : Starts) → EndsPastIn nodes w r s x q ↔ (CanEnd nodes w r s x q ⊎ (Enters nodes w r s x q × HasSpan nodes w x q q))
+-- a node ends with a byte, and r without one too
+pub ends_at : (nodes : List Node) (w : List ℕ) (r x q : ℕ) (s : Starts) → EndsPastIn nodes w r s x q ↔ (CanEnd nodes w r s x q ⊎ ((x ≡ r) × (Enters nodes w r s x q × HasSpan nodes w x q q)))
 ends_at nodes w r x q s = (λ h. search (rules, Matches-forward (tree_at nodes x) w h.0 q h.2), λ h. search rules)
 
 -- a part that begins where the node does ends where the mirrored one does, and the other way about
@@ -118,8 +121,8 @@ module _ (e : WrittenExpression) (w : List ℕ) (r : ℕ) (s t : Starts) (arena 
   reaches_mirror x p d sum = (
     λ h.
         let m = far h.0 (let top = CanLeave-to e.nodes w r t arena x h.0 h.2 in omega arith) in
-        (m.0, CanLeave-mirror x h.0 m.0 m.1 h.2, (span_in x p h.0 d m.0 sum m.1).0 h.1),
+        (m.0, CanLeave-mirror x h.0 m.0 m.1 h.2, (span_in x p h.0 d m.0 sum m.1).0 h.1, grind (arith, h.3)),
     λ h.
         let m = far h.0 (let on = Matches-forward (tree_at (seen true e).nodes x) (reverse w) h.0 d h.2 in omega arith) in
-        (m.0, (span_in x p m.0 d h.0 sum m.2).1 h.2, CanLeave-unmirror x h.0 m.0 m.2 h.1),
+        (m.0, (span_in x p m.0 d h.0 sum m.2).1 h.2, CanLeave-unmirror x h.0 m.0 m.2 h.1, grind (arith, h.3)),
   )

@@ -1,7 +1,9 @@
 -- Spans of one length, and the cuts and copies that it decides.
-use Rattle.std.proofs.Common.{rules, ◌≡◌, ℕ, ◌+◌, ◌-◌, ◌<◌, List, Option, Some, ⊎_elim, inl, inr, arith}
-use Rattle.sedpass.proofs.Words.{eqb-true, cond_some, Tree, byte_of, sequence, either_of, grouped, CopiesLead, no_copy, one_more, Matches, LastCut, LastCopy, only, then_copy, CopiesLead-forward, cases_eq}
-use Rattle.sedpass.specs.Prepared.{sum_of, same_of, length_of, AllLong}
+use Rattle.sedpass.proofs.Words.{rules, ◌≡◌, ℕ, ◌+◌, ◌-◌, ◌<◌, List, Option, Some, inl, inr, arith, eqb-true, cond_some, Tree, byte_of, sequence, either_of, grouped, CopiesLead, no_copy, one_more, Matches, LastCopy, only, then_copy, CopiesLead-forward, cases_eq, sum_of, same_of, length_of}
+
+-- all that R leads to lies n places on
+abbrev pub AllLong : (ℕ → ℕ → Type 0) → ℕ → Type 0
+AllLong R n = (i j : ℕ) → R i j → j ≡ i + n
 
 -- the parts of a length that is known
 pub sum_parts : (first second : Option ℕ) (n : ℕ) → sum_of first second ≡ Some n → (m : ℕ) × (k : ℕ) × (first ≡ Some m) × (second ≡ Some k) × (n ≡ m + k)
@@ -15,18 +17,9 @@ all_long (byte_of members) w n is i j s = let one_long : 1 ≡ n = cc in omega (
 all_long (sequence a b) w n is i j s =
     let parts = sum_parts (length_of a) (length_of b) n is in
     omega (arith, parts.4, all_long a w parts.0 parts.2 i s.0 s.1, all_long b w parts.1 parts.3 s.0 j s.2)
-all_long (either_of a b) w n is i j s =
-    let parts = same_parts (length_of a) (length_of b) n is in
-    ⊎_elim (all_long a w n parts.0 i j) (all_long b w n parts.1 i j) s
+all_long (either_of a b) w n is i j s = grind (arith, same_parts (length_of a) (length_of b) n is, all_long a w n, all_long b w n)
 all_long (grouped k a) w n is i j s = all_long a w n is i j s
 all_long other w n is i j s = search rules
-
-module _ (A B : ℕ → ℕ → Type 0) (i j n : ℕ) (some : (k : ℕ) × A i k × B k j) where
-  pub left_long : AllLong A n → LastCut A B i j (i + n)
-  left_long long = search rules
-
-  pub right_long : AllLong B n → LastCut A B i j (j - n)
-  right_long long = search rules
 
 -- of copies of one length the last one begins that much before the end
 pub copies_long : (R : ℕ → ℕ → Type 0) (j n : ℕ) → AllLong R n → (i : ℕ) → i < j → CopiesLead R j i → LastCopy R j i (j - n)

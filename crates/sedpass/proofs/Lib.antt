@@ -7,7 +7,6 @@ pub mod KeptLemmas
 pub mod LeaveLemmas
 pub mod LengthLemmas
 pub mod MeetingLemmas
-pub mod OccurrenceLemmas
 pub mod OneGroupLemmas
 pub mod OwedLemmas
 pub mod RowLemmas

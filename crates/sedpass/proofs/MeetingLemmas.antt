@@ -1,10 +1,15 @@
 -- Where a pass forwards over a part and a pass backwards over what holds the part meet, a match of the part goes on and
 -- the end is reached.
-use Rattle.std.proofs.Common.{◌≡◌, ℕ, zero, suc, ◌+◌, ◌-◌, ◌<◌, ◌≤◌, ◌⊎◌, ◌↔◌, Bool, List, length, Some, refl, sym, ◌∙◌, inl, inr, ⊎_elim, arith, slice_get, rules}
-use Rattle.sedpass.proofs.Words.{cases_lt, slice_get_within, IsArena, IsPart, tree_at, Node, NodeId, Empty, Set, Begin, End, Seq, Alt, Group, Star, Opt, Starts, CopiesLead, no_copy, one_more, LastCut, LastCopy, only, then_copy, IsRepetitionOf, HasSpan, BeginsWith, IsStart, one_start, Enters, at_root, with_whole, after_left, again, Matches-forward, CopiesLead-forward, CopiesLead-append, open_at, close_at, Enters-inside, star_copies, BeginsWith-part, node_at}
-use Rattle.sedpass.specs.Regions.{CanLeave, with_end, before_right, before_copies, ReachesEnd, IsLastIn, all_of, MeetsAt, CeasesAt, NextCopy, IsRunOf, repeated, in_group}
-use Rattle.sedtext.proofs.FixedRunLemmas.{CopiesLead-join}
+use Rattle.sedpass.proofs.Words.{◌≡◌, ℕ, zero, suc, ◌+◌, ◌-◌, ◌<◌, ◌≤◌, ◌⊎◌, ◌↔◌, Bool, List, length, Some, refl, sym, ◌∙◌, inl, inr, ⊎_elim, arith, slice_get, rules, cases_lt, slice_get_within, IsArena, IsPart, tree_at, Node, NodeId, Empty, Set, Begin, End, Seq, Alt, Group, Star, Opt, Starts, CopiesLead, no_copy, one_more, LastCut, LastCopy, only, then_copy, IsRepetitionOf, HasSpan, BeginsWith, IsStart, one_start, Enters, at_root, with_whole, after_left, again, Matches-forward, CopiesLead-forward, CopiesLead-append, open_at, close_at, Enters-inside, star_copies, BeginsWith-part, node_at, CanLeave, with_end, before_right, before_copies, ReachesEnd, IsLastIn, all_of, MeetsAt, CeasesAt, IsRunOf, repeated, in_group, CopiesLead-join}
 use Rattle.sedpass.proofs.LeaveLemmas.{OutOf, CanLeave-part, CanLeave-to, last_inside, last-leaves, CanLeave-last}
+
+-- k is the greatest place to which one copy of R that is not empty leads from i, and from which copies lead on to j
+pub record NextCopy (R : ℕ → ℕ → Type 0) (i j k : ℕ) : Type 0 where
+  pub after : i < k
+  pub within : k ≤ j
+  pub copy : R i k
+  pub rest : CopiesLead R j k
+  pub greatest : (l : ℕ) → R i l → CopiesLead R j l → l ≤ k
 
 -- copies that pass j have one that passes it, and copies lead from its end to theirs
 CopiesLead-cross : (R : ℕ → ℕ → Type 0) (P : ℕ → Type 0) (G : Type 0) (j k : ℕ) →
@@ -84,7 +89,7 @@ module _ (nodes : List Node) (w : List ℕ) (r : ℕ) (t : Starts) (a : ℕ) (s 
         by on Empty is i k enters leaves at low high = absurd (omega (arith, open_at nodes w x Empty arena is i k at))
         by on (Set members) is i k enters leaves at low high =
             let same : i ≡ p = omega (arith, (open_at nodes w x (Set members) arena is i k at).3) in
-            (x, members, is, rw (← same) enters, (k, rw (← same) at, leaves))
+            (x, members, is, rw (← same) enters, (k, rw (← same) at, leaves, inl high))
         by on Begin is i k enters leaves at low high = absurd (omega (arith, open_at nodes w x Begin arena is i k at))
         by on End is i k enters leaves at low high = absurd (omega (arith, open_at nodes w x End arena is i k at))
         by on (Seq b c) is i k enters leaves at low high =
@@ -121,6 +126,14 @@ meets-goes_on nodes w r a p s t arena inside within = (
       (all.0, all.1, all.2, all.3, omega (arith, all.4, (open_at nodes w h.0 (Set h.1) arena h.2 p h.4.0 h.4.1).3), all.5, all.6),
   λ h. passes nodes w r t a s arena within p (suc a) a (omega arith) inside h.0 h.1 (at_root a h.0 refl h.2) h.6 h.5 h.3 h.4,
 )
+
+-- at the start of a pass over a part of r: exactly where the part is marked
+pub marked_meets : (nodes : List Node) (w : List ℕ) (r a p : ℕ) (t : Starts) → IsArena nodes → a < length nodes → a < r → MeetsAt nodes w r t a (one_start p) p ↔ ReachesEnd nodes w r t a p
+marked_meets nodes w r a p t arena inside within =
+    let both = meets-goes_on nodes w r a p (one_start p) t arena inside (omega arith) in (
+      λ h. let g = both.0 h in let same : g.0 ≡ p = omega (arith, g.2) in (g.1, rw same at g.5, g.6, inl g.4),
+      λ h. both.1 (p, h.0, (omega arith, omega arith), omega arith, grind (arith, h.3), h.1, h.2),
+    )
 
 -- of the whole node r: exactly where a match of it goes on
 pub meets_whole : (nodes : List Node) (w : List ℕ) (r p : ℕ) (s t : Starts) → IsArena nodes → r < length nodes →
@@ -267,7 +280,7 @@ module _ (nodes : List Node) (w : List ℕ) (r j x : ℕ) (a b : NodeId) (arena 
             CopiesLead-cross (HasSpan nodes w c) (λ u. Unit {0}) (ReachesEnd nodes w r (one_start j) c q) q l
             (λ u v _ copy rest up on.
             let same : u ≡ q = omega (arith, (open_at nodes w c (Set members) arena is_set u v copy).3) in
-            (v, rw (← same) copy, before_copies y c v l of.0 of.1 of.2 of.3 leaves ((star_copies nodes w y c v l arena of).1 rest)))
+            (v, rw (← same) copy, before_copies y c v l of.0 of.1 of.2 of.3 leaves ((star_copies nodes w y c v l arena of).1 rest), inl on))
             (λ u v lt _ copy. tt)
             i copies tt low g.1,
       )

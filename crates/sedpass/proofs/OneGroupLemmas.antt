@@ -1,11 +1,5 @@
 -- What becomes of one group of a match while all are decided from its end; so decided, they are those decided from the left.
-use Rattle.std.proofs.Common.{rules, ◌≡◌, ℕ, zero, suc, ◌<◌, ◌≤◌, ◌⊎◌, Bool, true, false, List, [], ◌∷◌, length, Option, None, Some, refl, sym, ◌∙◌, inl, inr, arith, replicate, eqb, slice_get, slice_set, slice_index_or}
-use Rattle.sedpass.proofs.Words.{option_or, cases_Bool, ext_get_or, length-set, slice_get_past, unwrap_or-slice_get, Tree, null_string, byte_of, text_begin, text_end, sequence, either_of, grouped, any_copies, one_or_none, SpansOfGroups, forget, no_groups, groups_after, Captures, LastCopy, only, then_copy, IsReport, Matches, groups_after-is}
-use Rattle.std.proofs.lemmas.Bool.Decides.{eqb_tells}
-use Rattle.sedtext.proofs.CapsLemmas.{Captures-unique}
-use Rattle.sedpass.specs.Walks.{GroupState, is_due, settle, drop_groups, GroupIsIn, PassedBy, WalkEnters, IsFirstState, has_group, NoneDue, EntersGroups}
-use Rattle.sedre.specs.Steps.{TakesAtLeast}
-use Rattle.sedtext.proofs.GroupLemmas.{NoGroups}
+use Rattle.sedpass.proofs.Words.{rules, ◌≡◌, ℕ, suc, ◌<◌, ◌≤◌, ◌⊎◌, Bool, true, false, List, [], ◌∷◌, length, Option, None, Some, refl, sym, ◌∙◌, inl, inr, arith, replicate, eqb, slice_get, slice_set, slice_index_or, option_or, cases_Bool, cases_lt, get_or-set_same, get_or-set_other, ext_get_or, length-set, slice_get_past, unwrap_or-slice_get, Tree, null_string, byte_of, text_begin, text_end, sequence, either_of, grouped, any_copies, one_or_none, SpansOfGroups, forget, no_groups, groups_after, Captures, LastCopy, only, then_copy, IsReport, Matches, groups_after-is, get_or_past, eqb_tells, Captures-unique, GroupState, is_due, settle, drop_groups, GroupIsIn, WalkEnters, IsFirstState, has_group, NoneDue, EntersGroups, TakesAtLeast, NoGroups}
 
 abbrev Span : Type 0
 Span = Option (ℕ × ℕ)
@@ -37,9 +31,6 @@ pub record Takes (k : ℕ) (d : Option Span) (old new : GroupState) : Type 0 whe
   pub span : slice_get new.spans k ≡ put (is_due old k) (slice_get old.spans k) d
   pub long : length new.due ≡ length old.due
 
-takes-then : (k : ℕ) (e d : Option Span) (old mid new : GroupState) → Takes k e old mid → Takes k d mid new → Takes k (option_or e d) old new
-takes-then k e d old mid new one two = search rules
-
 -- the last copy
 pub copy_spans : (R : ℕ → ℕ → Type 0) (j i c : ℕ) → LastCopy R j i c → (i ≤ c) × (c < j) × R c j
 copy_spans R j i c (only _ lt r) = (omega arith, lt, r)
@@ -52,9 +43,7 @@ set_at (suc n) (suc k) v (x ∷ g) = search (rules, eqb_tells n k, eqb_tells (su
 set_at n k v (x ∷ g) = search rules
 
 pub set_due : (n k : ℕ) (v : Span) (due : List Bool) → slice_index_or (slice_set due n false) k false ≡ left (slice_index_or due k false) (deed (eqb n k) v)
-set_due n k v [] = search (rules, eqb_tells n k)
-set_due (suc n) (suc k) v (b ∷ due) = search (rules, eqb_tells n k, eqb_tells (suc n) (suc k), set_due n k v due)
-set_due n k v (b ∷ due) = search rules
+set_due n k v due = search (rules, eqb_tells n k, cases_lt n (length due), get_or-set_same, get_or-set_other, get_or_past, length-set)
 
 pub settle-due : (k : ℕ) (v : Span) (s : GroupState) → is_due s k ≡ true → settle k v s ≡ record { due = slice_set s.due k false; spans = slice_set s.spans k v }
 settle-due k v s is = rw is refl
@@ -70,110 +59,89 @@ pub takes_blank : (k : ℕ) (d : Option Span) (old new : GroupState) → Takes k
     slice_index_or new.spans k None ≡ None
 takes_blank k d old new one blank due = search (rules, unwrap_or-slice_get new.spans k None, unwrap_or-slice_get old.spans k None, blank)
 
--- the groups of an expression are dropped, or forgotten
+-- the groups of an expression are dropped, and forgotten
+dropped : (t : Tree) (k : ℕ) (g : SpansOfGroups) → (slice_get (forget t g) k ≡ lay (slice_get g k) (deed (has_group t k) None)) × ((s : GroupState) → Takes k (deed (has_group t k) None) s (drop_groups t s))
+dropped (sequence a b) k g = search (rules, dropped a k g, dropped b k (forget a g))
+dropped (either_of a b) k g = search (rules, dropped a k g, dropped b k (forget a g))
+dropped (grouped n a) k g = search (rules, set_at n k None g, dropped a k (slice_set g n None), settle_takes n k None)
+dropped (any_copies a first) k g = dropped a k g
+dropped (one_or_none a first) k g = dropped a k g
+dropped other k g = search rules
+
 pub drop_takes : (t : Tree) (k : ℕ) (s : GroupState) → Takes k (deed (has_group t k) None) s (drop_groups t s)
-drop_takes (sequence a b) k s = search (rules, drop_takes a k s, drop_takes b k (drop_groups a s))
-drop_takes (either_of a b) k s = search (rules, drop_takes a k s, drop_takes b k (drop_groups a s))
-drop_takes (grouped n a) k s = search (rules, settle_takes n k None s, drop_takes a k (settle n None s))
-drop_takes (any_copies a first) k s = drop_takes a k s
-drop_takes (one_or_none a first) k s = drop_takes a k s
-drop_takes other k s = search rules
+drop_takes t k = (dropped t k []).1
 
-forget_at : (t : Tree) (k : ℕ) (g : SpansOfGroups) → slice_get (forget t g) k ≡ lay (slice_get g k) (deed (has_group t k) None)
-forget_at (sequence a b) k g = search (rules, forget_at a k g, forget_at b k (forget a g))
-forget_at (either_of a b) k g = search (rules, forget_at a k g, forget_at b k (forget a g))
-forget_at (grouped n a) k g = search (rules, set_at n k None g, forget_at a k (slice_set g n None))
-forget_at (any_copies a first) k g = forget_at a k g
-forget_at (one_or_none a first) k g = forget_at a k g
-forget_at other k g = search rules
-
--- this becomes of entry k of a list, which is nothing unless P
-record Lays (k : ℕ) (P : Type 0) (g h : SpansOfGroups) (d : Option Span) : Type 0 where
+-- this becomes of entry k of a list, and of group k: nothing unless P
+record Goes (k : ℕ) (P : Type 0) (g h : SpansOfGroups) (d : Option Span) (old new : GroupState) : Type 0 where
   at : slice_get h k ≡ lay (slice_get g k) d
   none : (d ≡ None) ⊎ P
+  takes : Takes k d old new
 
 -- what becomes of it as a part is decided and the groups in it are dropped
 abbrev within : Tree → ℕ → Option Span → Option Span
 within a k d = option_or d (deed (has_group a k) None)
 
--- what becomes of the group in a match, its groups decided from the left
-abbrev taken : (k : ℕ) (e : Tree) (w : List ℕ) (i j : ℕ) (g h : SpansOfGroups) → Captures e w i j g h → Option Span
-taken k (sequence a b) w i j g h c = option_or (taken k b w c.0 j c.2.0 h c.2.2) (taken k a w i c.0 g c.2.0 c.2.1)
-taken k (either_of a b) w i j g h (inl c) = taken k a w i j g h c.1
-taken k (either_of a b) w i j g h (inr c) = taken k b w i j g h c.1
-taken k (grouped n a) w i j g h c = option_or (deed (eqb n k) (Some (i, j))) (within a k (taken k a w i j (forget (grouped n a) g) c.0 c.1))
-taken k (any_copies a first) w i j g h (inl c) = within a k (taken k a w c.1.0 j (forget a g) h c.1.2)
-taken k (any_copies a first) w i j g h (inr (inl c)) = within a k (taken k a w i i (forget a g) h c.3)
-taken k (any_copies a first) w i j g h (inr (inr c)) = None
-taken k (one_or_none a first) w i j g h (inl c) = within a k (taken k a w i j (forget a g) h c.1)
-taken k (one_or_none a first) w i j g h (inr (inl c)) = within a k (taken k a w i i (forget a g) h c.3)
-taken k (one_or_none a first) w i j g h (inr (inr c)) = None
-taken k other w i j g h c = None
-
-captured : (k : ℕ) (e : Tree) (w : List ℕ) (i j : ℕ) (g h : SpansOfGroups) (c : Captures e w i j g h) → Lays k (GroupIsIn e k) g h (taken k e w i j g h c)
-captured k (sequence a b) w i j g h c = search (rules, captured k a w i c.0 g c.2.0 c.2.1, captured k b w c.0 j c.2.0 h c.2.2)
-captured k (either_of a b) w i j g h (inl c) = search (rules, captured k a w i j g h c.1)
-captured k (either_of a b) w i j g h (inr c) = search (rules, captured k b w i j g h c.1)
-captured k (grouped n a) w i j g h c = search (rules, captured k a w i j (forget (grouped n a) g) c.0 c.1, forget_at (grouped n a) k g, set_at n k (Some (i, j)) c.0)
-captured k (any_copies a first) w i j g h (inl c) = search (rules, captured k a w c.1.0 j (forget a g) h c.1.2, forget_at a k g)
-captured k (any_copies a first) w i j g h (inr (inl c)) = search (rules, captured k a w i i (forget a g) h c.3, forget_at a k g)
-captured k (any_copies a first) w i j g h (inr (inr c)) = search rules
-captured k (one_or_none a first) w i j g h (inl c) = search (rules, captured k a w i j (forget a g) h c.1, forget_at a k g)
-captured k (one_or_none a first) w i j g h (inr (inl c)) = search (rules, captured k a w i i (forget a g) h c.3, forget_at a k g)
-captured k (one_or_none a first) w i j g h (inr (inr c)) = search rules
-captured k other w i j g h c = search rules
-
--- a walk over the match does the same to what is due
-abbrev Ends : ℕ → Tree → List ℕ → ℕ → ℕ → SpansOfGroups → GroupState → GroupState → Type 0
-Ends k e w i j g old new = (h : SpansOfGroups) × (c : Captures e w i j g h) × Takes k (taken k e w i j g h c) old new
-
 module _ (k : ℕ) where
-  still : (old new : GroupState) → new ≡ old → Takes k None old new
-  still old new is = search rules
+  -- in a match, its groups decided from the left
+  captured : (e : Tree) (w : List ℕ) (i j : ℕ) (g h : SpansOfGroups) → Captures e w i j g h → (d : Option Span) × (slice_get h k ≡ lay (slice_get g k) d) × ((d ≡ None) ⊎ GroupIsIn e k)
+  captured (sequence a b) w i j g h c = let one = captured a w i c.0 g c.2.0 c.2.1 in let two = captured b w c.0 j c.2.0 h c.2.2 in (option_or two.0 one.0, search rules, search rules)
+  captured (either_of a b) w i j g h (inl c) = let one = captured a w i j g h c.1 in (one.0, search rules, search rules)
+  captured (either_of a b) w i j g h (inr c) = let one = captured b w i j g h c.1 in (one.0, search rules, search rules)
+  captured (grouped n a) w i j g h c =
+      let one = captured a w i j (forget (grouped n a) g) c.0 c.1 in
+      (option_or (deed (eqb n k) (Some (i, j))) (within a k one.0), search (rules, dropped (grouped n a) k g, set_at n k (Some (i, j)) c.0), search rules)
+  captured (any_copies a first) w i j g h (inl c) = let one = captured a w c.1.0 j (forget a g) h c.1.2 in (within a k one.0, search (rules, dropped a k g), search rules)
+  captured (any_copies a first) w i j g h (inr (inl c)) = let one = captured a w i i (forget a g) h c.3 in (within a k one.0, search (rules, dropped a k g), search rules)
+  captured (any_copies a first) w i j g h (inr (inr c)) = (None, search rules, search rules)
+  captured (one_or_none a first) w i j g h (inl c) = let one = captured a w i j (forget a g) h c.1 in (within a k one.0, search (rules, dropped a k g), search rules)
+  captured (one_or_none a first) w i j g h (inr (inl c)) = let one = captured a w i i (forget a g) h c.3 in (within a k one.0, search (rules, dropped a k g), search rules)
+  captured (one_or_none a first) w i j g h (inr (inr c)) = (None, search rules, search rules)
+  captured other w i j g h c = (None, search rules, search rules)
 
-  inside : (a : Tree) (d : Option Span) (old mid new : GroupState) → new ≡ drop_groups a mid → Takes k d old mid → Takes k (within a k d) old new
-  inside a d old mid new is one = search (rules, drop_takes a k mid)
+  -- a walk over the match does the same to what is due
+  abbrev Ends : Tree → List ℕ → ℕ → ℕ → SpansOfGroups → GroupState → GroupState → Type 0
+  Ends e w i j g old new = (h : SpansOfGroups) × Captures e w i j g h × (d : Option Span) × Goes k (GroupIsIn e k) g h d old new
 
-  passed : (e : Tree) (w : List ℕ) (i j n : ℕ) (old new : GroupState) → Matches e w i j → PassedBy e old new n → (g : SpansOfGroups) → Ends k e w i j g old new
-  passed e w i j n old new spans by g =
-      let h = groups_after e w i j g in
-      let c = groups_after-is e w i j g spans in
-      (h, c, search (rules, captured k e w i j g h c, by.0 k))
+  both : (a b : Tree) (g m h : SpansOfGroups) (d d' : Option Span) (old mid new : GroupState) → Goes k (GroupIsIn a k) g m d mid new → Goes k (GroupIsIn b k) m h d' old mid → Goes k (GroupIsIn (sequence a b) k) g h (option_or d' d) old new
+  both a b g m h d d' old mid new one two = search rules
 
-  walked : (e : Tree) (w : List ℕ) (i j n : ℕ) (old new : GroupState) → Matches e w i j → WalkEnters e w i j old new n → (g : SpansOfGroups) → Ends k e w i j g old new
-  walked null_string w i j n old new spans walk g = (g, refl, still old new walk.0)
-  walked (byte_of has) w i j n old new spans walk g = (g, refl, still old new walk.0)
-  walked text_begin w i j n old new spans walk g = (g, refl, still old new walk.0)
-  walked text_end w i j n old new spans walk g = (g, refl, still old new walk.0)
-  walked other w i j n old new spans (inl by) g = passed other w i j n old new spans by g
+  inside : (a e : Tree) (w : List ℕ) (i j c d : ℕ) (g : SpansOfGroups) (old mid new : GroupState) → (GroupIsIn a k → GroupIsIn e k) → new ≡ drop_groups a mid → ((h : SpansOfGroups) → Captures a w c d (forget a g) h → Captures e w i j g h) →
+      Ends a w c d (forget a g) old mid → Ends e w i j g old new
+  inside a e w i j c d g old mid new up is wrap one = (one.0, wrap one.0 one.1, within a k one.2, let goes = one.3 in search (rules, dropped a k g, drop_takes a k mid))
+
+  enclosed : (n : ℕ) (a : Tree) (w : List ℕ) (i j : ℕ) (g : SpansOfGroups) (old mid new : GroupState) → new ≡ drop_groups a mid → Ends a w i j (forget (grouped n a) g) (settle n (Some (i, j)) old) mid → Ends (grouped n a) w i j g old new
+  enclosed n a w i j g old mid new is one =
+      let v = Some (i, j) in
+      let goes = one.3 in
+      (slice_set one.0 n v, (one.0, one.1, refl), option_or (deed (eqb n k) v) (within a k one.2), search (rules, dropped (grouped n a) k g, set_at n k v one.0, settle_takes n k v old, drop_takes a k mid))
+
+  walked : (e : Tree) (w : List ℕ) (i j n : ℕ) (old new : GroupState) → Matches e w i j → WalkEnters e w i j old new n → (g : SpansOfGroups) → Ends e w i j g old new
+  walked null_string w i j n old new spans walk g = (g, refl, None, search rules)
+  walked (byte_of has) w i j n old new spans walk g = (g, refl, None, search rules)
+  walked text_begin w i j n old new spans walk g = (g, refl, None, search rules)
+  walked text_end w i j n old new spans walk g = (g, refl, None, search rules)
+  walked other w i j n old new spans (inl by) g =
+      let c = groups_after-is other w i j g spans in
+      let one = captured other w i j g _ c in
+      (groups_after other w i j g, c, one.0, search (rules, one.1, one.2, by.0 k))
   walked (sequence a b) w i j n old new spans (inr (p, q, is, c, cut, mid, second, first)) g =
       let one = walked a w i c q mid new cut.left first g in
       let two = walked b w c j p old mid cut.right second one.0 in
-      (two.0, (c, cut, (one.0, one.1, two.1)), takes-then k _ _ old mid new two.2 one.2)
-  walked (either_of a b) w i j n old new spans (inr (p, is, inl (at, walk))) g = let one = walked a w i j p old new at walk g in (one.0, inl (at, one.1), one.2)
-  walked (either_of a b) w i j n old new spans (inr (p, is, inr (not, walk))) g =
-      let at : Matches b w i j = search rules in
-      let one = walked b w i j p old new at walk g in
-      (one.0, inr (not, one.1), one.2)
+      (two.0, (c, cut, (one.0, one.1, two.1)), option_or two.2 one.2, both a b g one.0 two.0 one.2 two.2 old mid new one.3 two.3)
+  walked (either_of a b) w i j n old new spans (inr (p, is, inl (at, walk))) g = let one = walked a w i j p old new at walk g in (one.0, inl (at, one.1), one.2, search rules)
+  walked (either_of a b) w i j n old new spans (inr (p, is, inr (not, walk))) g = let one = walked b w i j p old new (search rules) walk g in (one.0, inr (not, one.1), one.2, search rules)
   walked (grouped m a) w i j n old new spans (inr (p, is, mid, walk, last)) g =
-      let v = Some (i, j) in
-      let one = walked a w i j p (settle m v old) mid spans walk (forget (grouped m a) g) in
-      (slice_set one.0 m v, (one.0, one.1, refl), takes-then k _ _ old (settle m v old) new (settle_takes m k v old) (inside a _ (settle m v old) mid new last one.2))
+      enclosed m a w i j g old mid new last (walked a w i j p (settle m (Some (i, j)) old) mid spans walk (forget (grouped m a) g))
   walked (any_copies a first) w i j n old new spans (inr (p, is, inl (lt, c, copy, mid, walk, last))) g =
-      let one = walked a w c j p old mid (copy_spans (Matches a w) j i c copy).2 walk (forget a g) in
-      (one.0, inl (lt, (c, copy, one.1)), inside a _ old mid new last one.2)
+      inside a (any_copies a first) w i j c j g old mid new (λ f. f) last (λ h one. inl (lt, (c, copy, one))) (walked a w c j p old mid (copy_spans (Matches a w) j i c copy).2 walk (forget a g))
   walked (any_copies a first) w i j n old new spans (inr (p, is, inr (inl (same, yes_first, at, mid, walk, last)))) g =
-      let one = walked a w i i p old mid at walk (forget a g) in
-      (one.0, inr (inl (same, yes_first, at, one.1)), inside a _ old mid new last one.2)
-  walked (any_copies a first) w i j n old new spans (inr (p, is, inr (inr (same, not, still_is, none)))) g = (g, inr (inr (same, (not, refl))), still old new still_is)
+      inside a (any_copies a first) w i j i i g old mid new (λ f. f) last (λ h one. inr (inl (same, yes_first, at, one))) (walked a w i i p old mid at walk (forget a g))
+  walked (any_copies a first) w i j n old new spans (inr (p, is, inr (inr (same, not, still_is, none)))) g = (g, inr (inr (same, (not, refl))), None, search rules)
   walked (one_or_none a first) w i j n old new spans (inr (p, is, inl (lt, mid, walk, last))) g =
-      let at : Matches a w i j = search rules in
-      let one = walked a w i j p old mid at walk (forget a g) in
-      (one.0, inl (lt, one.1), inside a _ old mid new last one.2)
+      inside a (one_or_none a first) w i j i j g old mid new (λ f. f) last (λ h one. inl (lt, one)) (walked a w i j p old mid (search rules) walk (forget a g))
   walked (one_or_none a first) w i j n old new spans (inr (p, is, inr (inl (same, yes_first, at, mid, walk, last)))) g =
-      let one = walked a w i i p old mid at walk (forget a g) in
-      (one.0, inr (inl (same, yes_first, at, one.1)), inside a _ old mid new last one.2)
-  walked (one_or_none a first) w i j n old new spans (inr (p, is, inr (inr (same, not, still_is, none)))) g = (g, inr (inr (same, (not, refl))), still old new still_is)
+      inside a (one_or_none a first) w i j i i g old mid new (λ f. f) last (λ h one. inr (inl (same, yes_first, at, one))) (walked a w i i p old mid at walk (forget a g))
+  walked (one_or_none a first) w i j n old new spans (inr (p, is, inr (inr (same, not, still_is, none)))) g = (g, inr (inr (same, (not, refl))), None, search rules)
 
 pub same_lists : {X : Type 0} (xs ys : List X) → ((k : ℕ) → slice_get xs k ≡ slice_get ys k) → xs ≡ ys
 same_lists [] [] each = refl
@@ -183,31 +151,20 @@ same_lists xs ys each = search (rules, each 0)
 -- from a state with the match's span alone, in which all groups of the expression are due, all entries are those of the report
 pub walk_report : (e : Tree) (w : List ℕ) (i j n : ℕ) (old new : GroupState) → IsFirstState e i j old → Matches e w i j → WalkEnters e w i j old new n → IsReport e w i j new.spans
 walk_report e w i j n old new start spans walk =
-    let inner = groups_after e w i j no_groups in
-    let captures = groups_after-is e w i j no_groups spans in
-    (inner, captures, same_lists new.spans (slice_set inner 0 (Some (i, j))) (each inner captures))
-  where
-    each : (inner : SpansOfGroups) → Captures e w i j no_groups inner → (k : ℕ) → slice_get new.spans k ≡ slice_get (slice_set inner 0 (Some (i, j))) k
-    each inner captures zero =
-        let one = walked 0 e w i j n old new spans walk no_groups in
-        search (rules, one.2.span, start.whole, start.none, set_at 0 0 (Some (i, j)) inner, (captured 0 e w i j no_groups inner captures).at)
-    each inner captures (suc k) =
-        let one = walked (suc k) e w i j n old new spans walk no_groups in
-        let same = Captures-unique e w i j no_groups one.0 inner one.1 captures in
-        let at = captured (suc k) e w i j no_groups one.0 one.1 in
-        search (rules, start.each (suc k) (omega arith), start.none, set_at 0 (suc k) (Some (i, j)) inner, slice_get_past no_groups (suc k))
+    let first = walked 0 e w i j n old new spans walk no_groups in
+    let each : new.spans ≡ slice_set first.0 0 (Some (i, j)) = same_lists _ _ (λ k.
+    let one = walked k e w i j n old new spans walk no_groups in
+    let same = Captures-unique e w i j no_groups one.0 first.0 one.1 first.1 in
+    search (rules, one.3.at, one.3.none, one.3.takes.span, start.whole, start.each k, start.none, set_at 0 k (Some (i, j)) first.0, slice_get_past no_groups k)) in
+    (first.0, first.1, each)
 
 -- where what is due has no span, to drop the groups of a tree is to take them from what is due
 pub drop_as : (t : Tree) (s new : GroupState) → ((k : ℕ) → is_due s k ≡ true → slice_index_or s.spans k None ≡ None) → new.spans ≡ s.spans → length new.due ≡ length s.due →
     ((k : ℕ) → is_due new k ≡ left (is_due s k) (deed (has_group t k) None)) → new ≡ drop_groups t s
 drop_as t s new blank same long shows =
-    search (
-      rules,
-      ext_get_or false new.due (drop_groups t s).due (long ∙ sym (drop_takes t 0 s).long) (λ k _. shows k ∙ sym (drop_takes t k s).due),
-      same_lists s.spans (drop_groups t s).spans (λ k. search (rules, (drop_takes t k s).span, unwrap_or-slice_get s.spans k None, blank k)),
-    )
-
--- A walk over a match, as nodes are entered one after another.
+    let due = ext_get_or false new.due (drop_groups t s).due (long ∙ sym (drop_takes t 0 s).long) (λ k _. shows k ∙ sym (drop_takes t k s).due) in
+    let spans = same_lists s.spans (drop_groups t s).spans (λ k. search (rules, (drop_takes t k s).span, unwrap_or-slice_get s.spans k None, blank k)) in
+    search rules
 
 -- a walk passes by what has no group that is due
 pub passes_by : (e : Tree) (w : List ℕ) (i j : ℕ) (s : GroupState) → NoneDue e s → WalkEnters e w i j s s 0

@@ -1,9 +1,6 @@
 -- What looks into a kept pass may still cost.
-use Rattle.std.proofs.Common.{◌≡◌, ℕ, zero, suc, ◌+◌, ◌-◌, ◌*◌, ◌<◌, ◌≤◌, ◌⊎◌, ◌&&◌, refl, ap, subst, arith, mul-le-mul_left, cond, rules}
-use Rattle.std.proofs.lemmas.Grind.{common_steps}
-use Rattle.sedpass.proofs.Words.{CostsWithin, Region}
-use Rattle.std.proofs.Math.Dec.{leb, ltb}
-use Rattle.sedpass.specs.Kept.{again, due_place, owed_region}
+use Rattle.sedpass.proofs.Words.{◌≡◌, ℕ, zero, suc, ◌+◌, ◌-◌, ◌*◌, ◌<◌, ◌≤◌, ◌⊎◌, ◌&&◌, List, refl, ap, subst, arith, mul-le-mul_left, cond, rules, common_steps, CostsWithin, Node, Region, Matched, Apart, deeper, leb, ltb, match_cost, region_cost, task_cost, due_place, owed_region}
+use Rattle.sedpass.specs.Kept.{again}
 
 -- The place that may be due.
 
@@ -64,3 +61,47 @@ owed_made m old new place s t below before low from to end grows cost = search (
 pub owed_again : (m : ℕ) (old new : Region) (place s t : ℕ) → old.low ≤ place → (place < old.from) ⊎ (old.to ≤ place) → new.low ≡ old.low → new.end ≡ old.end → new.from ≡ place → place < new.to →
     CostsWithin s t (again m (old.end - place)) (again m (old.end - new.to)) → CostsWithin s t (owed_region m old place) (owed_region m new place)
 owed_again m old new place s t above out low end from to paid = search rules
+
+-- looks that go on as far as a place
+pub owed_free : (m : ℕ) (r : Region) (i k s : ℕ) → i ≤ k → CostsWithin s s (owed_region m r i + 72 * m * k + 1) (owed_region m r k + 72 * m * i)
+owed_free m r i k s up = omega (arith, owed_falls m r i k up, mul-le-mul_left (72 * m) up)
+
+pub two_each : (m i k : ℕ) → 1 ≤ m → i ≤ k → 72 * m * i + 2 * k ≤ 72 * m * k + 2 * i
+two_each zero i k some up = absurd (omega arith)
+two_each (suc m) i k some up = omega (arith, mul-le-mul_left (72 * m + 70) up)
+
+-- What is left for a match in a region.
+
+region_paid : (m depth long owed : ℕ) → owed ≤ 100 * m * long → region_cost m depth long owed ≤ 172 * m * depth * long
+region_paid m zero long owed few = omega arith
+region_paid m (suc depth) long owed few = omega (arith, few)
+
+-- a region of its own is paid by the task
+pub begun_paid : (nodes : List Node) (r : Region) (here : Matched) → r.end ≡ here.stop → match_cost nodes r here ≤ task_cost nodes (Apart here)
+begun_paid nodes r here end = search (rules, region_paid, owed_small)
+
+-- a part in the same region, over the same bytes, after a look into it
+pub inner_paid : (m d e long owed less p q s t : ℕ) → 1 ≤ e → d ≤ e → p + 1 ≤ q → t + less ≤ s + (owed + 1) → t + (region_cost m d long less + 2 * p + 1) ≤ s + (region_cost m e long owed + 2 * q)
+inner_paid m d zero long owed less p q s t some deep fewer paid = absurd (omega arith)
+inner_paid m zero (suc e) long owed less p q s t some deep fewer paid = omega (arith, fewer, paid)
+inner_paid m (suc d) (suc e) long owed less p q s t some deep fewer paid = omega (arith, fewer, paid, mul-le-mul_left (172 * m * long) deep)
+
+-- a left part in a region of its own, and the right one in the same region
+parted : (m d a b l r owed less p q s t : ℕ) → a ≤ d → b ≤ suc d → t + less ≤ s + (owed + 72 * m * l + 1) →
+    t + (region_cost m b r less + 2 * q + (172 * m * a * l + 2 * p) + 1) ≤ s + (region_cost m (suc d) (l + r) owed + 2 * (1 + p + q))
+parted m d a zero l r owed less p q s t left right paid = omega (arith, paid, mul-le-mul_left (172 * m * l) left)
+parted m d a (suc b) l r owed less p q s t left right paid = omega (arith, paid, mul-le-mul_left (172 * m * l) left, mul-le-mul_left (172 * m * r) right)
+
+pub parts_paid : (m d a b start k stop owed less p q n s t : ℕ) → 1 ≤ d → deeper a ≤ d → b ≤ d → start ≤ k → k ≤ stop → 1 + p + q ≤ n → t + (less + 72 * m * start) ≤ s + (owed + 72 * m * k + 1) →
+    t + (region_cost m b (stop - k) less + 2 * q + (172 * m * a * (k - start) + 2 * p + 1)) ≤ s + (region_cost m d (stop - start) owed + 2 * n)
+parts_paid m zero a b start k stop owed less p q n s t some left right low high fewer paid = absurd (omega arith)
+parts_paid m (suc d) a b start k stop owed less p q n s t some left right low high fewer paid =
+    let cut : 72 * m * k ≡ 72 * m * (start + (k - start)) = ap (λ v. 72 * m * v) (omega arith) in
+    let all : (k - start) + (stop - k) ≡ stop - start = omega arith in
+    let two = parted m d a b (k - start) (stop - k) owed less p q s t (grind (arith, left)) right (omega (arith, paid, cut)) in
+    rw (← all) (omega (arith, two, fewer))
+
+-- the last copy of a repetition, in a region of its own
+pub copy_paid : (m a long short owed x p q s t : ℕ) → 1 ≤ deeper a → short ≤ long → x ≤ 172 * m * a * short + 2 * p → p + 1 ≤ q → t ≤ s + (owed + 72 * m * long + 1) → t + (x + 1) ≤ s + (region_cost m (deeper a) long owed + 2 * q)
+copy_paid m zero long short owed x p q s t some less begun fewer paid = absurd (omega arith)
+copy_paid m (suc a) long short owed x p q s t some less begun fewer paid = omega (arith, begun, fewer, paid, mul-le-mul_left (172 * m * suc a) less)

@@ -1,10 +1,26 @@
 -- How the marks at a place follow from what the leaves took, and what a row shows.
-use Rattle.std.proofs.Common.{rules, length-set, ◌≡◌, ◌≢◌, ℕ, ◌+◌, ◌<◌, ◌≤◌, ◌⊎◌, ◌↔◌, Bool, List, length, Option, Some, None, IsTrue, refl, sym, ◌∙◌, subst, inl, inr, true≢false, true, false, ◌&&◌, ◌||◌, arith, slice_get, slice_index_or, slice_set, eqb, reverse}
-use Rattle.sedpass.proofs.Words.{slice_get_within, get_or-set_same, get_or-set_other, and_parts, and_from, cases_eq, eqb-true, eq-eqb, lt-ltb, IsArena, IsPart, WrittenExpression, tree_at, mirror_node, seen, seen-node, old_node, Node, NodeId, Empty, Set, Begin, End, Seq, Alt, Group, Star, Opt, Starts, enter_parts, takes_any, AgreeBelow, KeepsRows, row_of, HasSpan, IsStart, one_start, SomeSpan, BeginsWith, Marked, Enters, at_root, with_whole, after_left, again, CanEnd, Matches-forward, CopiesLead-append, CopiesLead-last, open_at, close_at, takes_some, FromNode, Enters-from, Enters-part, Enters-inside, Enters-root, BeginsWith-part, both-iff, either-iff, same_Some}
-use Rattle.sedpass.specs.Regions.{EndsPastIn, Opposite, ReachesEnd, MeetsAt}
-use Rattle.sedpass.specs.Rows.{Took, SameBytes, NoneEntered, InTree, is_tree, part_of, IsNodeRange, TreeBelow, TreeFrom, AreNull, ended_by, AreWide, bits, ShowTook, RowOfPlace, LeafAt, EndKept, ShowFrom, RowFrom}
-use Rattle.sedpass.proofs.LeaveLemmas.{ends_at, reaches_mirror}
+use Rattle.sedpass.proofs.Words.{rules, ◌≡◌, ◌≢◌, ℕ, ◌+◌, ◌<◌, ◌≤◌, ◌⊎◌, ◌↔◌, Bool, List, length, Option, Some, None, IsTrue, refl, sym, ◌∙◌, inl, inr, true≢false, true, false, ◌&&◌, ◌||◌, arith, slice_get, slice_index_or, slice_set, eqb, reverse, slice_get_within, get_or-set_same, get_or-set_other, and_parts, and_from, cases_eq, eqb-true, eq-eqb, lt-ltb, IsArena, IsPart, WrittenExpression, tree_at, mirror_node, seen, seen-node, old_node, Node, NodeId, Set, Seq, Alt, Group, Star, Opt, Starts, enter_parts, takes_any, AgreeBelow, KeepsRows, row_of, HasSpan, IsStart, one_start, SomeSpan, BeginsWith, Marked, PartFrom, Enters, at_root, with_whole, after_left, again, CanEnd, Matches-forward, CopiesLead-append, CopiesLead-last, open_at, close_at, takes_some, FromNode, Enters-from, Enters-part, Enters-inside, Enters-root, BeginsWith-part, both-iff, either-iff, same_Some, EndsPastIn, ReachesEnd, MeetsAt, Took, SameBytes, InTree, is_tree, part_of, IsNodeRange, AreNull, ended_by, AreWide, bits, ShowTook, RowOfPlace, LeafAt, EndKept, length-set}
+use Rattle.sedpass.proofs.LeaveLemmas.{ends_at, reaches_mirror, Opposite}
 use Rattle.sedpass.proofs.MeetingLemmas.{meets_whole}
+
+-- what is shown of the nodes from y on alone, and a row of them
+abbrev pub ShowFrom : ℕ → (ℕ → Bool) → (ℕ → Type 0) → Type 0
+ShowFrom y bits P = (c : ℕ) → IsTrue (bits c) ↔ ((y ≤ c) × P c)
+
+abbrev pub RowFrom : List Node → List ℕ → ℕ → Starts → Bool → (p y : ℕ) → (entered ended : ℕ → Bool) → Type 0
+RowFrom nodes w r s keeps p y entered ended = ShowFrom y entered (LeafAt nodes w r s p) × ShowFrom y ended (EndKept nodes w r s keeps p)
+
+-- c is r, or a node in r and a part of one from y on
+abbrev pub TreeFrom : List Node → ℕ → ℕ → ℕ → Type 0
+TreeFrom nodes r y c = InTree nodes r c × PartFrom nodes r y c
+
+-- c is a node in r below n
+abbrev pub TreeBelow : List Node → ℕ → ℕ → ℕ → Type 0
+TreeBelow nodes r n c = InTree nodes r c × (c < n)
+
+-- no leaf is entered at the place
+abbrev pub NoneEntered : List Node → List ℕ → ℕ → Starts → ℕ → Type 0
+NoneEntered nodes w r s p = (c : ℕ) (members : List Bool) → slice_get nodes c ≡ Some (Set members) → Enters nodes w r s c p → ⊥
 
 -- a mark that isn't set, of what doesn't hold
 pub not_true : (A : Type 0) → (A → ⊥) → IsTrue false ↔ A
@@ -15,17 +31,15 @@ module _ (nodes : List Node) (w : List ℕ) (r : ℕ) (s : Starts) (arena : IsAr
   up_with : (x j c : ℕ) (node : Node) → x ≤ r → slice_get nodes x ≡ Some node → IsPart node c →
       ((i : ℕ) → FromNode nodes w r s x c i node → Enters nodes w r s x i) → ((i : ℕ) → HasSpan nodes w c i j → HasSpan nodes w x i j) →
       CanEnd nodes w r s c j → CanEnd nodes w r s x j
-  up_with x j c node le is part from whole end = (end.0, end.1, from end.0 (Enters-part nodes w r s arena x le c end.0 node is part end.2), whole end.0 end.3)
+  up_with x j c node le is part from whole end = search (rules, Enters-part)
 
   -- the left part of a concatenation is entered with it
   with_seq : (x i : ℕ) (a b : NodeId) → x ≤ r → slice_get nodes x ≡ Some (Seq a b) → Enters nodes w r s a.index i → Enters nodes w r s x i
-  with_seq x i a b le is e =
-      elim (Enters-part nodes w r s arena x le a.index i (Seq a b) is (inl refl) e) [ inl from ↦ from.1 | inr same ↦ absurd (arena.distinct x (Seq a b) is (sym same.0)) ]
+  with_seq x i a b le is e = let from = Enters-part nodes w r s arena x le a.index i (Seq a b) is (inl refl) e in let ne = arena.distinct x (Seq a b) is in search (rules, sym)
 
   -- the right part where the left one ends
   after_seq : (x i : ℕ) (a b : NodeId) → x ≤ r → slice_get nodes x ≡ Some (Seq a b) → Enters nodes w r s b.index i → (k : ℕ) × Enters nodes w r s x k × HasSpan nodes w a.index k i
-  after_seq x i a b le is e =
-      elim (Enters-part nodes w r s arena x le b.index i (Seq a b) is (inr refl) e) [ inl same ↦ absurd (arena.distinct x (Seq a b) is same.0) | inr from ↦ from.1 ]
+  after_seq x i a b le is e = let from = Enters-part nodes w r s arena x le b.index i (Seq a b) is (inr refl) e in let ne = arena.distinct x (Seq a b) is in search rules
 
   -- a repetition goes on with one more copy
   one_copy : (x j : ℕ) (a : NodeId) (first : Bool) → x ≤ r → slice_get nodes x ≡ Some (Star a first) → CanEnd nodes w r s a.index j →
@@ -37,65 +51,44 @@ module _ (nodes : List Node) (w : List ℕ) (r : ℕ) (s : Starts) (arena : IsAr
 
   -- and its last copy ends with it
   last_copy : (x i j : ℕ) (a : NodeId) (first : Bool) → slice_get nodes x ≡ Some (Star a first) → Enters nodes w r s x i → HasSpan nodes w x i j → (i ≡ j) ⊎ CanEnd nodes w r s a.index j
-  last_copy x i j a first is e at = elim (CopiesLead-last (HasSpan nodes w a.index) j i (open_at nodes w x (Star a first) arena is i j at)) [
-    | inl none ↦ inl none
-    | inr last ↦ inr (last.0, last.2, again x a.index i last.0 a first is refl e (close_at nodes w x (Star a first) arena is i last.0 last.1), last.3)
-  ]
+  last_copy x i j a first is e at = let last = CopiesLead-last (HasSpan nodes w a.index) j i (open_at nodes w x (Star a first) arena is i j at) in
+      let more = λ (k : ℕ). again x a.index i k a first is refl e in let whole = λ (k : ℕ). close_at nodes w x (Star a first) arena is i k in search rules
 
   -- upwards: the mark of a node that ends with a byte, by those of its parts
   module _ (took : List Bool → Bool) (null ended : ℕ → Bool) (x j : ℕ) (le : x ≤ r) where
     ended_is : (node : Node) → slice_get nodes x ≡ Some node → ((m : List Bool) → node ≡ Set m → IsTrue (took m) ↔ Took nodes w r s j x m) →
         ((c : ℕ) → IsPart node c → IsTrue (null c) ↔ HasSpan nodes w c j j) → ((c : ℕ) → IsPart node c → IsTrue (ended c) ↔ CanEnd nodes w r s c j) → IsTrue (ended_by took null ended node) ↔ CanEnd nodes w r s x j
-    ended_is Empty is takes nulls ends = not_true (CanEnd nodes w r s x j) (λ h. omega (arith, h.1, open_at nodes w x Empty arena is h.0 j h.3))
-    ended_is Begin is takes nulls ends = not_true (CanEnd nodes w r s x j) (λ h. omega (arith, h.1, (open_at nodes w x Begin arena is h.0 j h.3).1))
-    ended_is End is takes nulls ends = not_true (CanEnd nodes w r s x j) (λ h. let f = open_at nodes w x End arena is h.0 j h.3 in omega (arith, h.1, f.0, f.1))
     ended_is (Set m) is takes nulls ends = (
-      λ h. let here = (takes m refl).0 h in
-          let taken = takes_some (slice_get w here.0) m here.3 in
-          (here.0, omega arith, here.2, close_at nodes w x (Set m) arena is here.0 j (taken.0, taken.1, taken.2, sym here.1)),
+      λ h. let here = (takes m refl).0 h in let taken = takes_some (slice_get w here.0) m here.3 in (here.0, omega arith, here.2, close_at nodes w x (Set m) arena is here.0 j (taken.0, taken.1, taken.2, sym here.1)),
       λ h. let f = open_at nodes w x (Set m) arena is h.0 j h.3 in (takes m refl).1 (h.0, sym f.3, h.2, rw f.1 f.2),
     )
     ended_is (Seq a b) is takes nulls ends =
-        let truth = either-iff (ended b.index) (ended a.index && null b.index) (CanEnd nodes w r s b.index j) (CanEnd nodes w r s a.index j × HasSpan nodes w b.index j j) (ends b.index (inr refl))
-        (both-iff (ended a.index) (null b.index) (CanEnd nodes w r s a.index j) (HasSpan nodes w b.index j j) (ends a.index (inl refl)) (nulls b.index (inr refl))) in (
+        let truth = either-iff _ _ _ _ (ends b.index (inr refl)) (both-iff _ _ _ _ (ends a.index (inl refl)) (nulls b.index (inr refl))) in (
           λ h. elim (truth.0 h) [
-            | inl right ↦
-                let from = after_seq x right.0 a b le is right.2 in
-                (from.0, omega (arith, right.1, Matches-forward (tree_at nodes a.index) w from.0 right.0 from.2), from.1, close_at nodes w x (Seq a b) arena is from.0 j (right.0, from.2, right.3))
+            | inl right ↦ let from = after_seq x right.0 a b le is right.2 in search (rules, Matches-forward (tree_at nodes a.index) w from.0 right.0 from.2, close_at nodes w x (Seq a b) arena is from.0 j)
             | inr left ↦ (left.0.0, left.0.1, with_seq x left.0.0 a b le is left.0.2, close_at nodes w x (Seq a b) arena is left.0.0 j (j, left.0.3, left.1))
           ],
-          λ h. let f = open_at nodes w x (Seq a b) arena is h.0 j h.3 in
-              truth.1 (elim (cases_eq f.0 j) [
-                | inl e ↦ inr ((h.0, h.1, with_whole x a.index h.0 (Seq a b) is refl h.2, rw e at f.1), rw e at f.2)
-                | inr ne ↦ inl (f.0, omega (arith, ne, Matches-forward (tree_at nodes b.index) w f.0 j f.2), after_left x b.index h.0 f.0 a b is refl h.2 f.1, f.2)
-              ]),
+          λ h. let at = open_at nodes w x (Seq a b) arena is h.0 j h.3 in let same = cases_eq at.0 j in
+              search (rules, h.1, truth.1, with_whole x a.index h.0 (Seq a b) is refl h.2, after_left x b.index h.0 at.0 a b is refl h.2 at.1, Matches-forward (tree_at nodes b.index) w at.0 j at.2),
         )
     ended_is (Alt a b) is takes nulls ends =
-        let truth = either-iff (ended a.index) (ended b.index) (CanEnd nodes w r s a.index j) (CanEnd nodes w r s b.index j) (ends a.index (inl refl)) (ends b.index (inr refl)) in (
+        let truth = either-iff _ _ _ _ (ends a.index (inl refl)) (ends b.index (inr refl)) in (
           λ h. elim (truth.0 h) [
             | inl l ↦ up_with x j a.index (Alt a b) le is (inl refl) (λ i f. f) (λ i at. close_at nodes w x (Alt a b) arena is i j (inl at)) l
             | inr m ↦ up_with x j b.index (Alt a b) le is (inr refl) (λ i f. f) (λ i at. close_at nodes w x (Alt a b) arena is i j (inr at)) m
           ],
-          λ h. truth.1 (elim (open_at nodes w x (Alt a b) arena is h.0 j h.3) [
-            | inl l ↦ inl (h.0, h.1, with_whole x a.index h.0 (Alt a b) is (inl refl) h.2, l)
-            | inr m ↦ inr (h.0, h.1, with_whole x b.index h.0 (Alt a b) is (inr refl) h.2, m)
-          ]),
+          λ h. let at = open_at nodes w x (Alt a b) arena is h.0 j h.3 in search (rules, truth.1, with_whole x a.index h.0 (Alt a b) is (inl refl) h.2, with_whole x b.index h.0 (Alt a b) is (inr refl) h.2),
         )
     ended_is (Group k a) is takes nulls ends = (
       λ h. up_with x j a.index (Group k a) le is refl (λ i f. f) (λ i at. close_at nodes w x (Group k a) arena is i j at) ((ends a.index refl).0 h),
       λ h. (ends a.index refl).1 (h.0, h.1, with_whole x a.index h.0 (Group k a) is refl h.2, open_at nodes w x (Group k a) arena is h.0 j h.3),
     )
-    ended_is (Star a first) is takes nulls ends = (
-      λ h. one_copy x j a first le is ((ends a.index refl).0 h),
-      λ h. (ends a.index refl).1 (elim (last_copy x h.0 j a first is h.2 h.3) [ inl none ↦ absurd (omega (arith, h.1, none)) | inr end ↦ end ]),
-    )
+    ended_is (Star a first) is takes nulls ends = (λ h. one_copy x j a first le is ((ends a.index refl).0 h), λ h. let end = last_copy x h.0 j a first is h.2 h.3 in let ne = h.1 in search (rules, (ends a.index refl).1))
     ended_is (Opt a first) is takes nulls ends = (
       λ h. up_with x j a.index (Opt a first) le is refl (λ i f. f) (λ i at. close_at nodes w x (Opt a first) arena is i j (inr at)) ((ends a.index refl).0 h),
-      λ h. (ends a.index refl).1 (elim (open_at nodes w x (Opt a first) arena is h.0 j h.3) [
-        | inl none ↦ absurd (omega (arith, h.1, none))
-        | inr at ↦ (h.0, h.1, with_whole x a.index h.0 (Opt a first) is refl h.2, at)
-      ]),
+      λ h. let at = open_at nodes w x (Opt a first) arena is h.0 j h.3 in let ne = h.1 in search (rules, (ends a.index refl).1, with_whole x a.index h.0 (Opt a first) is refl h.2),
     )
+    ended_is other is takes nulls ends = not_true _ (λ h. let at = open_at nodes w x other arena is h.0 j h.3 in omega arith)
 
   -- downwards: the mark of a part that is entered, by that of its node
   module _ (x p : ℕ) (le : x ≤ r) (here : Bool) (enters : IsTrue here ↔ Enters nodes w r s x p) where
@@ -106,30 +99,24 @@ module _ (nodes : List Node) (w : List ℕ) (r : ℕ) (s : Starts) (arena : IsAr
     right_part : (a b : NodeId) → slice_get nodes x ≡ Some (Seq a b) → (null ended : Bool) → (IsTrue null ↔ HasSpan nodes w a.index p p) → (IsTrue ended ↔ CanEnd nodes w r s a.index p) →
         IsTrue (ended || (here && null)) ↔ Enters nodes w r s b.index p
     right_part a b is null ended nulls ends =
-        let truth = either-iff ended (here && null) (CanEnd nodes w r s a.index p) (Enters nodes w r s x p × HasSpan nodes w a.index p p) ends (both-iff here null (Enters nodes w r s x p) (HasSpan nodes w a.index p p) enters nulls) in (
+        let truth = either-iff _ _ _ _ ends (both-iff _ _ _ _ enters nulls) in (
           λ h. elim (truth.0 h) [ inl end ↦ after_left x b.index end.0 p a b is refl (with_seq x end.0 a b le is end.2) end.3 | inr none ↦ after_left x b.index p p a b is refl none.0 none.1 ],
-          λ h. let from = after_seq x p a b le is h in
-              truth.1 (elim (cases_eq from.0 p) [
-                | inl e ↦ inr (rw e at from.1, rw e at from.2)
-                | inr ne ↦ inl (from.0, omega (arith, ne, Matches-forward (tree_at nodes a.index) w from.0 p from.2), with_whole x a.index from.0 (Seq a b) is refl from.1, from.2)
-              ]),
+          λ h. let from = after_seq x p a b le is h in let same = cases_eq from.0 p in
+              search (rules, truth.1, with_whole x a.index from.0 (Seq a b) is refl from.1, Matches-forward (tree_at nodes a.index) w from.0 p from.2),
         )
 
     copy_part : (a : NodeId) (first : Bool) → slice_get nodes x ≡ Some (Star a first) → (ended : Bool) → (IsTrue ended ↔ CanEnd nodes w r s a.index p) → IsTrue (here || ended) ↔ Enters nodes w r s a.index p
     copy_part a first is ended ends =
-        let truth = either-iff here ended (Enters nodes w r s x p) (CanEnd nodes w r s a.index p) enters ends in (
+        let truth = either-iff _ _ _ _ enters ends in (
           λ h. elim (truth.0 h) [ inl begins ↦ with_whole x a.index p (Star a first) is refl begins | inr end ↦ let more = one_copy x p a first le is end in again x a.index more.0 p a first is refl more.2 more.3 ],
-          λ h. let from = Enters-part nodes w r s arena x le a.index p (Star a first) is refl h in
-              truth.1 (elim (last_copy x from.0 p a first is from.1 from.2) [ inl none ↦ inl (subst (λ k. Enters nodes w r s x k) none from.1) | inr end ↦ inr end ]),
+          λ h. let from = Enters-part nodes w r s arena x le a.index p (Star a first) is refl h in let end = last_copy x from.0 p a first is from.1 from.2 in search (rules, truth.1),
         )
 
 -- where no leaf is entered no match goes on
 pub dead : (nodes : List Node) (w : List ℕ) (r p i k : ℕ) (s : Starts) → IsArena nodes → r < length nodes → NoneEntered nodes w r s p → IsStart s i → i ≤ p → p < k → HasSpan nodes w r i k → ⊥
-dead nodes w r p i k s arena inside none start low high at =
-    let met = (meets_whole nodes w r p s (one_start k) arena inside).1 (i, k, start, low, high, at, (omega arith, omega arith)) in none met.0 met.1 met.2 met.3
+dead nodes w r p i k s arena inside none start low high at = let met = meets_whole nodes w r p s (one_start k) arena inside in search (rules, met.1, none)
 
--- What the scans keep.
-
+-- what the scans keep
 InTree-inside : (nodes : List Node) → IsArena nodes → (r x : ℕ) → InTree nodes r x → x ≤ r
 InTree-inside nodes arena r x (is_tree _ e) = omega arith
 InTree-inside nodes arena r x (part_of y _ node is part up) = omega (arith, InTree-inside nodes arena r y up, arena.below y x node is part)
@@ -144,7 +131,7 @@ enters_tree nodes w r s x j (again y _ i _ a first is inner e at) = part_of y x 
 -- a node in r is r, or a part of one above it
 pub tree_shown : (nodes : List Node) → IsArena nodes → (r x : ℕ) → InTree nodes r x → TreeFrom nodes r (x + 1) x
 tree_shown nodes arena r x (is_tree _ e) = (is_tree x e, inl e)
-tree_shown nodes arena r x (part_of y _ node is part up) = (part_of y x node is part up, inr (y, node, omega (arith, arena.below y x node is part), InTree-inside nodes arena r y up, is, part))
+tree_shown nodes arena r x (part_of y _ node is part up) = search (rules, part_of, arena.below, InTree-inside)
 
 tree_step : (nodes : List Node) (r x : ℕ) (node : Node) → slice_get nodes x ≡ Some node → (c : ℕ) → TreeFrom nodes r x c → TreeFrom nodes r (x + 1) c ⊎ IsPart node c
 tree_step nodes r x node is c shown = search rules
@@ -183,38 +170,31 @@ module _ (nodes : List Node) (w : List ℕ) (r x p : ℕ) (s : Starts) (arena : 
   low_root : x ≤ r
   low_root = InTree-inside nodes arena r x there
 
-  one_more_part : (node : Node) (a : ℕ) (v : Bool) (after : List Bool) → slice_get nodes x ≡ Some node → a < x → ((c : ℕ) → IsPart node c → a ≡ c) → after ≡ slice_set marks a v → (IsTrue v ↔ Enters nodes w r s a p) →
+  one_more_part : (node : Node) (a : ℕ) (v : Bool) (after : List Bool) → slice_get nodes x ≡ Some node → IsPart node a → ((c : ℕ) → IsPart node c → a ≡ c) → after ≡ slice_set marks a v → (IsTrue v ↔ Enters nodes w r s a p) →
       Marked after (TreeFrom nodes r x) (λ c. Enters nodes w r s c p)
-  one_more_part node a v after is less only is_after truth =
-      mark_one marks after a v (TreeFrom nodes r (x + 1)) (TreeFrom nodes r x) (λ c. Enters nodes w r s c p) is_after (let low = low_root in omega arith) truth
-      (λ c shown. elim (tree_step nodes r x node is c shown) [ inl t ↦ inl t | inr part ↦ inr (sym (only c part)) ]) marked
+  one_more_part node a v after is part only is_after truth =
+      mark_one marks after a v _ _ _ is_after (omega (arith, low_root, arena.below x a node is part)) truth (λ c shown. let at = tree_step nodes r x node is c shown in search (rules, only, sym)) marked
 
-  two_more_parts : (node : Node) (a b : ℕ) (u v : Bool) (after : List Bool) → slice_get nodes x ≡ Some node → a < x → b < x → ((c : ℕ) → IsPart node c → (a ≡ c) ⊎ (b ≡ c)) →
+  two_more_parts : (node : Node) (a b : ℕ) (u v : Bool) (after : List Bool) → slice_get nodes x ≡ Some node → IsPart node a → IsPart node b → ((c : ℕ) → IsPart node c → (a ≡ c) ⊎ (b ≡ c)) →
       after ≡ slice_set (slice_set marks a u) b v → (IsTrue u ↔ Enters nodes w r s a p) → (IsTrue v ↔ Enters nodes w r s b p) →
       Marked after (TreeFrom nodes r x) (λ c. Enters nodes w r s c p)
-  two_more_parts node a b u v after is less less' only is_after truth truth' =
-      let low = low_root in
-      let first : Marked (slice_set marks a u) (λ c. TreeFrom nodes r (x + 1) c ⊎ (c ≡ a)) (λ c. Enters nodes w r s c p) = search (rules, mark_one) in
-      mark_one (slice_set marks a u) after b v (λ c. TreeFrom nodes r (x + 1) c ⊎ (c ≡ a)) (TreeFrom nodes r x) (λ c. Enters nodes w r s c p) is_after (omega (arith, length-set marks a u)) truth'
-      (λ c shown. elim (tree_step nodes r x node is c shown) [ inl t ↦ inl (inl t) | inr part ↦ elim (only c part) [ inl l ↦ inl (inr (sym l)) | inr m ↦ inr (sym m) ] ]) first
+  two_more_parts node a b u v after is left right only is_after truth truth' =
+      let first = mark_one marks (slice_set marks a u) a u _ (λ c. TreeFrom nodes r (x + 1) c ⊎ (c ≡ a)) _ refl (omega (arith, low_root, arena.below x a node is left)) truth (λ c shown. shown) marked in
+      mark_one (slice_set marks a u) after b v _ _ _ is_after (omega (arith, length-set marks a u, low_root, arena.below x b node is right)) truth' (λ c shown. let at = tree_step nodes r x node is c shown in let part = only c in search (rules, sym)) first
 
   pub down : (node : Node) (after : List Bool) → slice_get nodes x ≡ Some node → after ≡ enter_parts here_mark null ended node marks →
       Marked after (TreeFrom nodes r x) (λ c. Enters nodes w r s c p)
   down (Seq a b) after is is_after =
-      let less = arena.below x a.index (Seq a b) is (inl refl) in
-      let less' = arena.below x b.index (Seq a b) is (inr refl) in
-      let low = low_root in
-      two_more_parts (Seq a b) a.index b.index here_mark (ended a.index || (here_mark && null a.index)) after is less less' (λ c part. part) is_after
-      (with_node nodes w r s arena x p low here_mark here_shown a.index (Seq a b) is refl (λ h. elim h [ inl left ↦ left.1 | inr same ↦ absurd (arena.distinct x (Seq a b) is (sym same.0)) ]))
-      (right_part nodes w r s arena x p low here_mark here_shown a b is (null a.index) (ended a.index) (nulls a.index (omega arith)) (ends a.index (part_of x a.index (Seq a b) is (inl refl) there)))
+      two_more_parts (Seq a b) a.index b.index here_mark (ended a.index || (here_mark && null a.index)) after is (inl refl) (inr refl) (λ c part. part) is_after
+      (with_node nodes w r s arena x p low_root here_mark here_shown a.index (Seq a b) is refl (λ h. elim h [ inl left ↦ left.1 | inr same ↦ absurd (arena.distinct x (Seq a b) is (sym same.0)) ]))
+      (right_part nodes w r s arena x p low_root here_mark here_shown a b is _ _ (nulls a.index (omega (arith, low_root, arena.below x a.index (Seq a b) is (inl refl)))) (ends a.index (part_of x a.index (Seq a b) is (inl refl) there)))
   down (Alt a b) after is is_after =
-      two_more_parts (Alt a b) a.index b.index here_mark here_mark after is (arena.below x a.index (Alt a b) is (inl refl)) (arena.below x b.index (Alt a b) is (inr refl)) (λ c part. part) is_after
-      (with_node nodes w r s arena x p low_root here_mark here_shown a.index (Alt a b) is (inl refl) (λ h. h))
-      (with_node nodes w r s arena x p low_root here_mark here_shown b.index (Alt a b) is (inr refl) (λ h. h))
-  down (Group k a) after is is_after = search (rules, one_more_part, with_node, low_root, here_shown, arena.below)
-  down (Star a first) after is is_after = search (rules, one_more_part, copy_part, low_root, here_shown, part_of, arena.below, ends)
-  down (Opt a first) after is is_after = search (rules, one_more_part, with_node, low_root, here_shown, arena.below)
-  down other after is is_after = subst (λ l. Marked l (TreeFrom nodes r x) (λ c. Enters nodes w r s c p)) (sym is_after) (λ c shown. marked c (elim (tree_step nodes r x other is c shown) [ inl t ↦ t | inr part ↦ absurd part ]))
+      let whole = λ (c : ℕ) (part : IsPart (Alt a b) c). with_node nodes w r s arena x p low_root here_mark here_shown c (Alt a b) is part (λ h. h) in
+      two_more_parts (Alt a b) a.index b.index here_mark here_mark after is (inl refl) (inr refl) (λ c part. part) is_after (whole a.index (inl refl)) (whole b.index (inr refl))
+  down (Group k a) after is is_after = search (rules, one_more_part, with_node, low_root, here_shown)
+  down (Star a first) after is is_after = search (rules, one_more_part, copy_part, low_root, here_shown, part_of, ends)
+  down (Opt a first) after is is_after = search (rules, one_more_part, with_node, low_root, here_shown)
+  down other after is is_after = rw is_after (λ c shown. marked c (let at = tree_step nodes r x other is c shown in search rules))
 
 -- The row of a place, bit for bit.
 
@@ -246,14 +226,15 @@ module _ (nodes : List Node) (w : List ℕ) (r p : ℕ) (s : Starts) (keeps : Bo
 
   pub row_step : (x m : ℕ) (node : Node) (here end null : Bool) (leaves ends after after_ends : List Bool) → x < m → x < length leaves → x < length ends → slice_get nodes x ≡ Some node →
       (IsTrue here ↔ Enters nodes w r s x p) → (IsTrue end ↔ CanEnd nodes w r s x p) → (IsTrue null ↔ HasSpan nodes w x p p) →
-      after ≡ slice_set leaves x (takes_any node && here) → after_ends ≡ slice_set ends x ((keeps || eqb x r) && (end || (here && null))) →
+      after ≡ slice_set leaves x (takes_any node && here) → after_ends ≡ slice_set ends x ((keeps || eqb x r) && (end || (eqb x r && (here && null)))) →
       RowFrom nodes w r s keeps p (x + 1) (bits m leaves) (bits m ends) → RowFrom nodes w r s keeps p x (bits m after) (bits m after_ends)
   row_step x m node here end null leaves ends after after_ends less long long' is enters ended nulls is_after is_ended row =
       let leaf : IsTrue (takes_any node && here) ↔ Leaf x = search (rules, and_parts, and_from, is_set, same_Some) in
       let asked : IsTrue (keeps || eqb x r) ↔ (IsTrue keeps ⊎ (x ≡ r)) = either-iff keeps (eqb x r) (IsTrue keeps) (x ≡ r) (λ h. h, λ h. h) (eqb-true x r, eq-eqb x r) in
       let law = ends_at nodes w r x p s in
-      let truth = either-iff end (here && null) (CanEnd nodes w r s x p) (Enters nodes w r s x p × HasSpan nodes w x p p) ended (both-iff here null (Enters nodes w r s x p) (HasSpan nodes w x p p) enters nulls) in
-      let kept = both-iff (keeps || eqb x r) (end || (here && null)) (IsTrue keeps ⊎ (x ≡ r)) (EndsPastIn nodes w r s x p) asked (λ h. law.1 (truth.0 h), λ h. truth.1 (law.0 h)) in
+      let own = both-iff (eqb x r) (here && null) (x ≡ r) (Enters nodes w r s x p × HasSpan nodes w x p p) (eqb-true x r, eq-eqb x r) (both-iff here null (Enters nodes w r s x p) (HasSpan nodes w x p p) enters nulls) in
+      let truth = either-iff end (eqb x r && (here && null)) (CanEnd nodes w r s x p) ((x ≡ r) × (Enters nodes w r s x p × HasSpan nodes w x p p)) ended own in
+      let kept = both-iff (keeps || eqb x r) (end || (eqb x r && (here && null))) (IsTrue keeps ⊎ (x ≡ r)) (EndsPastIn nodes w r s x p) asked (λ h. law.1 (truth.0 h), λ h. truth.1 (law.0 h)) in
       search (rules, show_more, bits_set, bits_other, leaf, kept)
 
   pub row_done : (low : ℕ) (entered ended : ℕ → Bool) → ((c : ℕ) → InTree nodes r c → low ≤ c) → RowFrom nodes w r s keeps p low entered ended → RowOfPlace nodes w r s keeps p entered ended

@@ -1,18 +1,9 @@
 -- What the pass from the text's end says of matches of the whole expression, and what searches cost.
-use Rattle.std.proofs.Common.{◌≡◌, ℕ, zero, suc, ◌+◌, ◌-◌, ◌*◌, ◌/◌, ◌<◌, ◌≤◌, ◌↔◌, false, max, List, length, Option, Some, None, IsTrue, refl, sym, true≢false, arith, mul-le-mul_left, IfSome, rules}
-use Rattle.std.proofs.Math.Nat.{mul-div-le, mul-le-mul_right, mul-sub}
-use Rattle.sedpass.proofs.Words.{IsArena, WrittenExpression, expression_tree, Tree, TakesAtLeast, SpanAnswer, Starts, HasSpan, IsStart, IsLongestFrom, starts_to, AllBegin, NextStart, NoneIn, Table, Matches, NotFound, SomeFound, Matches-forward, Matches-within, Region, Seeking, WrittenExpression, least_less, least_both, least_since, Kept}
-use Rattle.sedtext.specs.declared.beginnings.Begins.{Begins}
-use Rattle.sedpass.specs.Table.{SameShape}
-use Rattle.sedpass.specs.Kept.{AllMarked, SameSpace, ends_shown, IsKept}
-use Rattle.sedpass.specs.Regions.{CeasesAt, all_of, ReachesEnd}
-use Rattle.sedpass.specs.Search.{LooksFrom, TrialsMade, owed_after_search, owed_kept, owed_seeking, search_cost, Searched}
+use Rattle.sedpass.proofs.Words.{◌≡◌, ℕ, zero, suc, ◌+◌, ◌-◌, ◌*◌, ◌/◌, ◌<◌, ◌≤◌, ◌↔◌, false, max, List, length, Option, Some, None, IsTrue, refl, sym, true≢false, arith, mul-le-mul_left, IfSome, rules, mul-div-le, mul-le-mul_right, mul-sub, IsArena, WrittenExpression, expression_tree, Tree, TakesAtLeast, SpanAnswer, Starts, HasSpan, IsStart, IsLongestFrom, starts_to, AllBegin, NextStart, NoneIn, Table, Matches, NotFound, SomeFound, Matches-forward, Matches-within, Region, Seeking, least_less, least_both, least_since, Kept, Begins, AllMarked, ends_shown, IsKept, CeasesAt, all_of, ReachesEnd, LooksFrom, owed_kept, search_cost, Searched, root_of}
 use Rattle.sedpass.proofs.OwedLemmas.{owed_small}
-use Rattle.sedpass.specs.declared.search.Trials.TheVariants.{Tired}
 use Rattle.sedpass.proofs.LeaveLemmas.{CanLeave-last, last-leaves, reaches_ends}
 use Rattle.sedpass.proofs.MeetingLemmas.{stops_at}
 use Rattle.sedpass.proofs.ForwardLemmas.{root_spans}
-use Rattle.sedpass.specs.Rows.{root_of}
 
 -- where one place more begins none
 pub none_more : (e : Tree) (w : List ℕ) (from i : ℕ) → NoneIn e w from i → IsLongestFrom e w i None → NoneIn e w from (i + 1)
@@ -30,7 +21,7 @@ module _ (p : WrittenExpression) (w : List ℕ) (arena : IsArena p.nodes) where
   pub begins_at : (q : ℕ) → q ≤ length w → ReachesEnd p.nodes w (root_of p) all (root_of p) q ↔ ((k : ℕ) × Matches (expression_tree p) w q k)
   begins_at q low =
       let both = reaches_ends p.nodes w (root_of p) (root_of p) q all arena (all_of (root_of p) refl) in
-      (λ h. search (rules, both.0 h, root_spans), λ h. search (rules, both.1, root_spans, h.1, Matches-within (expression_tree p) w q h.0 low h.1))
+      (λ h. search (rules, both.0 h), λ h. search (rules, both.1, root_spans, h.1, Matches-within (expression_tree p) w q h.0 low h.1))
 
   -- so none begins where it isn't marked
   pub none_marked : (from start : ℕ) → start ≤ length w → AllMarked p.nodes w (root_of p) all (root_of p) false from start → NoneIn (expression_tree p) w from start
@@ -86,7 +77,7 @@ pub trials_each : (m n from room to tried s t : ℕ) → 1 ≤ m → from ≤ n 
 trials_each m n from room to tried s t some low within few pays =
     omega (arith, few_tried m n (n + 1 - from) tried room few, mul-sub m n from, mul-sub m (n + 1) from, mul-le-mul_right (n - from) some, mul-le-mul_left m low)
 
-tired_each : (m n from k tried tried' s t1 t2 : ℕ) → 1 ≤ m → from < k → k ≤ n → tried' ≤ max tried (n / 8) + (n + 1 - from) → t1 + (40 * m * tried + 3 * from) ≤ s + (40 * m * tried' + 3 * k) →
+pub tired_each : (m n from k tried tried' s t1 t2 : ℕ) → 1 ≤ m → from < k → k ≤ n → tried' ≤ max tried (n / 8) + (n + 1 - from) → t1 + (40 * m * tried + 3 * from) ≤ s + (40 * m * tried' + 3 * k) →
     t2 ≤ t1 + (142 * m * (n - k) + 42 * m) → t2 ≤ s + search_cost m n from
 tired_each m n from k tried tried' s t1 t2 some low within few pays more =
     omega (arith, few_tried m n (n + 1 - from) tried tried' few, mul-sub m n from, mul-sub m (n - from) 1, mul-sub m (n + 1) from, mul-sub m n k, mul-le-mul_right (k - from) some, mul-sub m k from, mul-le-mul_left m low, mul-le-mul_left m within)
@@ -107,39 +98,6 @@ some_from e w begins from start all next = search rules
 pub later_answer : (e : Tree) (w : List ℕ) (from k : ℕ) (r : Option (ℕ × ℕ)) → from ≤ k → NoneIn e w from k → SpanAnswer e w k r → SpanAnswer e w from r
 later_answer e w from k None low none is = search rules
 later_answer e w from k (Some f) low none is = search rules
-
--- what searches by trials may still take
-pub unbegun : (m n : ℕ) (s : Seeking) (place : ℕ) → s.begun ≡ false → owed_seeking m n s place ≡ 40 * m * (2 * n + 1 - s.tried) + 142 * m * (n - place)
-unbegun m n s place is = search rules
-
-pub pass_paid : (m n : ℕ) (mid begun new : Seeking) (start s t : ℕ) (r : Option (ℕ × ℕ)) → IsTrue begun.begun → IsTrue new.begun → owed_seeking m n begun start ≤ owed_seeking m n mid start →
-    t + owed_after_search (λ q. owed_kept m n new.kept.region q) r ≤ s + (owed_kept m n begun.kept.region start + 42 * m) → t + owed_after_search (owed_seeking m n new) r ≤ s + (owed_seeking m n mid start + 43 * m)
-pass_paid m n mid begun new start s t r is is' falls pays = search rules
-
--- a search came to a place from which it goes on by that pass: none begins before, and the steps so far are paid
-pub record ComesTo (p : WrittenExpression) (w : List ℕ) (a a' : Table) (old mid : Seeking) (from place before after : ℕ) : Type 0 where
-  pub shape : SameShape a a'
-  pub space : SameSpace old.kept mid.kept
-  pub up : from ≤ place
-  pub within : place ≤ length w
-  pub none : NoneIn (expression_tree p) w from place
-  pub grows : before ≤ after
-  pub cost : after + owed_seeking (length p.nodes) (length w) mid place ≤ before + owed_seeking (length p.nodes) (length w) old from
-  pub each : (t : ℕ) → t ≤ after + (142 * length p.nodes * (length w - place) + 42 * length p.nodes) → t ≤ before + search_cost (length p.nodes) (length w) from
-  pub counts : TakesAtLeast before after (place - from)
-
--- it came there after trials
-pub comes_tired : (p : WrittenExpression) (w : List ℕ) (a a' : Table) (old mid : Seeking) (from place before after : ℕ) → 1 ≤ length p.nodes → SameShape a a' → SameSpace old.kept mid.kept → old.begun ≡ false → mid.begun ≡ false → old.tried ≤ length w →
-    TrialsMade (expression_tree p) w (length p.nodes) from old.tried mid.tried before after (Tired place) → ComesTo p w a a' old mid from place before after
-comes_tired p w a a' old mid from place before after some shape space is is' few made =
-    let m = length p.nodes in
-    let n = length w in
-    let left = tried_left m n old.tried mid.tried before after (3 * from) (3 * place) few (omega (arith, made.few)) made.cost.1 in
-    let cost : after + owed_seeking m n mid place ≤ before + owed_seeking m n old from =
-    omega (arith, left, mul-sub m n from, mul-sub m n place, mul-le-mul_left m made.answer.0, mul-le-mul_left m made.answer.1, mul-le-mul_right (place - from) some, mul-sub m place from, made.answer, unbegun m n old from is, unbegun m n mid place is') in
-    let each : (t : ℕ) → t ≤ after + (142 * m * (n - place) + 42 * m) → t ≤ before + search_cost m n from =
-    λ t. tired_each m n from place old.tried mid.tried before after t some made.answer.0 made.answer.1 made.few made.cost.1 in
-    search (rules, cost, each, made)
 
 -- one search after another
 pub searched_then : (p : WrittenExpression) (w : List ℕ) (a1 a2 a3 b1 b2 b3 : Table) (s1 s2 s3 : Seeking) → Searched p w a1 a2 b1 b2 s1 s2 → Searched p w a2 a3 b2 b3 s2 s3 → Searched p w a1 a3 b1 b3 s1 s3

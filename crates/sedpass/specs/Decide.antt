@@ -1,20 +1,20 @@
 -- Private to the proofs: no contract that the engine sees cites what is here.
 -- What is known of a match's groups while they are decided from its end, what is left to do, and what that costs.
-use Rattle.std.specs.Prelude.{◌≡◌, ℕ, ◌+◌, ◌-◌, ◌*◌, ◌<◌, ◌≤◌, ◌⊎◌, Bool, true, false, IsTrue, List, [], ◌∷◌, ◌++◌, length, min, slice_get, slice_index_or, vec_capacity, IfSome, Option, None, Some}
+use Rattle.std.specs.Prelude.{◌≡◌, ℕ, zero, suc, ◌+◌, ◌-◌, ◌*◌, ◌<◌, ◌≤◌, ◌⊎◌, Bool, true, false, IsTrue, List, [], ◌∷◌, ◌++◌, length, min, slice_get, slice_index_or, vec_capacity, IfSome, Option, None, Some}
 use Rattle.std.specs.List.{AllByRecursion}
 use Rattle.sedre.specs.Arena.{IsArena}
 use Rattle.sedre.specs.Tree.{size, tree_at, WrittenExpression}
-use Rattle.sedre.specs.Steps.{Takes, TakesAtLeast, CostsWithin}
+use Rattle.sedre.specs.Steps.{TakesAtLeast, CostsWithin}
 use Rattle.sedre.specs.declared.types.Node.{Node}
 use Rattle.sedre.specs.declared.types.Node.TheVariants.{Seq, Alt, Star}
 use Rattle.sedre.specs.declared.types.NodeId.{NodeId}
 use Rattle.sedtext.specs.Caps.{LastCopy}
-use Rattle.sedtext.specs.Groups.{SpansOfGroups}
+use Rattle.sedtext.specs.Groups.{SpansOfGroups, group_depth}
 use Rattle.sedtext.specs.Nodes.{parts_of}
 use Rattle.sedtext.specs.Reach.{HasSpan}
 use Rattle.sedtext.specs.Words.{row_of}
 use Rattle.sedpass.specs.Prepared.{holds, length_of}
-use Rattle.sedpass.specs.Kept.{IsKept, KeptRoom, SameSpace}
+use Rattle.sedpass.specs.Kept.{IsKept, KeptRoom, SameSpace, owed_region}
 use Rattle.sedpass.specs.Regions.{IsLastIn}
 use Rattle.sedpass.specs.Table.{IsForwardOne, IsRoomy, IsTable, SameRoom, SameShape}
 use Rattle.sedpass.specs.Walks.{GroupState, is_due, drop_groups, WalkEnters}
@@ -92,11 +92,6 @@ weights nodes [] = 0
 weights nodes (Apart here ∷ tasks) = 2 * size (tree_at nodes here.node) + weights nodes tasks
 weights nodes (Forget x ∷ tasks) = 1 + weights nodes tasks
 
--- a node to be decided matches within i..j
-abbrev pub LiesWithin : ℕ → ℕ → GroupTask → Type 0
-LiesWithin i j (Apart here) = (i ≤ here.start) × (here.stop ≤ j)
-LiesWithin i j (Forget x) = Unit {0}
-
 -- so many nodes were entered: those tasks that are left bring the new state to where all bring the old one
 abbrev pub Continues : List Node → List ℕ → List GroupTask → GroupState → List GroupTask → GroupState → ℕ → Type 0
 Continues nodes w tasks old rest new n = (f : GroupState) (m : ℕ) → RunsTasks nodes w rest new f m → RunsTasks nodes w tasks old f (n + m)
@@ -111,7 +106,6 @@ tasks_after (Two next later) = Apart next ∷ later ∷ []
 pub record IsTurn (s : Subject) (here : Matched) (old new : GroupState) (then : Then) (n : ℕ) : Type 0 where
   pub run : (rest : List GroupTask) → Continues (nodes_in s) (subject_text s) (Apart here ∷ rest) old (tasks_after then ++ rest) new n
   pub ready : AllByRecursion (IsTaskReady (nodes_in s) (subject_text s)) (tasks_after then)
-  pub within : AllByRecursion (LiesWithin here.start here.stop) (tasks_after then)
   pub less : weights (nodes_in s) (tasks_after then) + 1 ≤ 2 * size (tree_at (nodes_in s) here.node)
 
 -- how many nodes a turn enters: itself, unless it has no part
@@ -224,36 +218,51 @@ IsCopyFrom s here a first (Some c) =
     ⊎ ((here.start ≡ here.stop) × (IsTrue first × HasSpan (nodes_in s) (subject_text s) a.index here.start here.start) × (c ≡ here.start))
 IsCopyFrom s here a first None = (here.start ≡ here.stop) × ((IsTrue first × HasSpan (nodes_in s) (subject_text s) a.index here.start here.start) → ⊥)
 
--- the steps to go on from a node to a part of it, in a match of so many bytes: looks into one region, and passes forwards over the parts
-abbrev pub part_cost : ℕ → ℕ → ℕ
-part_cost m long = 172 * m * long
+-- the steps that are left to decide groups in a region of m nodes, for a match of so many bytes and so deep: those of parts apart, those of
+-- cuts and copies, and those of looks into the region
+abbrev pub region_cost : (m depth long owed : ℕ) → ℕ
+region_cost m zero long owed = 0
+region_cost m (suc depth) long owed = 172 * m * depth * long + 72 * m * long + owed
 
--- those of a node that is decided by its kind: where nothing goes on, no region is looked into
-abbrev pub kind_cost : Subject → Matched → Option Matched → ℕ
-kind_cost s here None = 1
-kind_cost s here (Some next) = part_cost (length (nodes_in s)) (here.stop - here.start) + 1
+-- those of a match in a region, and two for each node
+abbrev pub match_cost : List Node → Region → Matched → ℕ
+match_cost nodes r here =
+    let e = tree_at nodes here.node in
+    let m = length nodes in
+    region_cost m (group_depth e) (here.stop - here.start) (owed_region m r here.start) + 2 * size e
 
--- those of tasks, where none matches more than so many bytes: two for each node, and those to go on to each part
-abbrev pub tasks_cost : List Node → ℕ → List GroupTask → ℕ
-tasks_cost nodes long [] = 0
-tasks_cost nodes long (Apart here ∷ tasks) = part_cost (length nodes) long * (size (tree_at nodes here.node) - 1) + 2 * size (tree_at nodes here.node) + tasks_cost nodes long tasks
-tasks_cost nodes long (Forget x ∷ tasks) = tasks_cost nodes long tasks
+-- those of a task, which has a region of its own
+abbrev pub task_cost : List Node → GroupTask → ℕ
+task_cost nodes (Apart here) =
+    let e = tree_at nodes here.node in
+    172 * length nodes * group_depth e * (here.stop - here.start) + 2 * size e
+task_cost nodes (Forget x) = 0
 
--- A turn at a match of the node enters it, unless it has no part: this comes in its place, the first match in the region; what it costs,
--- and what was looked at.
-pub record NodeTurned (s : Subject) (here : Matched) (node : Node) (old new : GroupState) (r : Region) (then : Then) (before after : ℕ) : Type 0 where
+abbrev pub tasks_cost : List Node → List GroupTask → ℕ
+tasks_cost nodes [] = 0
+tasks_cost nodes (task ∷ tasks) = task_cost nodes task + tasks_cost nodes tasks
+
+-- those of what comes in place of a node, in the region as it is then, and more
+abbrev pub then_cost : List Node → Region → Then → ℕ → ℕ
+then_cost nodes r Done more = more
+then_cost nodes r (One next) more = match_cost nodes r next + more
+then_cost nodes r (Two next later) more = match_cost nodes r next + (task_cost nodes later + more)
+
+-- A turn at a match of the node enters it, unless it has no part: this comes in its place, the first match in the region; what it costs, a
+-- step less than the node has where a group lies in it, and what was looked at.
+pub record NodeTurned (s : Subject) (here : Matched) (node : Node) (old new : GroupState) (r r' : Region) (then : Then) (before after : ℕ) : Type 0 where
   pub turn : IsTurn s here old new then (entered_at node)
-  pub goes : IfSome (next_of then) (EndsRegion s r)
-  pub cost : Takes before after (kind_cost s here (next_of then))
+  pub goes : IfSome (next_of then) (EndsRegion s r')
+  pub cost : 1 ≤ group_depth (tree_at (nodes_in s) here.node) → CostsWithin before after (match_cost (nodes_in s) r here) (then_cost (nodes_in s) r' then 1)
   pub looks : LooksAt s here node (next_of then) before after
 
--- The tasks are done as far as those left, which are ready, and of which d fewer can still come: what is known then, its cost, where
--- all match within i..j, and n nodes that were entered, each of which was looked at.
-pub record Works (s : Subject) (tasks : List GroupTask) (old : Decided) (rest : List GroupTask) (new : Decided) (d before after : ℕ) : Type 0 where
+-- The tasks are done as far as those left, which are ready, and of which d fewer can still come: what is known then, how much of the
+-- steps to be paid is owed still, and n nodes that were entered, each of which was looked at.
+pub record Works (s : Subject) (tasks : List GroupTask) (old : Decided) (rest : List GroupTask) (new : Decided) (d paid owed before after : ℕ) : Type 0 where
   pub decided : HasBlank new
   pub ready : AllByRecursion (IsTaskReady (nodes_in s) (subject_text s)) rest
   pub less : weights (nodes_in s) rest + d ≤ weights (nodes_in s) tasks
-  pub spent : (i j : ℕ) → AllByRecursion (LiesWithin i j) tasks → AllByRecursion (LiesWithin i j) rest × CostsWithin before after (tasks_cost (nodes_in s) (j - i) tasks) (tasks_cost (nodes_in s) (j - i) rest)
+  pub spent : CostsWithin before after paid owed
   pub n : ℕ
   pub run : Continues (nodes_in s) (subject_text s) tasks (known_groups old) rest (known_groups new) n
   pub entered : TakesAtLeast before after n

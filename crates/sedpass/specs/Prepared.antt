@@ -35,10 +35,6 @@ length_of (grouped k a) = length_of a
 length_of (any_copies a first) = None
 length_of (one_or_none a first) = None
 
--- all that R leads to lies n places on
-abbrev pub AllLong : (ℕ → ℕ → Type 0) → ℕ → Type 0
-AllLong R n = (i j : ℕ) → R i j → j ≡ i + n
-
 -- group k is one of those that are reported
 abbrev pub reported : ℕ → Bool
 reported k = nat_lt 0 k && nat_lt k 10

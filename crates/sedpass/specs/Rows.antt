@@ -6,7 +6,7 @@ use Rattle.sedre.specs.Tree.{WrittenExpression}
 use Rattle.sedre.specs.Mirror.{seen}
 use Rattle.sedre.specs.declared.types.Node.{Node}
 use Rattle.sedre.specs.declared.types.Node.TheVariants.{Set, Seq, Alt, Group, Star, Opt}
-use Rattle.sedtext.specs.Reach.{Starts, HasSpan, IsStart, Enters, PartFrom}
+use Rattle.sedtext.specs.Reach.{Starts, HasSpan, IsStart, Enters}
 use Rattle.sedtext.specs.Matching.{byte_is_in}
 use Rattle.sedtext.specs.Places.{IsPlace}
 use Rattle.sedtext.specs.Words.{row_of}
@@ -58,10 +58,6 @@ Took nodes w r s j x members = (i : ℕ) × (i + 1 ≡ j) × Enters nodes w r s 
 abbrev pub SameBytes : List Node → Option ℕ → Option ℕ → Type 0
 SameBytes nodes a b = (x : ℕ) (members : List Bool) → slice_get nodes x ≡ Some (Set members) → byte_is_in a members ≡ byte_is_in b members
 
--- no leaf is entered at the place
-abbrev pub NoneEntered : List Node → List ℕ → ℕ → Starts → ℕ → Type 0
-NoneEntered nodes w r s p = (c : ℕ) (members : List Bool) → slice_get nodes c ≡ Some (Set members) → Enters nodes w r s c p → ⊥
-
 -- x is the node r or is in it
 pub data InTree (nodes : List Node) (r : ℕ) : ℕ → Type 0 where
   is_tree : (x : ℕ) → x ≡ r → InTree nodes r x
@@ -70,14 +66,6 @@ pub data InTree (nodes : List Node) (r : ℕ) : ℕ → Type 0 where
 -- the nodes in r are those from low to r
 abbrev pub IsNodeRange : List Node → ℕ → ℕ → Type 0
 IsNodeRange nodes low r = (c : ℕ) → ((low ≤ c) × (c ≤ r)) ↔ InTree nodes r c
-
--- c is a node in r below n
-abbrev pub TreeBelow : List Node → ℕ → ℕ → ℕ → Type 0
-TreeBelow nodes r n c = InTree nodes r c × (c < n)
-
--- c is r, or a node in r and a part of one from y on
-abbrev pub TreeFrom : List Node → ℕ → ℕ → ℕ → Type 0
-TreeFrom nodes r y c = InTree nodes r c × PartFrom nodes r y c
 
 -- null says which nodes are null at the place
 abbrev pub AreNull : List Node → List ℕ → ℕ → (ℕ → Bool) → Type 0
@@ -110,13 +98,6 @@ EndKept nodes w r s keeps p c = (IsTrue keeps ⊎ (c ≡ r)) × EndsPastIn nodes
 pub record RowOfPlace (nodes : List Node) (w : List ℕ) (r : ℕ) (s : Starts) (keeps : Bool) (p : ℕ) (entered ended : ℕ → Bool) : Type 0 where
   pub leaves : (c : ℕ) → IsTrue (entered c) ↔ LeafAt nodes w r s p c
   pub ends : (c : ℕ) → IsTrue (ended c) ↔ EndKept nodes w r s keeps p c
-
--- the same of the nodes from y on alone
-abbrev pub ShowFrom : ℕ → (ℕ → Bool) → (ℕ → Type 0) → Type 0
-ShowFrom y bits P = (c : ℕ) → IsTrue (bits c) ↔ ((y ≤ c) × P c)
-
-abbrev pub RowFrom : List Node → List ℕ → ℕ → Starts → Bool → (p y : ℕ) → (entered ended : ℕ → Bool) → Type 0
-RowFrom nodes w r s keeps p y entered ended = ShowFrom y entered (LeafAt nodes w r s p) × ShowFrom y ended (EndKept nodes w r s keeps p)
 
 -- from one row this byte leads to the other, at a place that is the text's end or not, and a start or not
 abbrev pub RowLeadsTo : List Node → ℕ → Bool → (ℕ → Bool) → (ℕ → Bool) → Option ℕ → Bool → Bool → (ℕ → Bool) → (ℕ → Bool) → Type 0

@@ -6,13 +6,14 @@ ghost use Rattle.std.specs.Prelude.{◌≡◌, [], ◌∷◌, reverse, ◌+◌, 
 ghost use Rattle.std.specs.List.{AllByRecursion};
 ghost use Rattle.sedre.specs.Arena.{IsArena};
 ghost use Rattle.sedre.specs.Tree.{tree_at, expression_tree};
-ghost use Rattle.sedre.specs.Steps.{Takes, TakesAtLeast};
+ghost use Rattle.sedre.specs.Steps.{CostsWithin, Takes, TakesAtLeast};
 ghost use Rattle.sedre.specs.declared.types.Node.TheVariants.{Seq, Star};
 ghost use Rattle.sedtext.specs.Caps.{LastCut, IsReport};
+ghost use Rattle.sedtext.specs.Groups.{group_depth};
 ghost use Rattle.sedtext.specs.Places.{Ascending};
 ghost use Rattle.sedtext.specs.Reach.{HasSpan};
-ghost use Rattle.sedpass.specs.Decide.{spans_in, known_groups, HasBlank, IsAtEnd, IsCopyFrom, NodeTurned, Works, part_cost, HasNoKnownLength, HasDesk, AreTables, AreRoomy, IsTaskReady, HasSpace, SameRooms, KeepsGroupDesk, KeepsGroupRoom, nodes_in, subject_text, weights};
-ghost use Rattle.sedpass.specs.Kept.{SameKept};
+ghost use Rattle.sedpass.specs.Decide.{spans_in, known_groups, HasBlank, IsAtEnd, IsCopyFrom, NodeTurned, Works, tasks_cost, HasNoKnownLength, HasDesk, AreTables, AreRoomy, IsTaskReady, HasSpace, SameRooms, KeepsGroupDesk, KeepsGroupRoom, nodes_in, subject_text, weights};
+ghost use Rattle.sedpass.specs.Kept.{SameKept, owed_region};
 ghost use Rattle.sedpass.specs.Rows.{root_of};
 ghost use Rattle.sedpass.specs.Walks.{EntersGroups};
 ghost use Rattle.sedpass.specs.declared.groups.GroupTask.TheVariants.{Apart};
@@ -173,7 +174,8 @@ fn last_copy(
     requires { IsAtEnd subject tables.old kept.old here (Star a first) }
     ensures copy { IsCopyFrom subject.entry here a first result }
     ensures desk { KeepsGroupDesk subject.entry tables.old tables.new kept.old kept.new }
-    ensures cost { Takes steps.old steps.new (part_cost (length (nodes_in subject.entry)) (here.stop - here.start) + 1) }
+    ensures cost { let m = length (nodes_in subject.entry) in
+        Takes steps.old steps.new (owed_region m kept.old.region here.start + 72 * m * (here.stop - here.start) + 1) }
     ensures counts { HasNoKnownLength (nodes_in subject.entry) a.index → TakesAtLeast steps.old steps.new (here.stop - here.start) }
 {
     let part = a.index();
@@ -209,7 +211,8 @@ fn last_cut(
     ensures cut { LastCut (HasSpan (nodes_in subject.entry) (subject_text subject.entry) a.index) (HasSpan (nodes_in subject.entry) (subject_text subject.entry) b.index) here.start here.stop result }
     ensures same { SameKept kept.old kept.new }
     ensures desk { KeepsGroupDesk subject.entry tables.old tables.new kept.old kept.new }
-    ensures cost { Takes steps.old steps.new (part_cost (length (nodes_in subject.entry)) (here.stop - here.start)) }
+    ensures cost { let m = length (nodes_in subject.entry) in
+        CostsWithin steps.old steps.new (owed_region m kept.old.region here.start + 72 * m * result + 1) (owed_region m kept.new.region result + 72 * m * here.start) }
     ensures counts { HasNoKnownLength (nodes_in subject.entry) a.index → HasNoKnownLength (nodes_in subject.entry) b.index → TakesAtLeast steps.old steps.new (result - here.start) }
 {
     if here.start == here.stop {
@@ -228,6 +231,10 @@ fn last_cut(
     if let Some(leaf) = known.run {
         return kept.seek(subject, reverse_one, leaf, here.start, false, steps);
     }
+    // no pass over it where the left part takes no byte
+    if !kept.marks(subject, reverse_one, left, here.start, steps) {
+        return here.start;
+    }
     kept.cut(subject, reverse_one, forward_part, left, here.start, steps)
 }
 
@@ -243,7 +250,8 @@ fn turn_node(
 ) -> Then
     requires at { IsAtEnd subject tables.old kept.old here kind.now }
     requires decided { HasBlank decided.old }
-    ensures turned { NodeTurned subject.entry here kind.now (known_groups decided.old) (known_groups decided.new) kept.new.region result steps.old steps.new }
+    ensures turned { NodeTurned subject.entry here kind.now (known_groups decided.old) (known_groups decided.new) kept.old.region kept.new.region result
+        steps.old steps.new }
     ensures desk { KeepsGroupDesk subject.entry tables.old tables.new kept.old kept.new }
     ensures decided { HasBlank decided.new }
     ensures few { spans_in decided.new.spans ≤ spans_in decided.old.spans + 1 }
@@ -308,7 +316,9 @@ fn spine(
     requires desk { HasDesk subject tables.old room.old.kept }
     requires blank { HasBlank decided.old }
     ensures room { KeepsGroupRoom subject.entry tables.old tables.new room.old room.new }
-    ensures works { Works subject.entry (Apart here ∷ reverse room.old.tasks.items) decided.old (reverse room.new.tasks.items) decided.new 1 steps.old steps.new }
+    ensures works { let tasks = Apart here ∷ reverse room.old.tasks.items in
+        let rest = reverse room.new.tasks.items in
+        Works subject.entry tasks decided.old rest decided.new 1 (tasks_cost (nodes_in subject.entry) tasks) (tasks_cost (nodes_in subject.entry) rest) steps.old steps.new }
 {
     room.kept
         .begin(subject, &tables.reverse_one, here.node, here.stop);
@@ -348,7 +358,8 @@ pub fn decide(
     ensures report { IsReport (expression_tree subject.entry.prepared.now) (subject_text subject.entry) start stop result }
     ensures tasks { room.new.tasks.items ≡ [] }
     ensures room { KeepsGroupRoom subject.entry tables.old tables.new room.old room.new }
-    ensures cost { let m = length (nodes_in subject.entry) in Takes steps.old steps.new (172 * m * (m - 1) * (stop - start) + 2 * m) }
+    ensures cost { let m = length (nodes_in subject.entry) in
+        Takes steps.old steps.new (172 * m * group_depth (expression_tree subject.entry.prepared.now) * (stop - start) + 2 * m) }
     ensures counts { TakesAtLeast steps.old steps.new (spans_in result - 1) }
     ensures entered { EntersGroups (expression_tree subject.entry.prepared.now) (subject_text subject.entry) start stop steps.old steps.new }
 {

@@ -266,6 +266,30 @@ impl Kept {
         self.region.to
     }
 
+    /// Whether a node is marked at a place below the region's end. Counts one look, and those by which the place's state is made.
+    pub fn marks(
+        &mut self,
+        subject: Subject,
+        table: &mut Table,
+        x: usize,
+        place: usize,
+        steps: &mut Steps,
+    ) -> bool
+        requires kept { IsKept subject.prepared.now subject.text.now table.old self.old }
+        requires x { x < length subject.prepared.now.nodes }
+        requires place { place < self.old.region.end }
+        ensures keeps { KeepsRegion subject.entry.prepared.now subject.entry.text.now table.old table.new self.old self.new }
+        ensures marked { IsTrue result ↔ ReachesEnd subject.entry.prepared.now.nodes subject.entry.text.now self.old.region.root
+            (ends_shown table.old.way.all_starts self.old.region.end) x place }
+        ensures cost { let m = length subject.entry.prepared.now.nodes in
+            CostsWithin steps.old steps.new (owed_region m self.old.region place + 1) (owed_region m self.new.region place) }
+        ensures counts { TakesAtLeast steps.old steps.new 1 }
+    {
+        self.ready(subject, table, place, steps);
+        let ends = ends_row(self.states[place] as usize);
+        table.rows.get(ends, x, steps)
+    }
+
     /// Whether a node x that is last in the region matches from a place up to the region's end.
     pub fn spans(
         &mut self,
@@ -288,9 +312,7 @@ impl Kept {
         if place == self.region.end {
             return subject.is_null(x, place, steps);
         }
-        self.ready(subject, table, place, steps);
-        let ends = ends_row(self.states[place] as usize);
-        table.rows.get(ends, x, steps)
+        self.marks(subject, table, x, place, steps)
     }
 
     /// The first place from one on at which the node x is marked, or isn't, as asked; the region's end where there is none
@@ -314,7 +336,7 @@ impl Kept {
         ensures found { result < self.old.region.end → IsTrue marked ↔ ReachesEnd subject.entry.prepared.now.nodes subject.entry.text.now self.old.region.root
             (ends_shown table.old.way.all_starts self.old.region.end) x result }
         ensures cost { let m = length subject.entry.prepared.now.nodes in
-            CostsWithin steps.old steps.new (owed_region m self.old.region from + 2 * result + 2) (owed_region m self.new.region result + 2 * from) }
+            CostsWithin steps.old steps.new (owed_region m self.old.region from + 2 * result + 1) (owed_region m self.new.region result + 2 * from) }
         ensures counts { TakesAtLeast steps.old steps.new (result - from) }
     {
         let mut place = from;

@@ -56,7 +56,7 @@ pub fn leaves_row(state: usize) -> usize
     2 * state + 2
 }
 
-/// The row of the nodes that end in a state, after a byte or as null strings.
+/// The row of the nodes that end in a state after at least one byte, and of the root if it ends there as the null string.
 pub fn ends_row(state: usize) -> usize
     requires { state ≤ 65536 }
     ensures { result ≡ ends_row state }
@@ -180,8 +180,9 @@ pub fn descend(act: Act, first: bool, state: usize, rows: &mut Rows, steps: &mut
         enter(act, &node, here, rows, steps);
         let leaf = leaf_bit(&node, here);
         rows.set(leaves, x, leaf, steps);
-        // after at least one byte, or as the null string where it is entered
-        let kept = (act.way.mirrored | (x == act.root)) & (end | (here & null));
+        // after at least one byte; the root as the null string too, where it is entered
+        let own = x == act.root;
+        let kept = (act.way.mirrored | own) & (end | (own & (here & null)));
         rows.set(ends, x, kept, steps);
     }
 }

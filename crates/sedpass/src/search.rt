@@ -2,13 +2,12 @@
 //!
 //! A trial is a pass from one place at which a match can begin. Where trials went over many places that are in no match, a pass
 //! from the text's end is kept for the rest of the text: it shows where matches begin, and how far one leads.
-ghost use Rattle.std.specs.Prelude.{◌≡◌, ℕ, false, ◌+◌, ◌-◌, ◌*◌, ◌≤◌, length, if◌then◌else◌, IsTrue};
+ghost use Rattle.std.specs.Prelude.{◌≡◌, false, ◌+◌, ◌-◌, ◌*◌, ◌≤◌, length, if◌then◌else◌, IsTrue};
 ghost use Rattle.sedtext.specs.Answer.{SpanAnswer};
-ghost use Rattle.sedtext.specs.Beginnings.{AllBegin};
 ghost use Rattle.sedre.specs.Steps.{CostsWithin, Takes};
 ghost use Rattle.sedre.specs.Tree.{expression_tree};
 ghost use Rattle.sedpass.specs.Table.{IsForwardOne, IsTable, SameShape};
-ghost use Rattle.sedpass.specs.Kept.{IsKept, KeptRoom, SameSpace};
+ghost use Rattle.sedpass.specs.Kept.{IsKept, KeptRoom};
 ghost use Rattle.sedpass.specs.Search.{IsNextMatch, LooksFrom, MaySearch, Searched, SearchServes, TablesStay, TrialsMade, owed_behind, owed_kept, owed_seeking, owed_after_search, search_cost};
 
 use crate::kept::{Kept, Subject};
@@ -120,14 +119,24 @@ pub fn next_kept(
     Some((start, end))
 }
 
-/// Begins the pass from the text's end, unless it was begun.
-fn begin_kept(subject: Subject, reverse_any: &Table, seeking: &mut Seeking)
-    requires { SearchServes subject.prepared.now subject.text.now reverse_any.now seeking.old }
-    ensures begun { IsTrue seeking.new.begun }
-    ensures kept { IsKept subject.entry.prepared.now subject.entry.text.now reverse_any.now seeking.new.kept }
-    ensures space { SameSpace seeking.old.kept seeking.new.kept }
-    ensures owed { let m = length subject.entry.prepared.now.nodes in let n = length subject.entry.text.now in
-        (place : ℕ) → place ≤ n → owed_seeking m n seeking.new place ≤ owed_seeking m n seeking.old place }
+/// The match from a place on, by the pass from the text's end, which is begun unless it was.
+fn next_begun(
+    subject: Subject,
+    forward_one: &mut Table,
+    reverse_any: &mut Table,
+    seeking: &mut Seeking,
+    from: usize,
+    steps: &mut Steps,
+) -> Option<(usize, usize)>
+    requires from { from ≤ length subject.text.now }
+    requires ready { MaySearch subject.prepared.now subject.text.now forward_one.old reverse_any.old seeking.old }
+    ensures searched { Searched subject.entry.prepared.now subject.entry.text.now forward_one.old forward_one.new reverse_any.old reverse_any.new seeking.old seeking.new }
+    ensures answer { SpanAnswer (expression_tree subject.entry.prepared.now) subject.entry.text.now from result }
+    ensures cost { let m = length subject.entry.prepared.now.nodes in let n = length subject.entry.text.now in
+        CostsWithin steps.old steps.new (owed_seeking m n seeking.old from + 43 * m) (owed_after_search (owed_seeking m n seeking.new) result) }
+    ensures each { let m = length subject.entry.prepared.now.nodes in
+        Takes steps.old steps.new (142 * m * (length subject.entry.text.now - from) + 42 * m) }
+    ensures counts { LooksFrom from steps.old steps.new result }
 {
     if !seeking.begun {
         let length = subject.text.len();
@@ -135,6 +144,8 @@ fn begin_kept(subject: Subject, reverse_any: &Table, seeking: &mut Seeking)
         let root = subject.prepared.root();
         seeking.kept.begin(subject, reverse_any, root, length);
     }
+    let kept = &mut seeking.kept;
+    next_kept(subject, forward_one, reverse_any, kept, from, steps)
 }
 
 /// The leftmost of the longest matches that begin at a place or later. For one text the places don't fall from call to call.
@@ -155,16 +166,14 @@ pub fn next_match(
     ensures each { Takes steps.old steps.new (search_cost (length subject.entry.prepared.now.nodes) (length subject.entry.text.now) from) }
     ensures counts { LooksFrom from steps.old steps.new result }
 {
-    let mut start = from;
-    if !seeking.begun && seeking.tried <= subject.text.len() {
-        let tried = &mut seeking.tried;
-        match try_all(subject, forward_one, from, tried, steps) {
-            Trials::Hit(first, end) => return Some((first, end)),
-            Trials::Nothing => return None,
-            Trials::Tired(later) => start = later,
+    if seeking.begun || seeking.tried > subject.text.len() {
+        return next_begun(subject, forward_one, reverse_any, seeking, from, steps);
+    }
+    match try_all(subject, forward_one, from, &mut seeking.tried, steps) {
+        Trials::Hit(first, end) => Some((first, end)),
+        Trials::Nothing => None,
+        Trials::Tired(later) => {
+            next_begun(subject, forward_one, reverse_any, seeking, later, steps)
         }
     }
-    begin_kept(subject, reverse_any, seeking);
-    let kept = &mut seeking.kept;
-    next_kept(subject, forward_one, reverse_any, kept, start, steps)
 }

@@ -1,16 +1,10 @@
 -- At most one outcome belongs to a span and the groups before it.
-use Rattle.std.proofs.Common.{◌≡◌, ℕ, ◌<◌, ◌≤◌, ◌⊎◌, List, IsTrue, refl, sym, ◌∙◌, subst, arith}
-use Rattle.sedre.specs.Tree.{Tree, sequence, either_of, grouped, any_copies, one_or_none}
-use Rattle.sedtext.specs.Spans.{no_copy, Matches}
-use Rattle.sedtext.specs.Caps.{Captures, LastCopy, only, then_copy}
-use Rattle.sedtext.specs.Groups.{SpansOfGroups, forget}
+use Rattle.sedtext.proofs.Words.{◌<◌, ◌∙◌, ◌≡◌, ◌⊎◌, any_copies, arith, Captures, either_of, forget, grouped, IsTrue, LastCopy, List, Matches, no_copy, one_or_none, only, refl, sequence, SpansOfGroups, sym, then_copy, Tree, ℕ}
 
 LastCopy-unique : (R : ℕ → ℕ → Type 0) (j i c : ℕ) → LastCopy R j i c → (d : ℕ) → LastCopy R j i d → c ≡ d
 LastCopy-unique R j i c (only _ lt r) d (only _ lt' r') = refl
-LastCopy-unique R j i c (only _ lt r) d (then_copy _ k _ up low r' rest most last) =
-    let high : j ≤ k = most j lt r no_copy in absurd (omega arith)
-LastCopy-unique R j i c (then_copy _ k _ up low r rest most last) d (only _ lt r') =
-    let high : j ≤ k = most j lt r' no_copy in absurd (omega arith)
+LastCopy-unique R j i c (only _ lt r) d (then_copy _ k _ up low r' rest most last) = grind (arith, most j lt r no_copy)
+LastCopy-unique R j i c (then_copy _ k _ up low r rest most last) d (only _ lt r') = grind (arith, most j lt r' no_copy)
 LastCopy-unique R j i c (then_copy _ k _ up low r rest most last) d (then_copy _ l _ up' low' r' rest' most' last') = grind (arith, LastCopy-unique R j k c last d)
 
 -- copies have one outcome, where one of them has one, and one of the null string
@@ -27,9 +21,6 @@ Captures-unique (grouped n a) w i j old new other h k = grind (arith, Captures-u
 Captures-unique (any_copies a first) w i j old new other h k =
     copied_unique i j (IsTrue first) (Matches a w i i) (Captures a w i i (forget a old)) (λ g. (c : ℕ) × LastCopy (Matches a w) j i c × Captures a w c j (forget a old) g) old new other
     (Captures-unique a w i i (forget a old))
-    (λ g g' l m.
-    let same : l.0 ≡ m.0 = LastCopy-unique (Matches a w) j i l.0 l.1 m.0 m.1 in
-    Captures-unique a w l.0 j (forget a old) g g' l.2 (subst (λ v. Captures a w v j (forget a old) g') (sym same) m.2))
-    h k
+    (λ g g' l m. grind (arith, LastCopy-unique (Matches a w) j i, Captures-unique a w l.0 j (forget a old) g g' l.2)) h k
 Captures-unique (one_or_none a first) w i j old new other h k = grind (arith, Captures-unique a w i)
 Captures-unique _ w i j old new other h k = h ∙ sym k

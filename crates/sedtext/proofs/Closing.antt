@@ -1,19 +1,16 @@
--- Lemmas that close goals of functions, which name them all in `lib.rt`.
-use Rattle.std.proofs.lemmas.List.{get_or_default, length-set}
-use Rattle.std.proofs.lemmas.Option.{slice_get-get_or}
-use Rattle.std.proofs.lemmas.Nat.{and_le_l}
-use Rattle.std.proofs.lemmas.Nat.Bits.{bit_at_and}
-use Rattle.sedtext.specs.Spans.{no_copy}
-use Rattle.sedtext.proofs.BranchLemmas.{branches_last}
-use Rattle.sedtext.proofs.CapsLemmas.{Captures-unique}
-use Rattle.sedtext.proofs.FewLemmas.{all_gathered}
-use Rattle.sedtext.proofs.FixedRunLemmas.{repeated_before, times_here}
-use Rattle.sedtext.proofs.LinkLemmas.{byte_leads, run_leads}
-use Rattle.sedtext.proofs.MatchingLemmas.{groups_after-iff, not_found-iff, some_found-iff, spans-iff}
-use Rattle.sedtext.proofs.NibbleLemmas.{marked_more}
-use Rattle.sedtext.proofs.RequiredLemmas.{one_longer}
-use Rattle.sedtext.proofs.SieveLemmas.{sifted, starts_with_member}
-use Rattle.sedtext.proofs.SpanLemmas.{CopiesLead-append}
-use Rattle.sedtext.proofs.WordLemmas.{length-row, length-rows_of, mark_read, mark_written, marked_same, new_bit, row_bit, row_clear, row_there}
+-- What the proofs of functions take, and the lemmas that close goals of functions, which `lib.rt` names.
+pub use Rattle.sedtext.proofs.Words.{◌%◌, ◌*◌, ◌++◌, ◌+◌, ◌-◌, ◌/◌, ◌<◌, ◌^◌, ◌∙◌, ◌≡◌, ◌≤◌, All, Alt, and_le_l, and_mask, ap, AreAlternatives, arith, Begin, bit_and, bit_at_and, Byte, cases_lt, common_steps, drop}
+pub use Rattle.sedtext.proofs.Words.{Each1-from_get_or, Each1-get_or, Either, End, expression_tree, Fits, get_or, get_or-map-range_with_len, get_or_default, inl, inr, IsWithin, length, length-set, lt-leb, map, no_copy}
+pub use Rattle.sedtext.proofs.Words.{None, PassesSieve, range_with_len, refl, row_of, rules, slice_get, slice_get-get_or, slice_get_read, Some, Star, subst, SwzOk-from_below, sym, take, true≢false, w8, ℕ, ⊎_elim}
+pub use Rattle.sedtext.proofs.CapsLemmas.{Captures-unique}
+pub use Rattle.sedtext.proofs.FewLemmas.{all_gathered, byte_behind, literal_behind, member_behind}
+pub use Rattle.sedtext.proofs.FixedRunLemmas.{repeated_before, run_stops, runs_of_bytes, times_here}
+pub use Rattle.sedtext.proofs.LinkLemmas.{all_hold, AllLeadTo, at_node, both_ways, branches_last, branches_more, byte_leads, IsLeft, lead_more, left_behind, left_inner, left_parts, one_longer, part_inside, required_first, required_none, run_leads}
+pub use Rattle.sedtext.proofs.MatchingLemmas.{groups_after-iff, not_found-iff, some_found-iff, spans-iff}
+pub use Rattle.sedtext.proofs.RunLemmas.{run_ends}
+pub use Rattle.sedtext.proofs.SieveLemmas.{AllMarked, first_marked, lanes_looked_up, lanes_with, lanes_zip, marked_lane, marked_more, none_marked, nonzero_few, nonzero_lane, passes_within, sifted, starts_with_member}
+pub use Rattle.sedtext.proofs.SpanLemmas.{CopiesLead-append}
+pub use Rattle.sedtext.proofs.WordLemmas.{length-row, length-rows_of, mark_keeps, mark_read, mark_written, marked_same, Meet, meet_here, meet_later, new_bit, row_bit, row_clear, row_there, row_written, word_at, zero_unmarked}
+pub use Rattle.sedtext.proofs.NodeLemmas.{total_size}
 
-pub ruleset closing = (and_le_l, bit_at_and, CopiesLead-append, repeated_before, all_gathered, branches_last, byte_leads, Captures-unique, get_or_default, groups_after-iff, length-row, length-rows_of, length-set, mark_read, mark_written, marked_more, marked_same, new_bit, no_copy, not_found-iff, one_longer, row_bit, row_clear, row_there, run_leads, sifted, slice_get-get_or, some_found-iff, spans-iff, starts_with_member, times_here)
+pub ruleset closing = (and_le_l, bit_at_and, CopiesLead-append, repeated_before, all_gathered, branches_last, byte_leads, Captures-unique, get_or_default, groups_after-iff, length-row, length-rows_of, length-set, mark_read, mark_written, mark_keeps, marked_more, marked_same, new_bit, no_copy, not_found-iff, one_longer, row_bit, row_clear, row_there, run_leads, sifted, slice_get-get_or, some_found-iff, spans-iff, starts_with_member, times_here, zero_unmarked)

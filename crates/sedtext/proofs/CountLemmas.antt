@@ -1,6 +1,5 @@
 -- Counts of steps that stay at the largest: how many looks there were at least.
-use Rattle.std.proofs.Common.{◌≡◌, ℕ, ◌+◌, ◌*◌, ◌≤◌, arith}
-use Rattle.sedre.specs.Steps.{IsCounted, TakesExactly, TakesAtLeast}
+use Rattle.sedtext.proofs.Words.{◌+◌, ◌≡◌, ◌≤◌, arith, IsCounted, TakesAtLeast, TakesExactly, ℕ}
 
 -- nothing is counted yet
 pub least_none : (s n : ℕ) → n ≡ 0 → TakesAtLeast s s n
@@ -29,8 +28,3 @@ least_less s t n k before less = omega (arith, before, less)
 pub least_counted : (s t n m : ℕ) → TakesExactly s t n → m ≤ n → TakesAtLeast s t m
 unfolding TakesAtLeast IsCounted
 least_counted s t n m is few = omega (arith, is.1, few)
-
--- the same number of looks, twice
-pub counted_twice : (s a t n x y : ℕ) → x ≡ n → y ≡ n → TakesExactly s a x → TakesExactly a t y → TakesExactly s t (2 * n)
-unfolding IsCounted
-counted_twice s a t n x y first second one two = (omega (arith, first, second, one, two), omega (arith, first, second, one.1, two.1))

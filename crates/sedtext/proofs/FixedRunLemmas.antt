@@ -1,16 +1,6 @@
 -- Bytes of a set, always as many.
-use Rattle.std.proofs.Common.{◌≡◌, ℕ, ◌+◌, ◌<◌, ◌≤◌, Bool, List, [], ◌∷◌, length, Some, refl, subst, ⊎_elim, arith}
-use Rattle.std.specs.Prelude.{slice_get, slice_index_or, false}
-use Rattle.std.specs.List.{All}
-use Rattle.std.proofs.lemmas.Bool.{cases_eq, cases_lt}
-use Rattle.std.proofs.lemmas.List.Elements.{All-head, All-tail}
-use Rattle.sedre.specs.Tree.{byte_of, any_copies}
-use Rattle.sedtext.specs.Spans.{IsIn, Matches, CopiesLead, no_copy, one_more}
-use Rattle.sedtext.specs.Runs.{SetRepeats, RunBegins}
-use Rattle.sedtext.specs.Bytes.{MemberAt}
-use Rattle.sedtext.specs.FixedRuns.{AllFixedRuns, FirstFixedRun}
-use Rattle.sedtext.specs.declared.links.Link.{Link}
-use Rattle.sedtext.specs.declared.links.Link.TheVariants.{Byte}
+use Rattle.sedtext.proofs.Words.{◌+◌, ◌-◌, ◌<◌, ◌∷◌, ◌≡◌, ◌≤◌, [], AllFixedRuns, AllWithin, any_copies, arith, Bool, Byte, byte_of, cases_eq, cases_lt, CopiesLead, false, FirstFixedRun}
+use Rattle.sedtext.proofs.Words.{length, Link, List, Matches, MemberAt, no_copy, one_more, refl, RunBegins, SetRepeats, slice_get-get_or, slice_index, slice_index_or, Some, suc, ℕ}
 use Rattle.sedtext.proofs.SpanLemmas.{Matches-within}
 
 -- copies and more copies after them
@@ -19,25 +9,17 @@ CopiesLead-join R j k i no_copy more = more
 CopiesLead-join R j k i (one_more _ l lt r rest) more = one_more i l lt r (CopiesLead-join R j k l rest more)
 
 module _ (members : List Bool) (w : List ℕ) where
-  abbrev R : ℕ → ℕ → Type 0
-  R = Matches (byte_of members) w
-
   -- bytes of the set can be cut at each place between them
   pub repeated_cut : (m j i : ℕ) → i ≤ m → m ≤ j → SetRepeats members w i j → SetRepeats members w i m × SetRepeats members w m j
   repeated_cut m j i low high no_copy = grind (arith, no_copy)
   repeated_cut m j i low high (one_more _ l lt r rest) =
-      ⊎_elim
-      (λ (more : i < m). let cut = repeated_cut m j l (omega (arith, r.3)) high rest in (one_more i l lt r cut.0, cut.1))
-      (λ (le : m ≤ i).
-      let same : i ≡ m = omega arith in
-      subst (λ v. CopiesLead R v i × CopiesLead R j v) same (no_copy, one_more i l lt r rest))
-      (cases_lt i m)
+      let on = λ (le : l ≤ m). repeated_cut m j l le high rest in grind (arith, cases_lt i m, no_copy, one_more, on)
 
   -- each of them is in the set
   pub repeated_in : (p j i : ℕ) → i ≤ p → p < j → SetRepeats members w i j → MemberAt members w p
   repeated_in p j i low lt no_copy = absurd (omega arith)
   repeated_in p j i low lt (one_more _ l on r rest) =
-      ⊎_elim (λ (e : i ≡ p). subst (MemberAt members w) e (r.0, r.1, r.2)) (λ (ne : i ≡ p → ⊥). repeated_in p j l (omega (arith, r.3)) lt rest) (cases_eq i p)
+      let on = λ (le : l ≤ p). repeated_in p j l le lt rest in grind (arith, cases_eq i p, on)
 
   -- one more of them before the others
   pub repeated_before : (p j : ℕ) → MemberAt members w p → SetRepeats members w (p + 1) j → SetRepeats members w p j
@@ -48,23 +30,16 @@ module _ (members : List Bool) (w : List ℕ) where
   repeated_within i j within all = Matches-within (any_copies (byte_of members) false) w i j within all
 
 -- after a byte that isn't in the set the run begins
-pub run_stops : (members : List Bool) (w : List ℕ) (p q before place byte : ℕ) (has : Bool) → before + 1 ≡ place → p ≤ before → place ≤ q → slice_get w before ≡ Some byte →
-    has ≡ slice_index_or members byte false → has ≡ false → SetRepeats members w place q → RunBegins members w p q (before + 1)
-run_stops members w p q before place byte has next low high is value missing copies =
-    (omega arith, omega arith, grind arith, λ h after lt all. grind (arith, repeated_in members w before q h))
+pub run_stops : (members : List Bool) (v w : List ℕ) (p q place : ℕ) → v ≡ w → q ≤ length w → p < place → place ≤ q → slice_index_or members (slice_index v (place - 1)) false ≡ false → SetRepeats members v place q →
+    RunBegins members w p q (place - 1 + 1)
+run_stops members v w p q place same inside low high missing copies = grind (arith, slice_get-get_or w (place - 1) 0, repeated_in members w (place - 1) q)
 
 -- links each of which is a byte of the set
-pub runs_of_bytes : (links : List Link) (members : List Bool) → All (λ l. l ≡ Byte members) links → AllFixedRuns links members (length links)
-runs_of_bytes [] members all nodes w i j = (
-  λ at. (subst (SetRepeats members w i) at no_copy, omega (arith, at)),
-  λ h. omega (arith, h.1),
-)
-runs_of_bytes (l ∷ ls) members all nodes w i j =
-    let first : l ≡ Byte members = All-head (λ l. l ≡ Byte members) l ls all in
-    let rest = runs_of_bytes ls members (All-tail (λ l. l ≡ Byte members) l ls all) nodes w in (
-      λ at. grind (arith, first, rest at.0 j, repeated_before members w i j),
-      λ h. grind (arith, first, rest (i + 1) j, repeated_cut members w (i + 1) j i, repeated_in members w i j i),
-    )
+pub runs_of_bytes : (links : List Link) (members : List Bool) (n : ℕ) → AllWithin (λ l. l ≡ Byte members) links 0 n → length links ≤ n → AllFixedRuns links members (length links)
+runs_of_bytes [] members n all long nodes w i j = grind (arith, no_copy)
+runs_of_bytes (l ∷ ls) members n all long nodes w i j =
+    let rest = runs_of_bytes ls members (n - 1) (λ k d low lt. all (suc k) d (omega arith) (omega arith)) (omega arith) nodes w (i + 1) j in
+    grind (arith, all 0 l, rest, repeated_before members w i j, repeated_cut members w (i + 1) j i, repeated_in members w i j i)
 
 module _ (members : List Bool) (count : ℕ) (w : List ℕ) (from : ℕ) where
   -- no so many bytes begin before a run that begins among those

@@ -1,9 +1,5 @@
 -- The next occurrence is a match, and lies after the last one.
-use Rattle.std.proofs.Common.{List, length, ◌≡◌, ℕ, Option, IfSome, arith}
-use Rattle.std.proofs.lemmas.Bool.Decides.{nat_tests}
-use Rattle.sedre.specs.Tree.{Tree}
-use Rattle.sedtext.specs.Matching.{leftmost_longest}
-use Rattle.sedtext.specs.Following.{EndsWithin, LiesOn, OccursAfter, next_span}
+use Rattle.sedtext.proofs.Words.{◌≡◌, arith, EndsWithin, IfSome, leftmost_longest, length, LiesOn, List, nat_tests, next_span, OccursAfter, Option, Tree, ℕ}
 use Rattle.sedtext.proofs.MatchingLemmas.{found-iff}
 
 -- the next occurrence is a match

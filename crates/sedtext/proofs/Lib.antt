@@ -1,3 +1,4 @@
+pub mod Words
 pub mod NodeLemmas
 pub mod PartLemmas
 pub mod CapsLemmas
@@ -9,14 +10,9 @@ pub mod SpanLemmas
 pub mod MirrorLemmas
 pub mod ReachLemmas
 pub mod WordLemmas
-pub mod BitLemmas
 pub mod CountLemmas
 pub mod FixedRunLemmas
-pub mod RequiredLemmas
 pub mod FewLemmas
-pub mod BranchLemmas
-pub mod LaneLemmas
 pub mod LinkLemmas
 pub mod SieveLemmas
-pub mod NibbleLemmas
 pub mod Closing

@@ -1,27 +1,17 @@
--- Chains of links, cut and joined, and how a node is taken apart into one.
-use Rattle.std.proofs.Common.{◌≡◌, ℕ, zero, suc, ◌+◌, ◌<◌, ◌≤◌, ◌↔◌, Bool, false, List, [], ◌∷◌, ◌++◌, append_assoc, drop, length, take, Some, refl, sym, ap, ◌∙◌, subst, inl, inr, ⊎_elim, arith}
-use Rattle.std.specs.Prelude.{slice_get, slice_index_or}
-use Rattle.std.specs.List.{All}
-use Rattle.std.proofs.lemmas.List.{append-nil, take_more}
-use Rattle.std.proofs.lemmas.List.Elements.{All-append, All-nil, All-pop, All-push}
-use Rattle.std.proofs.lemmas.Option.{slice_get_within}
-use Rattle.sedre.specs.Arena.{IsArena, IsPart}
-use Rattle.sedre.specs.Tree.{any_copies, byte_of, size, tree_at}
-use Rattle.sedre.specs.declared.types.Node.{Node}
-use Rattle.sedre.specs.declared.types.Node.TheVariants.{Set, Seq, Group, Star}
-use Rattle.sedre.specs.declared.types.NodeId.{NodeId}
-use Rattle.sedtext.specs.Links.{AreAlternatives, ChainLeads, IsContinuation, LinkLeads}
-use Rattle.sedtext.specs.Nodes.{total_size}
-use Rattle.sedtext.specs.Bytes.{MemberAt}
-use Rattle.sedtext.specs.Reach.{HasSpan}
-use Rattle.sedtext.specs.Runs.{SetRepeats}
-use Rattle.sedtext.specs.Spans.{Matches}
-use Rattle.sedtext.specs.declared.links.Link.{Link}
-use Rattle.sedtext.specs.declared.links.Link.TheVariants.{Byte, Run, Start, End, Either, Other}
+-- Chains of links, cut and joined, and how a node is taken apart into one; the alternatives with which an expression begins, and the literals that its spans hold.
+use Rattle.sedtext.proofs.Words.{◌++◌, ◌+◌, ◌-◌, ◌<◌, ◌==◌, ◌||◌, ◌↔◌, ◌∙◌, ◌∷◌, ◌≡◌, ◌≤◌, ◌⊎◌, [], All, All-append, All-nil, All-pop, All-push, AllWithin, any_copies, AnyLeads, ap, append-nil, append_assoc, AreAlternatives, AreBranches}
+use Rattle.sedtext.proofs.Words.{arith, Bool, Byte, byte_of, ChainLeads, common_steps, Decides-eqb, drop, drop-cons, Either, false, FirstLiteral, get_or_from_slice_get, Group, has, has-set_of, HasSpan, inl, inr, IsArena, IsContinuation, IsIn}
+use Rattle.sedtext.proofs.Words.{IsLiteral, IsOneByte, IsPart, IsRequired, IsTrue, LeadsFrom, length, length-append, Link, LinkLeads, List, Matches, MemberAt, Narrowed, Node, NodeId, None, OccursAt, Option, or_left, or_right, Other, refl}
+use Rattle.sedtext.proofs.Words.{RequiredLiteral, Requires, Run, Seq, Set, SetRepeats, size, slice_get, slice_get-get_or, slice_get_within, slice_index_or, Some, Star, subst, suc, sym, take, take-append-drop, take_more, Tree, tree_at, Vec, zero, ℕ}
 use Rattle.sedtext.proofs.ReachLemmas.{NodeSpans, open_at, close_at}
-use Rattle.sedtext.proofs.NodeLemmas.{size-parts, size-pos}
+use Rattle.sedtext.proofs.NodeLemmas.{size-parts, size-pos, total_size}
 use Rattle.sedtext.proofs.RunLemmas.{copies_alike}
 use Rattle.sedtext.proofs.SpanLemmas.{CopiesLead-forward, Matches-forward, Matches-within}
+use Rattle.sedre.specs.Sets.{only}
+
+-- where the chain leads from a place of a text, the literal occurs there or later
+abbrev pub AllHold : List Link → List ℕ → Type 0
+AllHold links literal = (nodes : List Node) (w : List ℕ) (i j : ℕ) → i ≤ length w → ChainLeads nodes w links i j → (k : ℕ) × (i ≤ k) × OccursAt w literal k
 
 module _ (nodes : List Node) (w : List ℕ) where
   pub chain_split : (ls ms : List Link) (i j : ℕ) → ChainLeads nodes w (ls ++ ms) i j → (k : ℕ) × ChainLeads nodes w ls i k × ChainLeads nodes w ms k j
@@ -37,9 +27,8 @@ abbrev pub LeadAlike : List Node → List Link → List Link → Type 0
 LeadAlike nodes links others = (w : List ℕ) (i j : ℕ) → ChainLeads nodes w links i j ↔ ChainLeads nodes w others i j
 
 -- links in place of others that lead alike
-module _ (nodes : List Node) (ls ms : List Link) where
-  alike_through : (here there : List Link) → LeadAlike nodes here there → LeadAlike nodes (ls ++ (here ++ ms)) (ls ++ (there ++ ms))
-  alike_through here there alike w i j = grind (arith, chain_join, chain_split, alike w)
+alike_through : (nodes : List Node) (ls ms here there : List Link) → LeadAlike nodes here there → LeadAlike nodes (ls ++ (here ++ ms)) (ls ++ (there ++ ms))
+alike_through nodes ls ms here there alike w i j = grind (arith, chain_join, chain_split, alike w)
 
 -- the nodes as links, the last one first
 abbrev pub others : List ℕ → List Link
@@ -47,24 +36,20 @@ others [] = []
 others (x ∷ xs) = others xs ++ (Other x ∷ [])
 
 others_join : (xs ys : List ℕ) → others (xs ++ ys) ≡ others ys ++ others xs
-others_join [] ys = sym (append-nil (others ys))
-others_join (x ∷ xs) ys = ap (λ v. v ++ (Other x ∷ [])) (others_join xs ys) ∙ append_assoc (others ys) (others xs) (Other x ∷ [])
+others_join [] ys = simp append-nil
+others_join (x ∷ xs) ys = simp (others_join xs ys, append_assoc)
 
 total_join : (nodes : List Node) (xs ys : List ℕ) → total_size nodes (xs ++ ys) ≡ total_size nodes xs + total_size nodes ys
 total_join nodes [] ys = omega arith
-total_join nodes (x ∷ xs) ys = let rest = total_join nodes xs ys in omega (arith, rest)
+total_join nodes (x ∷ xs) ys = omega (arith, total_join nodes xs ys)
 
 -- a link leads on, within the text
 link_forward : (nodes : List Node) (w : List ℕ) (l : Link) (i j : ℕ) → LinkLeads nodes w l i j → i ≤ j
 link_forward nodes w l i j at = grind (arith, CopiesLead-forward, Matches-forward)
 
 link_within : (nodes : List Node) (w : List ℕ) (l : Link) (i j : ℕ) → i ≤ length w → LinkLeads nodes w l i j → j ≤ length w
-link_within nodes w (Byte s) i j within at = let inside = slice_get_within w i at.0.0 at.0.1 in omega (arith, inside, at.1)
 link_within nodes w (Run s) i j within at = Matches-within (any_copies (byte_of s) false) w i j within at
-link_within nodes w Start i j within at = omega (arith, at.1)
-link_within nodes w End i j within at = omega (arith, at.1)
-link_within nodes w (Either x y) i j within at = ⊎_elim (Matches-within (tree_at nodes x) w i j within) (Matches-within (tree_at nodes y) w i j within) at
-link_within nodes w (Other x) i j within at = Matches-within (tree_at nodes x) w i j within at
+link_within nodes w l i j within at = grind (arith, slice_get_within, Matches-within)
 
 -- where a chain leads from a place, its links from some one on do from there or later
 pub chain_on : (nodes : List Node) (w : List ℕ) (q : ℕ) (links : List Link) (i j : ℕ) → i ≤ length w → ChainLeads nodes w links i j →
@@ -82,13 +67,12 @@ module _ (nodes : List Node) (arena : IsArena nodes) (x : ℕ) where
   byte_leads s is w i j = grind (arith, at_node (Set s) is w i j)
 
   pub part_inside : (node : Node) (c : ℕ) → slice_get nodes x ≡ Some node → IsPart node c → c < length nodes
-  part_inside node c is part = let low = arena.below x c node is part in let inside = slice_get_within nodes x node is in omega (arith, low, inside)
+  part_inside node c is part = omega (arith, arena.below x c node is part, slice_get_within nodes x node is)
 
 pub run_leads : (nodes : List Node) (arena : IsArena nodes) (x : ℕ) (a : NodeId) (first : Bool) (s : List Bool) → slice_get nodes x ≡ Some (Star a first) → slice_get nodes a.index ≡ Some (Set s) →
     (w : List ℕ) (i j : ℕ) → HasSpan nodes w x i j ↔ SetRepeats s w i j
 run_leads nodes arena x a first s star set w i j =
-    let part = at_node nodes arena a.index (Set s) set w in
-    grind (arith, part, at_node nodes arena x (Star a first) star w i j, copies_alike (HasSpan nodes w a.index) (Matches (byte_of s) w), copies_alike (Matches (byte_of s) w) (HasSpan nodes w a.index))
+    grind (arith, at_node nodes arena a.index (Set s) set w, at_node nodes arena x (Star a first) star w i j, copies_alike (HasSpan nodes w a.index), copies_alike (Matches (byte_of s) w))
 
 -- The links, and after them the nodes that are left, lead as the links before do, and the node after them.
 pub record IsLeft (nodes : List Node) (before : List Link) (x : ℕ) (links : List Link) (rest : List ℕ) : Type 0 where
@@ -101,35 +85,28 @@ module _ (nodes : List Node) (before : List Link) (x : ℕ) where
     left_with : (these longer : List Link) (more new : List ℕ) → LeadAlike nodes (Other y ∷ []) these → new ≡ rest ++ more → longer ++ others more ≡ links ++ these →
         All (λ v. v < length nodes) more → total_size nodes more < size (tree_at nodes y) → IsLeft nodes before x longer new × (total_size nodes new < total_size nodes stack)
     left_with these longer more new alike is same inside less =
-        let size_before = ap (total_size nodes) popped ∙ total_join nodes rest (y ∷ []) in
-        let size_after = ap (total_size nodes) is ∙ total_join nodes rest more in
-        let old : links ++ others stack ≡ links ++ ((Other y ∷ []) ++ others rest) = ap (λ v. links ++ v) (ap others popped ∙ others_join rest (y ∷ [])) in
-        let now : longer ++ others new ≡ links ++ (these ++ others rest) =
-        ap (λ v. longer ++ v) (ap others is ∙ others_join rest more) ∙ sym (append_assoc longer (others more) (others rest)) ∙ ap (λ v. v ++ others rest) same ∙ append_assoc links these (others rest) in
-        let through = alike_through nodes links (others rest) (Other y ∷ []) these alike in (
+        let old : links ++ others stack ≡ links ++ ((Other y ∷ []) ++ others rest) = rw (popped, others_join) refl in
+        let now : longer ++ others new ≡ links ++ (these ++ others rest) = rw (is, others_join, ← append_assoc, same, append_assoc) refl in (
           record {
-            spans = λ w i j. grind (arith, old, now, through w i j, left.spans w i j);
-            inside = subst (All (λ v. v < length nodes)) (sym is) (All-append (λ v. v < length nodes) rest more (All-pop (λ v. v < length nodes) stack rest (Some y) popped left.inside).0 inside);
+            spans = λ w i j. grind (arith, old, now, alike_through nodes links (others rest) (Other y ∷ []) these alike w i j, left.spans w i j);
+            inside = rw is (All-append (λ v. v < length nodes) rest more (All-pop (λ v. v < length nodes) stack rest (Some y) popped left.inside).0 inside);
           },
-          omega (arith, size_before, size_after, less),
+          omega (arith, less, ap (total_size nodes) popped, total_join nodes rest (y ∷ []), ap (total_size nodes) is, total_join nodes rest more),
         )
 
     -- a link in place of it
     pub left_behind : (l : Link) (longer : List Link) → ((w : List ℕ) (i j : ℕ) → HasSpan nodes w y i j ↔ LinkLeads nodes w l i j) → longer ≡ links ++ (l ∷ []) →
         IsLeft nodes before x longer rest × (total_size nodes rest < total_size nodes stack)
     left_behind l longer as_link more =
-        left_with (l ∷ []) longer [] rest (λ w i j. ((λ h. (h.0, (as_link w i h.0).0 h.1, h.2)), (λ h. (h.0, (as_link w i h.0).1 h.1, h.2)))) (sym (append-nil rest)) (append-nil longer ∙ more)
+        left_with (l ∷ []) longer [] rest (λ w i j. grind (arith, as_link w i)) (sym (append-nil rest)) (append-nil longer ∙ more)
         (All-nil (λ v. v < length nodes)) (size-pos (tree_at nodes y))
 
     module _ (arena : IsArena nodes) where
-      pub left_parts : (a b : NodeId) (one both : List ℕ) → slice_get nodes y ≡ Some (Seq a b) → one ≡ rest ++ (b.index ∷ []) → both ≡ one ++ (a.index ∷ []) →
+      pub left_parts : (a b : NodeId) (both : List ℕ) → slice_get nodes y ≡ Some (Seq a b) → both ≡ (rest ++ (b.index ∷ [])) ++ (a.index ∷ []) →
           IsLeft nodes before x links both × (total_size nodes both < total_size nodes stack)
-      left_parts a b one both is with_second with_first =
-          let left_in = part_inside nodes arena y (Seq a b) a.index is (inl refl) in
-          let right_in = part_inside nodes arena y (Seq a b) b.index is (inr refl) in
-          left_with (Other a.index ∷ Other b.index ∷ []) links (b.index ∷ a.index ∷ []) both (λ w i j. grind (arith, at_node nodes arena y (Seq a b) is w i))
-          (with_first ∙ ap (λ v. v ++ (a.index ∷ [])) with_second ∙ append_assoc rest (b.index ∷ []) (a.index ∷ [])) refl
-          (All-push (λ v. v < length nodes) (b.index ∷ []) a.index (All-push (λ v. v < length nodes) [] b.index (All-nil (λ v. v < length nodes)) right_in) left_in) (omega (arith, size-parts nodes arena y (Seq a b) is))
+      left_parts a b both is more =
+          left_with (Other a.index ∷ Other b.index ∷ []) links (b.index ∷ a.index ∷ []) both (λ w i j. grind (arith, at_node nodes arena y (Seq a b) is w i)) (more ∙ append_assoc rest _ _) refl
+          (All-push (λ v. v < length nodes) (b.index ∷ []) a.index (All-push (λ v. v < length nodes) [] b.index (All-nil _) (part_inside nodes arena y _ b.index is (inr refl))) (part_inside nodes arena y _ a.index is (inl refl))) (omega (arith, size-parts nodes arena y (Seq a b) is))
 
       pub left_inner : (number : ℕ) (a : NodeId) (one : List ℕ) → slice_get nodes y ≡ Some (Group number a) → one ≡ rest ++ (a.index ∷ []) →
           IsLeft nodes before x links one × (total_size nodes one < total_size nodes stack)
@@ -141,12 +118,71 @@ module _ (nodes : List Node) (before : List Link) (x : ℕ) where
 pub both_ways : (nodes : List Node) (links left right : List Link) (q x y : ℕ) → q < length links → Either x y ≡ slice_index_or links q (Either x y) →
     IsContinuation nodes (take q links) x left → IsContinuation nodes (take q links) y right → AreAlternatives nodes (take (q + 1) links) left right
 both_ways nodes links left right q x y inside is first second =
-    let before = take q links in
-    let opened : take (q + 1) links ≡ before ++ (Either x y ∷ []) = take_more links q (Either x y) inside ∙ ap (λ v. before ++ (v ∷ [])) (sym is) in
-    record {
-      spans = λ w i j. (
-        (λ at. grind (arith, opened, chain_split nodes w before (Either x y ∷ []) i j, chain_join nodes w before, first.spans w i j, second.spans w i j)),
-        (λ which. grind (arith, opened, chain_split nodes w before, chain_join nodes w before (Either x y ∷ []), first.spans w i j, second.spans w i j)),
-      );
-      within = (first.within, second.within);
-    }
+    let opened = rw (← is) at (take_more links q (Either x y) inside) in
+    record { spans = λ w i j. grind (arith, opened, chain_split nodes w (take q links), chain_join nodes w (take q links), first.spans w i j, second.spans w i j); within = (first.within, second.within) }
+
+-- one chain more
+any_more : {A : Type 0} (nodes : List Node) (w : List ℕ) (cs : List (Vec Link A)) (c : Vec Link A) (i : ℕ) → AnyLeads nodes w cs i ⊎ LeadsFrom nodes w c.items i → AnyLeads nodes w (cs ++ (c ∷ [])) i
+any_more nodes w [] c i which = grind arith
+any_more nodes w (d ∷ ds) c i which = grind (arith, any_more nodes w ds c i)
+
+-- behind bytes alone the chain leads over one of the set
+pub member_after : (nodes : List Node) (w : List ℕ) (offset n : ℕ) (links : List Link) (s : List Bool) → AllWithin IsOneByte links 0 n → offset < n → slice_get links offset ≡ Some (Byte s) →
+    (i j : ℕ) → ChainLeads nodes w links i j → MemberAt s w (i + offset)
+member_after nodes w offset n [] s all inside is i j at = grind (arith, slice_get_within)
+member_after nodes w zero n (m ∷ ms) s all inside is i j at = grind arith
+member_after nodes w (suc offset) n (m ∷ ms) s all inside is i j at =
+    grind (arith, all 0 m, member_after nodes w offset (n - 1) ms s (λ k d low lt. all (suc k) d (omega arith) (omega arith)) (omega arith) is at.0 j at.2)
+
+-- a byte of the set is `offset` bytes after the place from which one of the chains leads on
+abbrev pub AllLeadTo : {A : Type 0} → List (Vec Link A) → ℕ → List Bool → Type 0
+AllLeadTo chains offset s = (nodes : List Node) (w : List ℕ) (i : ℕ) → AnyLeads nodes w chains i → MemberAt s w (i + offset)
+
+-- one chain more, from the last on
+pub lead_more : {A : Type 0} (cs : List (Vec Link A)) (x y offset n : ℕ) (c : Vec Link A) (s old new : List Bool) → y ≡ suc x → x < length cs → c ≡ slice_index_or cs x c →
+    AllWithin IsOneByte c.items 0 n → offset < n → slice_get c.items offset ≡ Some (Byte s) → AllLeadTo (drop y cs) offset old → ((b : ℕ) → has new b ≡ (has old b || has s b)) → AllLeadTo (drop x cs) offset new
+lead_more cs x y offset n c s old new next inside here bytes lt is rest both nodes w i at =
+    grind (arith, drop-cons cs x c inside, or_left, or_right, member_after nodes w offset n c.items s bytes lt is i, rest nodes w i)
+
+-- where a match begins one of the chains found leads on, or the one that is left
+pub branches_more : {A : Type 0} (nodes : List Node) (e : Tree) (cs all : List (Vec Link A)) (chain : List Link) (left : Vec Link A) (right : List Link) (n : ℕ) →
+    ((w : List ℕ) (i j : ℕ) → Matches e w i j → AnyLeads nodes w cs i ⊎ LeadsFrom nodes w chain i) → all ≡ cs ++ (left ∷ []) → AreAlternatives nodes (take n chain) left.items right →
+    (w : List ℕ) (i j : ℕ) → Matches e w i j → AnyLeads nodes w all i ⊎ LeadsFrom nodes w right i
+branches_more nodes e cs all chain left right n old is ways w i j at =
+    grind (arith, is, any_more nodes w cs left i, old w i j at, take-append-drop n chain, chain_split nodes w (take n chain) (drop n chain) i, ways.spans w i)
+
+pub branches_last : {A : Type 0} (nodes : List Node) (e : Tree) (cs all : List (Vec Link A)) (chain : Vec Link A) →
+    ((w : List ℕ) (i j : ℕ) → Matches e w i j → AnyLeads nodes w cs i ⊎ LeadsFrom nodes w chain.items i) → all ≡ cs ++ (chain ∷ []) → AreBranches nodes e all
+branches_last nodes e cs all chain old is w i j at = rw is (any_more nodes w cs chain i (old w i j at))
+
+-- one more byte of a literal
+occurs_iff : (w bytes after : List ℕ) (byte i : ℕ) → after ≡ bytes ++ byte ∷ [] → OccursAt w after i ↔ (OccursAt w bytes i × (slice_get w (i + length bytes) ≡ Some byte))
+occurs_iff w bytes after byte i is = grind (arith, common_steps, slice_get_within, get_or_from_slice_get, slice_get-get_or)
+
+pub one_longer : (links : List Link) (q byte : ℕ) (bytes after : List ℕ) (s : List Bool) → IsLiteral links q bytes → q + length bytes < length links →
+    Byte s ≡ slice_index_or links (q + length bytes) (Byte s) → s ≡ Rattle.sedre.specs.Sets.only byte → ((c : ℕ) → IsIn c s → c ≡ byte) → byte < 256 → after ≡ bytes ++ byte ∷ [] → IsLiteral links q after
+one_longer links q byte bytes after s literal inside here sole alone fits is =
+    let n = length bytes in
+    let long : length after ≡ n + 1 = rw is (length-append bytes (byte ∷ [])) in
+    let next : suc (q + n) ≡ q + length after = omega (arith, long) in
+    let opened : drop (q + n) links ≡ Byte s ∷ drop (q + length after) links = drop-cons links (q + n) (Byte s) inside ∙ rw (← here, next) refl in
+    let member : IsIn byte s = ap (λ v. has v byte) sole ∙ has-set_of (λ c. c == byte) byte fits ∙ (Decides-eqb byte byte).1 refl in (
+      omega (arith, long, inside),
+      λ nodes w i j within. grind (arith, opened, literal.1 nodes w i j within, member, alone, long, occurs_iff w bytes after byte i is),
+    )
+
+-- a literal of the chain
+pub all_hold : (links : List Link) (q : ℕ) (bytes : List ℕ) → IsLiteral links q bytes → AllHold links bytes
+all_hold links q bytes literal nodes w i j within at = let f = chain_on nodes w q links i j within at in (f.0, f.1, ((literal.1 nodes w f.0 j f.2).0 f.3).0)
+
+module _ (e : Tree) (w : List ℕ) (p : ℕ) (n : RequiredLiteral) (required : Option RequiredLiteral) (is : required ≡ Some n) (all : IsRequired e required) where
+  holds : Requires e n.finder n.is_prefix
+  holds = rw is at all
+
+  -- a text without the literal has no match
+  pub required_none : (r : Option ℕ) → r ≡ None → FirstLiteral w n.finder p None → Narrowed e w p r
+  required_none r missing none = rw missing (λ i k low within s. let h = holds w i k within s in none h.0 (omega (arith, h.1)) h.3)
+
+  -- where each match begins with it, none begins before it
+  pub required_first : (place : ℕ) → IsTrue n.is_prefix → FirstLiteral w n.finder p (Some place) → Narrowed e w p (Some place)
+  required_first place is_prefix first = (first.0, omega (arith, first.1.fits), λ i k low lt s. grind (arith, first.1.fits, holds w i k, first.2 i))

@@ -1,15 +1,8 @@
 -- The computed match is the one that the relations describe.
-use Rattle.std.proofs.Common.{◌≡◌, ℕ, zero, suc, ◌+◌, ◌-◌, ◌<◌, ◌≤◌, ◌⊎◌, ◌↔◌, Bool, ◌&&◌, ◌||◌, List, length, Option, Some, None, IsTrue, refl, sym, ap, ◌∙◌, subst, inl, inr, ⊎_elim, arith}
-use Rattle.std.specs.Prelude.{cond, eqb, ltb, slice_set, is_some, unwrap_or, option_map}
-use Rattle.std.proofs.lemmas.Bool.{cond_both, and_parts, and_from, cases_lt, eqb-true, eq-eqb, ltb-true}
-use Rattle.std.proofs.lemmas.Bool.Decides.{Decides-and, Decides-eqb, Decides-ltb, Decides-or, Decides-below_or, nat_tests, same_from_decides}
-use Rattle.std.proofs.lemmas.Option.{slice_get_within, none-some}
-use Rattle.sedre.specs.Tree.{Tree, null_string, byte_of, text_begin, text_end, sequence, either_of, grouped, any_copies, one_or_none}
-use Rattle.sedtext.specs.Spans.{CopiesLead, no_copy, one_more, Matches, IsLeftmostLongest, NotFound, SomeFound}
-use Rattle.sedtext.specs.Caps.{Captures, IsReport, LastCut, LastCopy, only, then_copy}
-use Rattle.sedtext.specs.Groups.{SpansOfGroups, forget, no_groups}
-use Rattle.sedtext.specs.Reach.{IsLongestFrom}
-use Rattle.sedtext.specs.Matching.{any, greatest, copies, spans, longest, found_from, leftmost_longest, greatest_cut, first_copy, last_start, groups_after, reported_groups}
+use Rattle.sedtext.proofs.Words.{◌&&◌, ◌+◌, ◌-◌, ◌<◌, ◌||◌, ◌↔◌, ◌≡◌, ◌≤◌, ◌⊎◌, and_from, and_parts, any, any_copies, arith, Bool, byte_of, Captures, cases_lt, cond, cond_both, copies, CopiesLead, Decides-and}
+use Rattle.sedtext.proofs.Words.{Decides-below_or, Decides-eqb, Decides-or, either_of, eqb, first_copy, forget, found_from, greatest, greatest_cut, grouped, groups_after, is_some, IsLeftmostLongest, IsLongestFrom}
+use Rattle.sedtext.proofs.Words.{IsReport, IsTrue, last_start, LastCopy, LastCut, leftmost_longest, length, List, longest, ltb, ltb-true, Matches, nat_tests, no_copy, no_groups, None, none-some, NotFound, one_more}
+use Rattle.sedtext.proofs.Words.{one_or_none, only, Option, option_map, refl, reported_groups, same_from_decides, sequence, slice_get_within, Some, SomeFound, spans, SpansOfGroups, subst, suc, sym, then_copy, Tree, unwrap_or, zero, ℕ, ⊎_elim}
 use Rattle.sedtext.proofs.SpanLemmas.{CopiesLead-forward, Matches-forward, Matches-within}
 use Rattle.sedtext.proofs.CapsLemmas.{Captures-unique}
 
@@ -36,41 +29,31 @@ greatest-is test P each (suc n) = grind (arith, each n, greatest-is test P each 
 
 module _ (step : ℕ → ℕ → Bool) (R : ℕ → ℕ → Type 0) (each : (i k : ℕ) → IsTrue (step i k) ↔ R i k) where
   -- a copy from i to k, and what leads on from there
-  copy-is : (b : Bool) (P : Type 0) (i k : ℕ) → (IsTrue b ↔ P) → IsTrue (ltb i k && (step i k && b)) ↔ ((i < k) × (R i k × P))
-  copy-is b P i k on = Decides-and (ltb i k) (step i k && b) (Decides-ltb i k) (Decides-and (step i k) b (each i k) on)
+  copy-is : (b : Bool) (P : Type 0) (i k : ℕ) → (i < k → IsTrue b ↔ P) → IsTrue (ltb i k && (step i k && b)) ↔ ((i < k) × (R i k × P))
+  copy-is b P i k on = grind (arith, nat_tests, each i k, on)
 
-  copies-begin : (j i : ℕ) → CopiesLead R j i → (i ≡ j) ⊎ ((k : ℕ) × (i < k) × R i k × CopiesLead R j k)
-  copies-begin j i at = grind arith
+  copies-begin : (j i : ℕ) → CopiesLead R j i ↔ ((i ≡ j) ⊎ ((k : ℕ) × (k < j + 1) × ((i < k) × (R i k × CopiesLead R j k))))
+  copies-begin j i = (
+    λ at. grind (arith, CopiesLead-forward R j),
+    λ which. ⊎_elim (λ (e : i ≡ j). subst (CopiesLead R j) (sym e) no_copy) (λ more. one_more i more.0 more.2.0 more.2.1.0 more.2.1.1) which,
+  )
 
   copies-iff : (n i j : ℕ) → j ≤ n + i → IsTrue (copies n step i j) ↔ CopiesLead R j i
   unfolding copies
-  copies-iff zero i j few = (λ h. subst (CopiesLead R j) (sym (eqb-true i j h)) no_copy, λ at. let on = CopiesLead-forward R j i at in eq-eqb i j (omega arith))
+  copies-iff zero i j few = grind (arith, nat_tests, no_copy, CopiesLead-forward R j i)
   copies-iff (suc n) i j few =
-      let test = λ (k : ℕ). ltb i k && (step i k && copies n step k j) in
-      let each_copy = λ (k : ℕ). copy-is (copies n step k j) (IsTrue (copies n step k j)) i k ((λ h. h), (λ h. h)) in
-      let is = Decides-or (eqb i j) (any test (j + 1)) (Decides-eqb i j) (any-is test (λ k. (i < k) × (R i k × IsTrue (copies n step k j))) each_copy (j + 1)) in (
-        λ h. ⊎_elim
-            (λ (e : i ≡ j). subst (CopiesLead R j) (sym e) no_copy)
-            (λ some. let up = some.2.0 in one_more i some.0 up some.2.1.0 ((copies-iff n some.0 j (omega arith)).0 some.2.1.1))
-            (is.0 h),
-        λ at. is.1 (⊎_elim
-            (λ (e : i ≡ j). inl e)
-            (λ more. let up = more.1 in let on = CopiesLead-forward R j more.0 more.3 in inr (more.0, omega arith, (up, (more.2, (copies-iff n more.0 j (omega arith)).1 more.3))))
-            (copies-begin j i at)),
-      )
+      let each_copy = λ (k : ℕ). copy-is (copies n step k j) (CopiesLead R j k) i k (λ up. copies-iff n k j (omega arith)) in
+      let is = Decides-or (eqb i j) _ (Decides-eqb i j) (any-is _ (λ k. (i < k) × (R i k × CopiesLead R j k)) each_copy (j + 1)) in
+      (λ h. (copies-begin j i).1 (is.0 h), λ at. is.1 ((copies-begin j i).0 at))
 
   copies-all : (j k : ℕ) → IsTrue (copies j step k j) ↔ CopiesLead R j k
   copies-all j k = copies-iff j k j (omega arith)
 
   -- the first copy goes as far as one can from which copies lead on
-  abbrev IsFirstCopy : ℕ → ℕ → ℕ → Type 0
-  IsFirstCopy i j k = (i < k) × (k ≤ j) × R i k × CopiesLead R j k × ((l : ℕ) → i < l → R i l → CopiesLead R j l → l ≤ k)
-
-  first_copy-is : (i j m : ℕ) → i < m → R i m → CopiesLead R j m → IsFirstCopy i j (first_copy step i j)
+  first_copy-is : (i j m : ℕ) → i < m → R i m → CopiesLead R j m →
+      let k = first_copy step i j in (i < k) × (k ≤ j) × R i k × CopiesLead R j k × ((l : ℕ) → i < l → R i l → CopiesLead R j l → l ≤ k)
   unfolding first_copy
-  first_copy-is i j m lt r rest =
-      let is = greatest-is (λ k. ltb i k && (step i k && copies j step k j)) (λ k. (i < k) × (R i k × CopiesLead R j k)) (λ k. copy-is (copies j step k j) (CopiesLead R j k) i k (copies-all j k)) (j + 1) in
-      grind (arith, is, CopiesLead-forward)
+  first_copy-is i j m lt r rest = grind (arith, CopiesLead-forward, greatest-is _ _ (λ k. copy-is (copies j step k j) (CopiesLead R j k) i k (λ _. copies-all j k)) (j + 1))
 
   last_start-is : (n i j : ℕ) → i < j → j ≤ n + i → CopiesLead R j i → LastCopy R j i (last_start n step i j)
   unfolding last_start
@@ -85,17 +68,12 @@ module _ (step : ℕ → ℕ → Bool) (R : ℕ → ℕ → Type 0) (each : (i k
 
 pub spans-iff : (e : Tree) (w : List ℕ) (i j : ℕ) → IsTrue (spans e w i j) ↔ Matches e w i j
 unfolding spans
-spans-iff null_string w i j = Decides-eqb i j
-spans-iff (byte_of has) w i j = grind arith
-spans-iff text_begin w i j = Decides-and (eqb i 0) (eqb j 0) (Decides-eqb i 0) (Decides-eqb j 0)
-spans-iff text_end w i j = Decides-and (eqb i (length w)) (eqb j (length w)) (Decides-eqb i (length w)) (Decides-eqb j (length w))
-spans-iff (sequence a b) w i j =
-    let is = any-is (λ k. spans a w i k && spans b w k j) (λ k. Matches a w i k × Matches b w k j) (λ k. Decides-and (spans a w i k) (spans b w k j) (spans-iff a w i k) (spans-iff b w k j)) (j + 1) in
-    grind (arith, Matches-forward, is)
-spans-iff (either_of a b) w i j = Decides-or (spans a w i j) (spans b w i j) (spans-iff a w i j) (spans-iff b w i j)
+spans-iff (sequence a b) w i j = grind (arith, Matches-forward, any-is _ _ (λ k. Decides-and (spans a w i k) (spans b w k j) (spans-iff a w i k) (spans-iff b w k j)) (j + 1))
+spans-iff (either_of a b) w i j = grind (arith, spans-iff a w i j, spans-iff b w i j)
 spans-iff (grouped k a) w i j = spans-iff a w i j
 spans-iff (any_copies a first) w i j = copies-all (spans a w) (Matches a w) (spans-iff a w) j i
-spans-iff (one_or_none a first) w i j = Decides-or (eqb i j) (spans a w i j) (Decides-eqb i j) (spans-iff a w i j)
+spans-iff (one_or_none a first) w i j = grind (arith, nat_tests, spans-iff a w i j)
+spans-iff _ w i j = grind (arith, nat_tests)
 
 -- the longest match from a place of the text
 longest-is : (e : Tree) (w : List ℕ) (i : ℕ) → i ≤ length w → IsLongestFrom e w i (longest e w i)
@@ -120,92 +98,70 @@ unfolding leftmost_longest
 found-is e w p fits = found_from-is e w (length w + 1 - p) p (omega arith)
 
 -- what is spanned after the text is null, and spanned at each place
-CopiesLead-past : (R : ℕ → ℕ → Type 0) (j i : ℕ) → ((k : ℕ) → R i k → k ≡ i) → CopiesLead R j i → j ≡ i
-CopiesLead-past R j i still at = grind arith
-
 past-everywhere : (e : Tree) (w : List ℕ) (i k : ℕ) → length w < i → Matches e w i k → (k ≡ i) × ((h : ℕ) → Matches e w h h)
-past-everywhere null_string w i k high s = (sym s, λ h. refl)
-past-everywhere (byte_of has) w i k high s = let within = slice_get_within w i s.0 s.1 in absurd (omega arith)
+past-everywhere (byte_of has) w i k high s = grind (arith, slice_get_within)
 past-everywhere (sequence a b) w i k high s =
     let left = past-everywhere a w i s.0 high s.1 in
     let right = past-everywhere b w s.0 k (omega (arith, left.0)) s.2 in
-    (right.0 ∙ left.0, λ h. (h, left.1 h, right.1 h))
+    (omega (arith, left, right), λ h. (h, left.1 h, right.1 h))
 past-everywhere (either_of a b) w i k high s = grind (arith, past-everywhere a w i k, past-everywhere b w i k)
 past-everywhere (grouped n a) w i k high s = past-everywhere a w i k high s
-past-everywhere (any_copies a first) w i k high s = (CopiesLead-past (Matches a w) k i (λ l r. (past-everywhere a w i l high r).0) s, λ h. no_copy)
-past-everywhere (one_or_none a first) w i k high s = (⊎_elim (λ (e : i ≡ k). sym e) (λ r. (past-everywhere a w i k high r).0) s, λ h. inl refl)
-past-everywhere _ w i k high s = let at = s.0 in absurd (omega arith)
+past-everywhere (any_copies a first) w i k high no_copy = (refl, λ h. no_copy)
+past-everywhere (any_copies a first) w i k high (one_more _ l lt r rest) = grind (arith, past-everywhere a w i l high r)
+past-everywhere (one_or_none a first) w i k high s = grind (arith, past-everywhere a w i k)
+past-everywhere _ w i k high s = grind arith
 
 -- a match that begins in the text or after it begins in the text
 pub IsLeftmostLongest-within : (e : Tree) (w : List ℕ) (p i j : ℕ) → p ≤ length w → IsLeftmostLongest e w p i j → i ≤ length w
 IsLeftmostLongest-within e w p i j fits f = grind (arith, past-everywhere e w i j, cases_lt (length w) i, f.leftmost p p)
 
-answer-iff : (e : Tree) (w : List ℕ) (p : ℕ) → p ≤ length w → (answer : Option (ℕ × ℕ)) → IsAnswer e w p answer →
-    ((i j : ℕ) → (answer ≡ Some (i, j)) ↔ IsLeftmostLongest e w p i j) × ((answer ≡ None) ↔ NotFound e w p) × (IsTrue (is_some answer) ↔ SomeFound e w p)
-answer-iff e w p fits answer none = grind (arith, IsLeftmostLongest-within, none-some)
-
 pub found-iff : (e : Tree) (w : List ℕ) (p i j : ℕ) → p ≤ length w → (leftmost_longest e w p ≡ Some (i, j)) ↔ IsLeftmostLongest e w p i j
-found-iff e w p i j fits = (answer-iff e w p fits (leftmost_longest e w p) (found-is e w p fits)).0 i j
+found-iff e w p i j fits = grind (arith, found-is e w p fits, IsLeftmostLongest-within, none-some)
 
 pub not_found-iff : (e : Tree) (w : List ℕ) (p : ℕ) → p ≤ length w → (leftmost_longest e w p ≡ None) ↔ NotFound e w p
-not_found-iff e w p fits = (answer-iff e w p fits (leftmost_longest e w p) (found-is e w p fits)).1
+not_found-iff e w p fits = grind (arith, found-is e w p fits, IsLeftmostLongest-within)
 
 pub some_found-iff : (e : Tree) (w : List ℕ) (p : ℕ) → p ≤ length w → IsTrue (is_some (leftmost_longest e w p)) ↔ SomeFound e w p
-some_found-iff e w p fits = (answer-iff e w p fits (leftmost_longest e w p) (found-is e w p fits)).2
+some_found-iff e w p fits = grind (arith, found-is e w p fits, IsLeftmostLongest-within)
 
 pub same_test : (t : Bool) (e : Tree) (w : List ℕ) (p : ℕ) → p ≤ length w → (IsTrue t ↔ SomeFound e w p) → t ≡ is_some (leftmost_longest e w p)
 same_test t e w p fits shows = grind (arith, same_from_decides, some_found-iff)
 
 cut-is : (a b : Tree) (w : List ℕ) (i j m : ℕ) → Matches a w i m → Matches b w m j → LastCut (Matches a w) (Matches b w) i j (greatest_cut (spans a w) (spans b w) i j)
 unfolding greatest_cut
-cut-is a b w i j m l r =
-    let is = greatest-is (λ k. spans a w i k && spans b w k j) (λ k. Matches a w i k × Matches b w k j) (λ k. Decides-and (spans a w i k) (spans b w k j) (spans-iff a w i k) (spans-iff b w k j)) (j + 1) in
-    grind (arith, is, Matches-forward b w)
+cut-is a b w i j m l r = grind (arith, Matches-forward b w, greatest-is _ _ (λ k. Decides-and (spans a w i k) (spans b w k j) (spans-iff a w i k) (spans-iff b w k j)) (j + 1))
 
 pub LastCopy-copy : (R : ℕ → ℕ → Type 0) (j i c : ℕ) → LastCopy R j i c → R c j
 LastCopy-copy R j i c (only _ lt r) = r
 LastCopy-copy R j i c (then_copy _ k _ up low r rest most last) = LastCopy-copy R j k c last
 
 -- copies of which the groups are g, or one of the null string, or none
-abbrev Copied : Tree → Bool → List ℕ → ℕ → ℕ → SpansOfGroups → Type 0 → SpansOfGroups → Type 0
-Copied a first w i j old T new =
-    ((i < j) × T) ⊎ (((i ≡ j) × IsTrue first × Matches a w i i × Captures a w i i (forget a old) new) ⊎ ((i ≡ j) × ((IsTrue first → Matches a w i i → ⊥) × (new ≡ old))))
-
 copied : (a : Tree) (first : Bool) (w : List ℕ) (i j : ℕ) (old g : SpansOfGroups) (T : SpansOfGroups → Type 0) → i ≤ j → (i < j → T g) →
     (Matches a w i i → Captures a w i i (forget a old) (groups_after a w i i (forget a old))) →
-    let new = cond (ltb i j) g (cond (first && spans a w i i) (groups_after a w i i (forget a old)) old) in Copied a first w i j old (T new) new
+    let new = cond (ltb i j) g (cond (first && spans a w i i) (groups_after a w i i (forget a old)) old) in
+    ((i < j) × T new) ⊎ (((i ≡ j) × IsTrue first × Matches a w i i × Captures a w i i (forget a old) new) ⊎ ((i ≡ j) × ((IsTrue first → Matches a w i i → ⊥) × (new ≡ old))))
 copied a first w i j old g T on some inner = grind (arith, and_from, and_parts, cond_both, ltb-true, nat_tests, spans-iff)
 
 pub groups_after-is : (e : Tree) (w : List ℕ) (i j : ℕ) (old : SpansOfGroups) → Matches e w i j → Captures e w i j old (groups_after e w i j old)
 unfolding groups_after
 groups_after-is (sequence a b) w i j old s =
-    let k = greatest_cut (spans a w) (spans b w) i j in
-    let is = cut-is a b w i j s.0 s.1 s.2 in
-    (k, is, (groups_after a w i k old, groups_after-is a w i k old is.left, groups_after-is b w k j (groups_after a w i k old) is.right))
+    let is = cut-is a b w i j s.0 s.1 s.2 in (_, is, (_, groups_after-is a w i _ old is.left, groups_after-is b w _ j _ is.right))
 groups_after-is (either_of a b) w i j old s = grind (arith, nat_tests, cond_both, spans-iff, groups_after-is a w i j old, groups_after-is b w i j old)
 groups_after-is (grouped k a) w i j old s = grind (arith, groups_after-is a w i j (forget (grouped k a) old) s)
 groups_after-is (any_copies a first) w i j old s =
     let c = last_start j (spans a w) i j in
     copied a first w i j old (groups_after a w c j (forget a old)) (λ new. (c : ℕ) × LastCopy (Matches a w) j i c × Captures a w c j (forget a old) new) (CopiesLead-forward (Matches a w) j i s)
-    (λ lt.
-    let last = last_start-is (spans a w) (Matches a w) (spans-iff a w) j i j lt (omega arith) s in
-    (c, last, groups_after-is a w c j (forget a old) (LastCopy-copy (Matches a w) j i c last)))
+    (λ lt. grind (arith, last_start-is (spans a w) (Matches a w) (spans-iff a w) j i j lt (omega arith) s, LastCopy-copy, groups_after-is a w c j (forget a old)))
     (groups_after-is a w i i (forget a old))
 groups_after-is (one_or_none a first) w i j old s =
     copied a first w i j old (groups_after a w i j (forget a old)) (Captures a w i j (forget a old)) (Matches-forward (one_or_none a first) w i j s)
-    (λ lt. groups_after-is a w i j (forget a old) (⊎_elim (λ (e : i ≡ j). absurd (omega arith)) (λ (r : Matches a w i j). r) s))
+    (λ lt. grind (arith, groups_after-is a w i j (forget a old)))
     (groups_after-is a w i i (forget a old))
 groups_after-is _ w i j old s = refl
 
 pub groups_after-iff : (e : Tree) (w : List ℕ) (i j : ℕ) (old new : SpansOfGroups) → Matches e w i j → (new ≡ groups_after e w i j old) ↔ Captures e w i j old new
-groups_after-iff e w i j old new s = (
-  λ h. subst (λ g. Captures e w i j old g) (sym h) (groups_after-is e w i j old s),
-  λ h. Captures-unique e w i j old new (groups_after e w i j old) h (groups_after-is e w i j old s),
-)
+groups_after-iff e w i j old new s = grind (arith, groups_after-is e w i j old s, Captures-unique)
 
 pub report-iff : (e : Tree) (w : List ℕ) (i j : ℕ) (groups : SpansOfGroups) → Matches e w i j → (groups ≡ reported_groups e w i j) ↔ IsReport e w i j groups
 unfolding reported_groups
-report-iff e w i j groups s = (
-  λ h. (groups_after e w i j no_groups, groups_after-is e w i j no_groups s, h),
-  λ h. h.2 ∙ ap (λ (g : SpansOfGroups). slice_set g 0 (Some (i, j))) (Captures-unique e w i j no_groups h.0 (groups_after e w i j no_groups) h.1 (groups_after-is e w i j no_groups s)),
-)
+report-iff e w i j groups s = grind (arith, groups_after-is e w i j no_groups s, Captures-unique)

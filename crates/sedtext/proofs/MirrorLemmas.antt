@@ -1,14 +1,6 @@
 -- What a mirrored expression matches in the text read from its end.
-use Rattle.std.proofs.lemmas.Grind.{common_steps}
-use Rattle.std.proofs.Common.{◌≡◌, ℕ, ◌+◌, ◌-◌, ◌≤◌, ◌↔◌, List, length, reverse, Some, arith}
-use Rattle.std.specs.Prelude.{slice_get, true}
-use Rattle.std.proofs.lemmas.Option.{gets}
-use Rattle.std.proofs.lemmas.List.{length-reverse, reverse-reverse, get_or-reverse}
-use Rattle.sedre.specs.Tree.{Tree, null_string, byte_of, text_begin, text_end, sequence, either_of, grouped, any_copies, one_or_none, WrittenExpression}
-use Rattle.sedre.specs.Mirror.{mirror, seen}
-use Rattle.sedre.proofs.MirrorLemmas.{mirror-mirror, tree_at-mirror}
-use Rattle.sedtext.specs.Reach.{HasSpan}
-use Rattle.sedtext.specs.Spans.{CopiesLead, no_copy, one_more, Matches}
+use Rattle.sedtext.proofs.Words.{◌+◌, ◌-◌, ◌↔◌, ◌≡◌, ◌≤◌, any_copies, arith, byte_of, common_steps, CopiesLead, either_of, get_or-reverse, gets, grouped, HasSpan, length, length-reverse, List, Matches}
+use Rattle.sedtext.proofs.Words.{mirror, mirror-mirror, no_copy, one_more, one_or_none, reverse, reverse-reverse, seen, sequence, slice_get, Some, Tree, tree_at-mirror, true, WrittenExpression, ℕ}
 use Rattle.sedtext.proofs.SpanLemmas.{Matches-within, CopiesLead-append}
 
 -- a byte of the text, in the text read from its end
@@ -22,20 +14,17 @@ CopiesLead-mirror : (R S : ℕ → ℕ → Type 0) (n : ℕ) →
 CopiesLead-mirror R S n each within j i a b left right no_copy = grind (arith, no_copy)
 CopiesLead-mirror R S n each within j i a b left right (one_more _ k lt r rest) =
     let low = within i k (omega arith) r in
-    CopiesLead-append S (n - k) b a (CopiesLead-mirror R S n each within j k (n - k) b (omega (arith, low)) right rest) (omega (arith, low)) (each i k a (n - k) left (omega (arith, low)) r)
+    grind (arith, CopiesLead-append S (n - k) b a, CopiesLead-mirror R S n each within j k (n - k) b (omega (arith, low)) right rest, each i k a (n - k))
 
 -- what the expression matches is matched from its end by the mirrored one
 pub Matches-mirror : (e : Tree) (w : List ℕ) (i j a b : ℕ) → i + a ≡ length w → j + b ≡ length w → Matches e w i j → Matches (mirror e) (reverse w) b a
-Matches-mirror null_string w i j a b left right s = omega arith
 Matches-mirror (byte_of members) w i j a b left right s = grind (arith, get-reverse)
-Matches-mirror text_begin w i j a b left right s = grind (arith, length-reverse w)
-Matches-mirror text_end w i j a b left right s = (omega arith, omega arith)
 Matches-mirror (sequence x y) w i j a b left right s = grind (arith, Matches-within, Matches-mirror x w i s.0 a (length w - s.0), Matches-mirror y w s.0 j (length w - s.0) b)
 Matches-mirror (either_of x y) w i j a b left right s = grind (arith, Matches-mirror x w i j a b, Matches-mirror y w i j a b)
 Matches-mirror (grouped k x) w i j a b left right s = Matches-mirror x w i j a b left right s
-Matches-mirror (any_copies x first) w i j a b left right s =
-    CopiesLead-mirror (Matches x w) (Matches (mirror x) (reverse w)) (length w) (Matches-mirror x w) (Matches-within x w) j i a b left right s
+Matches-mirror (any_copies x first) w i j a b left right s = CopiesLead-mirror (Matches x w) (Matches (mirror x) (reverse w)) (length w) (Matches-mirror x w) (Matches-within x w) j i a b left right s
 Matches-mirror (one_or_none x first) w i j a b left right s = grind (arith, Matches-mirror x w i j a b)
+Matches-mirror _ w i j a b left right s = grind (arith, length-reverse w)
 
 -- and nothing else is
 pub Matches-unmirror : (e : Tree) (w : List ℕ) (i j a b : ℕ) → i + a ≡ length w → j + b ≡ length w → Matches (mirror e) (reverse w) b a → Matches e w i j

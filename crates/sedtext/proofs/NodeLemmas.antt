@@ -1,13 +1,11 @@
 -- Nodes of an expression, and their parts.
-use Rattle.std.proofs.Common.{◌≡◌, ℕ, zero, suc, ◌+◌, ◌<◌, ◌≤◌, List, [], ◌∷◌, length, Some, refl, inl, inr, arith}
-use Rattle.std.specs.Prelude.{slice_get}
-use Rattle.sedre.specs.Arena.{IsArena}
-use Rattle.sedre.specs.Tree.{tree_at, Tree, null_string, size}
-use Rattle.sedre.specs.Packed.{PartsBelow}
-use Rattle.sedre.specs.declared.types.Node.{Node}
-use Rattle.sedre.specs.declared.types.Node.TheVariants.{Empty, Seq, Alt, Group, Star, Opt}
-use Rattle.sedre.proofs.TreeLemmas.{tree_at-node}
-use Rattle.sedtext.specs.Nodes.{total_size, parts_of}
+use Rattle.sedtext.proofs.Words.{◌+◌, ◌<◌, ◌∷◌, ◌≡◌, ◌≤◌, [], Alt, arith, Group, inl, inr, IsArena, length, List, Node, null_string, Opt}
+use Rattle.sedtext.proofs.Words.{parts_of, PartsBelow, refl, Seq, size, slice_get, Some, Star, suc, Tree, tree_at, tree_at-node, zero, ℕ}
+
+-- the sizes of the trees at the nodes
+abbrev pub total_size : List Node → List ℕ → ℕ
+total_size nodes [] = 0
+total_size nodes (x ∷ xs) = size (tree_at nodes x) + total_size nodes xs
 
 -- there is a node at each place of the list
 pub node_at : (nodes : List Node) (x : ℕ) → x < length nodes → (node : Node) × (slice_get nodes x ≡ Some node)
@@ -30,7 +28,5 @@ size-pos null_string = omega arith
 size-pos _ = omega arith
 
 -- and one more than its parts
-module _ (nodes : List Node) (arena : IsArena nodes) (x : ℕ) where
-  pub size-parts : (node : Node) → slice_get nodes x ≡ Some node → size (tree_at nodes x) ≡ 1 + total_size nodes (parts_of node)
-  size-parts Empty is = rw (tree_at-node nodes x Empty arena is) refl
-  size-parts other is = rw (tree_at-node nodes x other arena is) (omega arith)
+pub size-parts : (nodes : List Node) (arena : IsArena nodes) (x : ℕ) (node : Node) → slice_get nodes x ≡ Some node → size (tree_at nodes x) ≡ 1 + total_size nodes (parts_of node)
+size-parts nodes arena x node is = grind (arith, tree_at-node nodes x node arena is)

@@ -1,15 +1,6 @@
 -- What a node spans by its parts, and where these are entered.
-use Rattle.std.proofs.Common.{◌≡◌, ℕ, ◌≤◌, ◌⊎◌, ◌↔◌, Bool, false, List, Option, Some, IsTrue, sym, subst, inl, inr, true≢false, arith}
-use Rattle.std.specs.Prelude.{slice_get, slice_index_or}
-use Rattle.sedtext.specs.Spans.{CopiesLead, no_copy, Matches}
-use Rattle.sedre.specs.Arena.{IsArena, IsPart}
-use Rattle.sedre.specs.Tree.{tree_of, tree_at}
-use Rattle.sedre.specs.declared.types.Node.{Node}
-use Rattle.sedre.specs.declared.types.Node.TheVariants.{Seq, Alt, Group, Star, Opt}
-use Rattle.sedre.proofs.TreeLemmas.{tree_at-node}
-use Rattle.sedtext.specs.Reach.{BeginsWith, HasSpan, IsStart, Enters, at_root, with_whole, after_left, again, Starts}
-use Rattle.sedtext.specs.Nodes.{IsRepetitionOf}
-use Rattle.sedtext.specs.Matching.{byte_is_in}
+use Rattle.sedtext.proofs.Words.{◌↔◌, ◌≡◌, ◌≤◌, ◌⊎◌, after_left, again, Alt, arith, at_root, BeginsWith, Bool, byte_is_in, CopiesLead, Enters, false, Group, HasSpan, inr, IsArena, IsPart, IsRepetitionOf}
+use Rattle.sedtext.proofs.Words.{IsStart, IsTrue, List, Matches, no_copy, Node, Opt, Option, Seq, slice_get, slice_index_or, Some, Star, Starts, subst, sym, tree_at, tree_at-node, tree_of, true≢false, with_whole, ℕ}
 use Rattle.sedtext.proofs.SpanLemmas.{Matches-forward}
 
 -- what a node spans, by the trees of its parts
@@ -24,15 +15,11 @@ close_at nodes w x node arena is i j at = subst (λ t. Matches t w i j) (sym (tr
 
 -- a repetition matches copies of its part
 pub star_copies : (nodes : List Node) (w : List ℕ) (star part i j : ℕ) → IsArena nodes → IsRepetitionOf nodes star part → HasSpan nodes w star i j ↔ CopiesLead (HasSpan nodes w part) j i
-star_copies nodes w star part i j arena repeats = (
-  λ at. subst (λ p. CopiesLead (HasSpan nodes w p) j i) repeats.3 (open_at nodes w star (Star repeats.0 repeats.1) arena repeats.2 i j at),
-  λ copies. close_at nodes w star (Star repeats.0 repeats.1) arena repeats.2 i j (subst (λ p. CopiesLead (HasSpan nodes w p) j i) (sym repeats.3) copies),
-)
+star_copies nodes w star part i j arena repeats = rw (← repeats.3) (open_at nodes w star (Star repeats.0 repeats.1) arena repeats.2 i j, close_at nodes w star (Star repeats.0 repeats.1) arena repeats.2 i j)
 
 -- how the part c of the node at y is entered at j
 abbrev pub FromNode : List Node → List ℕ → ℕ → Starts → ℕ → ℕ → ℕ → Node → Type 0
-FromNode nodes w r p y c j (Seq a b) =
-    ((a.index ≡ c) × Enters nodes w r p y j) ⊎ ((b.index ≡ c) × ((i : ℕ) × Enters nodes w r p y i × HasSpan nodes w a.index i j))
+FromNode nodes w r p y c j (Seq a b) = ((a.index ≡ c) × Enters nodes w r p y j) ⊎ ((b.index ≡ c) × ((i : ℕ) × Enters nodes w r p y i × HasSpan nodes w a.index i j))
 FromNode nodes w r p y c j (Alt a b) = Enters nodes w r p y j
 FromNode nodes w r p y c j (Group k a) = Enters nodes w r p y j
 FromNode nodes w r p y c j (Star a first) = (i : ℕ) × Enters nodes w r p y i × HasSpan nodes w y i j
@@ -60,13 +47,7 @@ Enters-from nodes w r p x j (again z _ i _ a first is' inner e at) = omega (arit
 module _ (nodes : List Node) (w : List ℕ) (r : ℕ) (p : Starts) (arena : IsArena nodes) where
   -- a part that begins where its node does
   FromNode-with_whole : (y c j : ℕ) (node : Node) → slice_get nodes y ≡ Some node → BeginsWith node c → Enters nodes w r p y j → FromNode nodes w r p y c j node
-  FromNode-with_whole y c j (Seq a b) is begins e = inl (begins, e)
-  FromNode-with_whole y c j (Alt a b) is begins e = e
-  FromNode-with_whole y c j (Group k a) is begins e = e
-  FromNode-with_whole y c j (Star a first) is begins e =
-      (j, e, close_at nodes w y (Star a first) arena is j j no_copy)
-  FromNode-with_whole y c j (Opt a first) is begins e = e
-  FromNode-with_whole y c j _ is begins e = begins
+  FromNode-with_whole y c j node is begins e = grind (arith, close_at nodes w y node arena is j j, no_copy)
 
   -- only r and nodes below it are entered
   pub Enters-inside : (x j : ℕ) → Enters nodes w r p x j → x ≤ r
@@ -75,11 +56,8 @@ module _ (nodes : List Node) (w : List ℕ) (r : ℕ) (p : Starts) (arena : IsAr
   Enters-inside x j (after_left z _ i _ a b is' right e at) = omega (arith, Enters-inside z i e, arena.below z x (Seq a b) is' (inr right))
   Enters-inside x j (again z _ i _ a first is' inner e at) = omega (arith, Enters-inside z i e, arena.below z x (Star a first) is' inner)
 
-  -- the node c is entered at j through the one whose part it is
-  abbrev ByNode : ℕ → ℕ → Type 0
-  ByNode c j = (z : ℕ) × (node : Node) × (slice_get nodes z ≡ Some node) × IsPart node c × (z ≤ r) × FromNode nodes w r p z c j node
-
-  how_entered : (c j : ℕ) → Enters nodes w r p c j → ((c ≡ r) × IsStart p j) ⊎ ByNode c j
+  how_entered : (c j : ℕ) → Enters nodes w r p c j →
+      ((c ≡ r) × IsStart p j) ⊎ ((z : ℕ) × (node : Node) × (slice_get nodes z ≡ Some node) × IsPart node c × (z ≤ r) × FromNode nodes w r p z c j node)
   how_entered c j at = grind (arith, BeginsWith-part, Enters-inside, FromNode-with_whole)
 
   -- a part is entered through its node alone

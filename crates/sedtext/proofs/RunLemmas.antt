@@ -1,16 +1,11 @@
 -- Runs of bytes of a set.
-use Rattle.std.proofs.Common.{ℕ, ◌≤◌, Bool, List, length, arith}
-use Rattle.std.proofs.lemmas.Option.{slice_get_within}
-use Rattle.sedre.specs.Tree.{byte_of}
-use Rattle.sedtext.specs.Spans.{Matches, CopiesLead, no_copy, one_more}
-use Rattle.sedtext.specs.Bytes.{MemberAt}
-use Rattle.sedtext.specs.Runs.{SetRepeats, IsRun}
+use Rattle.sedtext.proofs.Words.{◌≡◌, ◌≤◌, ap, arith, Bool, byte_of, CopiesLead, IsRun, length, List, Matches, no_copy, one_more, SetRepeats, slice_get_within, ℕ}
 use Rattle.sedtext.proofs.FixedRunLemmas.{repeated_in}
 use Rattle.sedtext.proofs.SpanLemmas.{CopiesLead-forward}
 
--- no byte is at the end of the text
-pub stops_behind : (members : List Bool) (w : List ℕ) (place : ℕ) → length w ≤ place → MemberAt members w place → ⊥
-stops_behind members w place long can = grind (arith, slice_get_within)
+-- bytes of the set up to the text's end are a run
+pub run_ends : (members : List Bool) (v w : List ℕ) (from place : ℕ) → v ≡ w → place ≡ length v → SetRepeats members v from place → IsRun members w from (length v)
+run_ends members v w from place same end copies = rw (← end) (omega (arith, end, ap length same), rw same at copies, λ can. grind (arith, slice_get_within))
 
 -- a run goes forward
 pub run_forward : (members : List Bool) (w : List ℕ) (i k : ℕ) → IsRun members w i k → i ≤ k

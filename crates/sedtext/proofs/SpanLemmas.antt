@@ -1,8 +1,5 @@
 -- Spans go forward, and copies can be cut and joined at their end.
-use Rattle.std.proofs.Common.{◌≡◌, ℕ, ◌<◌, ◌≤◌, ◌⊎◌, List, length, refl, inl, ⊎_elim, arith}
-use Rattle.std.proofs.lemmas.Option.{slice_get_within}
-use Rattle.sedre.specs.Tree.{Tree, byte_of, sequence, either_of, grouped, any_copies, one_or_none}
-use Rattle.sedtext.specs.Spans.{CopiesLead, no_copy, one_more, Matches}
+use Rattle.sedtext.proofs.Words.{◌<◌, ◌≡◌, ◌≤◌, ◌⊎◌, any_copies, arith, byte_of, CopiesLead, either_of, grouped, inl, length, List, Matches, no_copy, one_more, one_or_none, refl, sequence, slice_get_within, Tree, ℕ, ⊎_elim}
 
 pub CopiesLead-forward : (R : ℕ → ℕ → Type 0) (j i : ℕ) → CopiesLead R j i → i ≤ j
 CopiesLead-forward R j i no_copy = omega arith

@@ -1,15 +1,37 @@
--- Marks as words of 64.
-use Rattle.std.proofs.Common.{[], ◌≡◌, ◌≢◌, ℕ, ◌*◌, ◌+◌, ◌/◌, ◌%◌, ◌^◌, ◌<◌, ◌≤◌, Bool, false, List, length, sym, ap, ◌∙◌, ◌⊎◌, mul-le-mul_left, arith}
-use Rattle.std.specs.Prelude.{eqb, slice_index_or, slice_set, replicate}
-use Rattle.std.specs.Int.{bit_at}
-use Rattle.sedre.specs.Words.{is_set}
-use Rattle.std.proofs.lemmas.Bool.{cases_eq, cases_lt}
-use Rattle.std.proofs.lemmas.List.{get_or_default, get_or_past, get_or-set_same, get_or-set_other, get_or-replicate, length-replicate, length-set, same_lists}
-use Rattle.std.proofs.lemmas.List.FromFn.{get_or-map-range_with_len, length-map-range_with_len}
-use Rattle.std.proofs.lemmas.Nat.Bits.{bit_at-zero}
-use Rattle.sedtext.proofs.BitLemmas.{bit_put, set_at}
-use Rattle.sedtext.specs.declared.counted.rows.Rows.TheInside.{Inside}
-use Rattle.sedtext.specs.Words.{tabulated, row_at, rows_of, row_of, KeepsRows}
+-- Marks as words of 64, and the lowest bits of words.
+use Rattle.sedtext.proofs.Words.{◌%◌, ◌*◌, ◌+◌, ◌-◌, ◌/◌, ◌<◌, ◌^◌, ◌↔◌, ◌∙◌, ◌≡◌, ◌≢◌, ◌≤◌, ◌⊎◌, [], arith, bit_and, bit_at, bit_at-lt, bit_at-trailing_zeros, bit_at-zero, bit_at_and, Bool, cases_eq, cases_lt, eqb}
+use Rattle.sedtext.proofs.Words.{eqb-true, false, get_or-map-range_with_len, get_or-replicate, get_or-set_other, get_or-set_same, get_or_default, get_or_past, Inside, is_set, IsTrue, KeepsRows, length}
+use Rattle.sedtext.proofs.Words.{length-map-range_with_len, length-replicate, length-set, List, mul-le-mul_left, replicate, row_at, row_of, rows_of, same_lists, slice_index_or, slice_set, tabulated, trailing_zeros, w64, ℕ}
+
+-- the bit of a number
+pub set_at : (words : List ℕ) (c x k : ℕ) → c ≡ 64 * x + k → k < 64 → is_set words c ≡ eqb (bit_at (slice_index_or words x 0) k) 1
+unfolding is_set
+set_at words c x k e lt = grind arith
+
+-- the mark is set in both
+abbrev pub Meet : List Bool → List Bool → ℕ → ℕ → Type 0
+Meet marks others count c = (c < count) × IsTrue (slice_index_or marks c false) × IsTrue (slice_index_or others c false)
+
+-- marks that are bits of a word, and the lowest bits that it has in common with another
+module _ (marks others : List Bool) (count x word two low : ℕ)
+    (mine : (k : ℕ) → k < 64 → 64 * x + k < count → IsTrue (slice_index_or marks (64 * x + k) false) ↔ (bit_at word k ≡ 1))
+    (theirs : (k : ℕ) → k < 64 → 64 * x + k < count → IsTrue (slice_index_or others (64 * x + k) false) ↔ (bit_at two k ≡ 1)) (lowest : (i : ℕ) → i < count - 64 * x → bit_at low i ≡ bit_at (bit_and word two) i) where
+  pub meet_here : low ≢ 0 → low < 2 ^ 64 → ((i : ℕ) → count - 64 * x ≤ i → bit_at low i ≡ 0) → (c : ℕ) × Meet marks others count c
+  meet_here some fits none =
+      let k = trailing_zeros w64 low in
+      (64 * x + k, grind (arith, bit_at-trailing_zeros w64 low (omega (arith, some)) fits, none k, lowest k, bit_at_and word two k, bit_at-lt word k, bit_at-lt two k, mine k, theirs k))
+
+  pub meet_later : low ≡ 0 → ((c : ℕ) → c < 64 * x → Meet marks others count c → ⊥) → (c : ℕ) → c < 64 * (x + 1) → Meet marks others count c → ⊥
+  meet_later none before c up met =
+      let k = c - 64 * x in grind (arith, before c, bit_at_and word two k, bit_at-zero k, lowest k, mine k, theirs k)
+
+-- one bit is written
+pub bit_put : (words : List ℕ) (c x b old word : ℕ) (v : Bool) → c ≡ 64 * x + b → x < length words → b < 64 → old ≡ slice_index_or words x 0 → eqb (bit_at word b) 1 ≡ v →
+    ((i : ℕ) → i < 64 → i ≢ b → bit_at word i ≡ bit_at old i) →
+    (is_set (slice_set words x word) c ≡ v) × ((k : ℕ) → k ≢ c → is_set (slice_set words x word) k ≡ is_set words k)
+bit_put words c x b old word v at inside small is same other =
+    let bit = λ (k : ℕ) (ws : List ℕ). set_at ws k (k / 64) (k % 64) (omega arith) (omega arith) in
+    grind (arith, get_or-set_same, get_or-set_other, bit, set_at (slice_set words x word) c x b)
 
 length-table : {X : Type 0} → (f : ℕ → X) (n : ℕ) → length (tabulated f n) ≡ n
 unfolding tabulated
@@ -24,19 +46,13 @@ table-is : (f : ℕ → Bool) (n : ℕ) (xs : List Bool) → length xs ≡ n →
 table-is f n xs long same = grind (arith, get_or_default, length-table, same_lists, table-get)
 
 table-set : (f g : ℕ → Bool) (n i : ℕ) (v : Bool) → i < n → g i ≡ v → ((k : ℕ) → k < n → k ≢ i → g k ≡ f k) → tabulated g n ≡ slice_set (tabulated f n) i v
-table-set f g n i v lt here other =
-    table-is g n (slice_set (tabulated f n) i v) (length-set (tabulated f n) i v ∙ length-table f n)
-    (λ k low. grind (arith, here, other k low, cases_eq k i, length-table f n, get_or-set_same, get_or-set_other, table-get f n))
+table-set f g n i v lt here other = table-is g n _ (simp (length-set, length-table)) (λ k low. grind (arith, other k low, cases_eq k i, length-table, get_or-set_same, get_or-set_other, table-get))
 
 pub zero_unmarked : (words : List ℕ) (i : ℕ) → slice_index_or words (i / 64) 0 ≡ 0 → is_set words i ≡ false
 unfolding is_set
-zero_unmarked words i is = ap (λ v. eqb (bit_at v (i % 64)) 1) is ∙ ap (λ v. eqb v 1) (bit_at-zero (i % 64))
+zero_unmarked words i is = grind (arith, bit_at-zero)
 
 -- a mark of a row
-length-row_at : (words : List ℕ) (width marks q : ℕ) → length (row_at words width marks q) ≡ marks
-unfolding row_at
-length-row_at words width marks q = length-table (λ k. is_set words (64 * (width * q) + k)) marks
-
 pub length-rows_of : (words : List ℕ) (width marks n : ℕ) → length (rows_of words width marks n) ≡ n
 unfolding rows_of
 length-rows_of words width marks n = length-table (row_at words width marks) n
@@ -46,19 +62,13 @@ unfolding rows_of
 rows_of-get words width marks n q lt = table-get (row_at words width marks) n q [] lt
 
 pub length-row : (words : List ℕ) (width marks n q : ℕ) → q < n → length (row_of (rows_of words width marks n) q) ≡ marks
-length-row words width marks n q lt = ap length (rows_of-get words width marks n q lt) ∙ length-row_at words width marks q
+unfolding row_at
+length-row words width marks n q lt = rw rows_of-get (length-table _ marks)
 
 -- a row of no marks
 pub row_clear : (words : List ℕ) (width n : ℕ) → n ≤ 64 * width → words ≡ replicate width 0 → row_of (rows_of words width n 1) 0 ≡ replicate n false
 unfolding row_at
-row_clear words width n fits is =
-    rows_of-get words width n 1 0 (omega arith)
-    ∙ table-is (λ k. is_set words (64 * (width * 0) + k)) n (replicate n false) (length-replicate n false) (λ k lt. grind (arith, zero_unmarked, get_or-replicate))
-
--- a mark is a bit
-row_mark : (words : List ℕ) (width marks n q i : ℕ) → q < n → i < marks → slice_index_or (row_of (rows_of words width marks n) q) i false ≡ is_set words (64 * (width * q) + i)
-unfolding row_at
-row_mark words width marks n q i lt low = grind (arith, rows_of-get, table-get)
+row_clear words width n fits is = rows_of-get words width n 1 0 (omega arith) ∙ table-is _ n _ (length-replicate n false) (λ k lt. grind (arith, zero_unmarked, get_or-replicate))
 
 -- one bit of a row is written
 row_at-set : (words : List ℕ) (width marks q i old word : ℕ) (v : Bool) → i < marks → width * q + i / 64 < length words → old ≡ slice_index_or words (width * q + i / 64) 0 →
@@ -76,9 +86,7 @@ marked_same words other base from i same = grind arith
 row_kept : (words after : List ℕ) (width marks q : ℕ) → marks ≤ 64 * width →
     ((k : ℕ) → k < width → slice_index_or after (width * q + k) 0 ≡ slice_index_or words (width * q + k) 0) → row_at after width marks q ≡ row_at words width marks q
 unfolding row_at is_set
-row_kept words after width marks q low same =
-    table-is (λ k. is_set after (64 * (width * q) + k)) marks (tabulated (λ k. is_set words (64 * (width * q) + k)) marks) (length-table (λ k. is_set words (64 * (width * q) + k)) marks)
-    (λ i lt. grind (arith, table-get, same (i / 64)))
+row_kept words after width marks q low same = table-is _ marks _ (length-table _ marks) (λ i lt. grind (arith, table-get, same (i / 64)))
 
 -- words of one row are not those of another
 row_apart : (width q p k c : ℕ) → k < width → c ≤ width → q ≢ p → (width * q + k < width * p) ⊎ (width * p + c ≤ width * q + k)
@@ -87,13 +95,13 @@ row_apart width q p k c lt low apart = grind (arith, cases_lt q p, mul-le-mul_le
 -- what is known of the words of a row, for rows that contracts see as a list
 module _ (r : Inside) (seen : List (List Bool)) (is : rows_of r.words.items r.width r.marks r.count ≡ seen) (inside : (r.marks ≤ 64 * r.width) × (r.width * r.count ≤ length r.words.items)) where
   pub rows_seen : r.count ≡ length seen
-  rows_seen = sym (length-rows_of r.words.items r.width r.marks r.count) ∙ ap length is
+  rows_seen = grind (arith, length-rows_of)
 
   pub row_seen : (q : ℕ) → q < length seen → row_at r.words.items r.width r.marks q ≡ row_of seen q
-  row_seen q lt = let few = rows_seen in sym (rows_of-get r.words.items r.width r.marks r.count q (omega arith)) ∙ ap (λ l. row_of l q) is
+  row_seen q lt = grind (arith, rows_seen, rows_of-get)
 
   pub marks_seen : (q : ℕ) → q < length seen → r.marks ≡ length (row_of seen q)
-  marks_seen q lt = sym (length-row_at r.words.items r.width r.marks q) ∙ ap length (row_seen q lt)
+  marks_seen q lt = grind (arith, is, length-row r.words.items r.width r.marks r.count q, rows_seen)
 
   -- the words of a row are there, and are enough for its marks
   pub row_there : (q : ℕ) → q < length seen → (r.width * q < 2 ^ 63) × (r.width * q + r.width ≤ length r.words.items) × (r.width * q + r.width < 2 ^ 63) × (length (row_of seen q) ≤ 64 * r.width)
@@ -101,17 +109,20 @@ module _ (r : Inside) (seen : List (List Bool)) (is : rows_of r.words.items r.wi
 
   -- a mark of a row is a bit, whatever was written
   pub new_bit : (words : List ℕ) (q i : ℕ) → q < length seen → i < length (row_of seen q) → slice_index_or (row_of (rows_of words r.width r.marks r.count) q) i false ≡ is_set words (64 * (r.width * q) + i)
-  new_bit words q i lt low = grind (arith, marks_seen, row_mark, rows_seen)
+  unfolding row_at
+  new_bit words q i lt low = grind (arith, marks_seen, rows_of-get, rows_seen, table-get)
 
   pub row_bit : (q c : ℕ) → q < length seen → c ≤ length (row_of seen q) → (i : ℕ) → i < c → slice_index_or (row_of seen q) i false ≡ is_set r.words.items (64 * (r.width * q) + i)
-  row_bit q c lt low i under = ap (λ rows. slice_index_or (row_of rows q) i false) (sym is) ∙ new_bit r.words.items q i lt (omega (arith, low, under))
+  row_bit q c lt low i under = grind (arith, new_bit r.words.items)
+
+  -- the marks in a word of a row
+  pub word_at : (q count x word : ℕ) → q < length seen → count ≤ length (row_of seen q) → word ≡ slice_index_or r.words.items (r.width * q + x) word →
+      (k : ℕ) → k < 64 → 64 * x + k < count → IsTrue (slice_index_or (row_of seen q) (64 * x + k) false) ↔ (bit_at word k ≡ 1)
+  word_at q count x word lt few read k small under = grind (arith, get_or_default, eqb-true, set_at r.words.items (64 * (r.width * q) + (64 * x + k)) (r.width * q + x) k, row_bit q count lt few, row_there q lt)
 
   -- a mark of a row is read
   pub mark_read : (q i word : ℕ) → q < length seen → i < length (row_of seen q) → word ≡ slice_index_or r.words.items (r.width * q + i / 64) word → eqb (bit_at word (i % 64)) 1 ≡ slice_index_or (row_of seen q) i false
-  mark_read q i word lt low read =
-      let there = row_there q lt in
-      let is : word ≡ slice_index_or r.words.items (r.width * q + i / 64) 0 = read ∙ get_or_default r.words.items (r.width * q + i / 64) word 0 (omega (arith, there)) in
-      ap (λ v. eqb (bit_at v (i % 64)) 1) is ∙ sym (row_bit q (i + 1) lt (omega (arith, low)) i (omega arith) ∙ set_at r.words.items (64 * (r.width * q) + i) (r.width * q + i / 64) (i % 64) (omega arith) (omega arith))
+  mark_read q i word lt low read = grind (arith, get_or_default, row_there q lt, row_bit q (i + 1) lt, set_at r.words.items (64 * (r.width * q) + i) (r.width * q + i / 64) (i % 64))
 
   -- a mark of a row is written
   pub mark_written : (q i old word : ℕ) (v : Bool) → q < length seen → i < length (row_of seen q) → old ≡ slice_index_or r.words.items (r.width * q + i / 64) 0 →
@@ -123,3 +134,8 @@ module _ (r : Inside) (seen : List (List Bool)) (is : rows_of r.words.items r.wi
   pub row_written : (after : List ℕ) (p c : ℕ) → c ≤ r.width → ((k : ℕ) → k < r.width * p → slice_index_or after k 0 ≡ slice_index_or r.words.items k 0) →
       ((k : ℕ) → r.width * p + c ≤ k → slice_index_or after k 0 ≡ slice_index_or r.words.items k 0) → KeepsRows (λ q. q ≢ p) seen (rows_of after r.width r.marks r.count)
   row_written after p c narrow before rest = grind (arith, get_or_past, length-row, length-rows_of, marks_seen, row_apart, row_kept, row_seen, rows_of-get, rows_seen)
+
+  pub mark_keeps : (p i word : ℕ) → p < length seen → i < length (row_of seen p) → KeepsRows (λ q. q ≢ p) seen (rows_of (slice_set r.words.items (r.width * p + i / 64) word) r.width r.marks r.count)
+  mark_keeps p i word lt low =
+      let other = λ (k : ℕ). get_or-set_other r.words.items (r.width * p + i / 64) k word 0 in
+      row_written _ p r.width (omega arith) (λ k under. other k (omega (arith, under))) (λ k over. other k (omega (arith, over, row_there p lt)))

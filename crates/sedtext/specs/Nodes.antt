@@ -1,7 +1,6 @@
 -- Private to the proofs: no contract that `sedmatch` makes public cites what is here.
 -- Nodes of an expression by their indices, and their parts.
-use Rattle.std.specs.Prelude.{◌≡◌, ℕ, ◌+◌, Bool, List, [], ◌∷◌, slice_get, Some}
-use Rattle.sedre.specs.Tree.{tree_at, size}
+use Rattle.std.specs.Prelude.{◌≡◌, ℕ, Bool, List, [], ◌∷◌, slice_get, Some}
 use Rattle.sedre.specs.declared.types.Node.{Node}
 use Rattle.sedre.specs.declared.types.NodeId.{NodeId}
 use Rattle.sedre.specs.declared.types.Node.TheVariants.{Seq, Alt, Group, Star, Opt}
@@ -18,8 +17,3 @@ parts_of other = []
 -- the node x is a repetition, and the node part is what it repeats
 abbrev pub IsRepetitionOf : List Node → ℕ → ℕ → Type 0
 IsRepetitionOf nodes x part = (a : NodeId) × (first : Bool) × (slice_get nodes x ≡ Some (Star a first)) × (a.index ≡ part)
-
--- the sizes of the trees at the nodes
-abbrev pub total_size : List Node → List ℕ → ℕ
-total_size nodes [] = 0
-total_size nodes (x ∷ xs) = size (tree_at nodes x) + total_size nodes xs

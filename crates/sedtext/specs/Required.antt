@@ -16,10 +16,6 @@ abbrev pub IsLiteral : List Link → ℕ → List ℕ → Type 0
 IsLiteral links q bytes = (q + length bytes ≤ length links) × ((nodes : List Node) (w : List ℕ) (i j : ℕ) → i ≤ length w →
     ChainLeads nodes w (drop q links) i j ↔ (OccursAt w bytes i × ChainLeads nodes w (drop (q + length bytes) links) (i + length bytes) j))
 
--- where the chain leads from a place of a text, the literal occurs there or later
-abbrev pub AllHold : List Link → List ℕ → Type 0
-AllHold links literal = (nodes : List Node) (w : List ℕ) (i j : ℕ) → i ≤ length w → ChainLeads nodes w links i j → (k : ℕ) × (i ≤ k) × OccursAt w literal k
-
 -- where the expression has a match, these bytes occur at its beginning or later; at it, if they are a prefix
 abbrev pub Requires : Tree → List ℕ → Bool → Type 0
 Requires e literal is_prefix = (w : List ℕ) (i j : ℕ) → i ≤ length w → Matches e w i j → (k : ℕ) × (i ≤ k) × (IsTrue is_prefix → k ≡ i) × OccursAt w literal k

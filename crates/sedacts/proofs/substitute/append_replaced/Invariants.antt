@@ -23,8 +23,8 @@ invariant-occurrences l = record {
       + later_cost (each (length l.fn.matcher.nodes) (length l.text)) (pending l.fn.matcher l.text l.substitution.global l.occurrence)
       ≤ l.fn.findings.group_steps
       + later_cost (each (length l.fn.matcher.nodes) (length l.text)) (pending l.fn.matcher l.text l.substitution.global (Some l.fn.first));
-  linear_group_cost : l.findings.group_steps + owed_groups_after (length l.fn.matcher.nodes) (length l.text) l.occurrence
-      ≤ l.fn.findings.group_steps + owed_groups (length l.fn.matcher.nodes) (length l.text) (Some l.fn.first.1);
+  linear_group_cost : l.findings.group_steps + owed_groups_after l.fn.matcher (length l.text) l.occurrence
+      ≤ l.fn.findings.group_steps + owed_groups l.fn.matcher (length l.text) (Some l.fn.first.1);
   limit : l.build.limit ≡ l.fn.build.limit;
   copied : l.copied ≤ length l.text;
   lies : IfSome l.occurrence (λ span. (l.copied ≤ span.0) × (span.0 ≤ span.1) × (span.1 ≤ length l.text));

@@ -16,7 +16,7 @@ returns-then-wanted c = record {
   serves = rw c.new.ensures at c.in_ok-span.ensures.serves;
   cost = rw c.decide_groups.ensures.searches (rw c.new.ensures at c.in_ok-span.ensures.cost);
   group_cost = rw c.if-wanted.true (rw c.in_ok-span.ensures.same at c.decide_groups.ensures.cost);
-  linear_group_cost = shown_paid (length c.args.matcher.now.nodes) (length c.args.text.now) _ _ c.args.last c.in_ok-span.span
+  linear_group_cost = shown_paid c.args.matcher.now (length c.args.text.now) _ _ c.args.last c.in_ok-span.span
       (rw c.new.ensures at c.in_ok-span.ensures.occurs.1) (rw c.in_ok-span.ensures.same at c.decide_groups.ensures.linear_cost);
 }
 
@@ -28,7 +28,7 @@ returns-else-wanted c = record {
   serves = rw c.new.ensures at c.in_ok-span.ensures.serves;
   cost = rw c.new.ensures at c.in_ok-span.ensures.cost;
   group_cost = rw c.if-wanted.false (omega arith, omega arith);
-  linear_group_cost = none_paid (length c.args.matcher.now.nodes) (length c.args.text.now) _ c.args.last (Some c.in_ok-span.span)
+  linear_group_cost = none_paid c.args.matcher.now (length c.args.text.now) _ c.args.last (Some c.in_ok-span.span)
       (rw c.new.ensures at c.in_ok-span.ensures.occurs.1);
 }
 
@@ -53,5 +53,5 @@ returns-in_err-span c = record {
   serves = rw c.from_residual.ensures (c.in_err-span.ensures.serves.0, tt);
   cost = rw c.from_residual.ensures (rw c.new.ensures at c.in_err-span.ensures.cost);
   group_cost = rw c.from_residual.ensures (takes_none 0 refl);
-  linear_group_cost = rw c.from_residual.ensures (none_paid (length c.args.matcher.now.nodes) (length c.args.text.now) c.args.findings.now.group_steps c.args.last None tt);
+  linear_group_cost = rw c.from_residual.ensures (none_paid c.args.matcher.now (length c.args.text.now) c.args.findings.now.group_steps c.args.last None tt);
 }

@@ -1,4 +1,4 @@
-use Rattle.std.proofs.Common.{arith}
+use Rattle.sedmatch.proofs.Words.{arith}
 use Rattle.sedmatch.proofs.StretchLemmas.{either_direct}
 use Rattle.sedmatch.proofs.direct.direct_form_of.Goals as goal
 

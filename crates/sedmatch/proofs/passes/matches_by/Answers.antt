@@ -1,12 +1,4 @@
-use Rattle.std.proofs.Common.{ℕ, ◌+◌, ◌-◌, ◌*◌, ◌≤◌, ◌↔◌, List, length, Bool, Some, IsTrue, arith, mul-le-mul_left}
-use Rattle.std.proofs.lemmas.Bool.{cases_lt}
-use Rattle.sedre.specs.Tree.{WrittenExpression, expression_tree}
-use Rattle.sedre.specs.Steps.{Takes, TakesAtLeast, CostsWithin}
-use Rattle.sedtext.specs.Following.{LooksPast}
-use Rattle.sedtext.specs.Spans.{SomeFound}
-use Rattle.sedtext.specs.Required.{Narrowed}
-use Rattle.sedmatch.specs.Passes.{AnswersMatch}
-use Rattle.sedpass.proofs.ForwardLemmas.{passes_later}
+use Rattle.sedmatch.proofs.Words.{ℕ, ◌+◌, ◌-◌, ◌*◌, ◌≤◌, ◌↔◌, List, length, Bool, Some, IsTrue, arith, mul-le-mul_left, cases_lt, WrittenExpression, expression_tree, Takes, TakesAtLeast, CostsWithin, LooksPast, SomeFound, Narrowed, AnswersMatch, passes_later}
 use Rattle.sedmatch.proofs.passes.matches_by.Goals as goal
 
 -- where none begins before a place, one begins from there on if one does from an earlier place on
@@ -18,11 +10,11 @@ shown_past e w from start s t u answered some is looks counts shows over cost = 
 pub returns-in-Some-own-clause-answered : goal.returns-in-Some-own-clause-answered
 returns-in-Some-own-clause-answered c =
     let done = rw c.of.ensures.is at c.matches_with.ensures in
-    shown_past _ _ _ c.in-Some.start _ c.skip_to_literal.new.steps _ _ c.of.ensures.expr.arena.nonempty (c.in-Some.ensures.narrowed (expression_tree c.args.expr.now) (rw c.of.ensures.is at c.required.ensures))
-    c.in-Some.ensures.cost c.in-Some.ensures.counts done.matches done.passes done.cost
+    let narrowed = c.in-Some.ensures.narrowed (expression_tree c.args.expr.now) (rw c.of.ensures.is at c.required.ensures) in
+    shown_past _ _ _ c.in-Some.start _ _ _ _ c.of.ensures.expr.arena.nonempty narrowed c.in-Some.ensures.cost c.in-Some.ensures.counts done.matches done.passes done.cost
 
 pub returns-clause-answered : goal.returns-clause-answered
 returns-clause-answered c =
     let done = rw c.of.ensures.is at c.matches_with-2.ensures in
-    shown_past _ _ _ c.in-Some.start _ c.skip_to_literal.new.steps _ _ c.of.ensures.expr.arena.nonempty (c.in-Some.ensures.narrowed (expression_tree c.args.expr.now) (rw c.of.ensures.is at c.required.ensures))
-    c.in-Some.ensures.cost c.in-Some.ensures.counts done.matches done.passes done.cost
+    let narrowed = c.in-Some.ensures.narrowed (expression_tree c.args.expr.now) (rw c.of.ensures.is at c.required.ensures) in
+    shown_past _ _ _ c.in-Some.start _ _ _ _ c.of.ensures.expr.arena.nonempty narrowed c.in-Some.ensures.cost c.in-Some.ensures.counts done.matches done.passes done.cost

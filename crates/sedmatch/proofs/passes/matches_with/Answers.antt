@@ -1,5 +1,4 @@
-use Rattle.std.proofs.Common.{arith}
-use Rattle.sedpass.proofs.SearchLemmas.{some_from}
+use Rattle.sedmatch.proofs.Words.{arith, some_from}
 use Rattle.sedmatch.proofs.passes.matches_with.Goals as goal
 
 pub returns-in_default-begins-clause-matches : goal.returns-in_default-begins-clause-matches

@@ -1,4 +1,4 @@
-use Rattle.sedtext.proofs.RunLemmas.{run_longest}
+use Rattle.sedmatch.proofs.Words.{run_longest}
 use Rattle.sedmatch.proofs.stretches.rest_end.Goals as goal
 
 pub returns-in-Some-clause-to : goal.returns-in-Some-clause-to

@@ -1,7 +1,4 @@
-use Rattle.std.proofs.Common.{ℕ, ◌≤◌, ◌↔◌, List, drop, length}
-use Rattle.sedre.specs.declared.types.Node.{Node}
-use Rattle.sedtext.specs.Links.{ChainLeads}
-use Rattle.sedmatch.specs.Stretches.{StretchSpans}
+use Rattle.sedmatch.proofs.Words.{ℕ, ◌≤◌, ◌↔◌, List, drop, length, Node, ChainLeads, StretchSpans}
 use Rattle.sedmatch.proofs.stretches.stretch_of.Given as goal
 
 abbrev pub invariant-loop-x : goal.invariant-loop-x

@@ -1,4 +1,4 @@
-use Rattle.std.proofs.Common.{◌≡◌, ℕ, ◌+◌, ◌-◌, length, slice_index_or, vec_capacity}
+use Rattle.sedpass.proofs.Words.{◌≡◌, ℕ, ◌+◌, ◌-◌, length, slice_index_or, vec_capacity}
 use Rattle.sedpass.proofs.cells.empty_cells.Given as goal
 
 abbrev pub invariant-loop-cells : goal.invariant-loop-cells

@@ -1,5 +1,4 @@
-use Rattle.std.proofs.Common.{refl, arith, inr}
-use Rattle.std.proofs.lemmas.List.{get_or-replicate}
+use Rattle.sedpass.proofs.Words.{refl, arith, inr, get_or-replicate}
 use Rattle.sedpass.proofs.classes.split.Goals as goal
 
 pub loop-byte-init : goal.loop-byte-init

@@ -1,5 +1,4 @@
-use Rattle.std.proofs.Common.{◌≡◌, ◌≤◌, length}
-use Rattle.sedpass.specs.Classes.{IsNumbering}
+use Rattle.sedpass.proofs.Words.{◌≡◌, ◌≤◌, length, IsNumbering}
 use Rattle.sedpass.proofs.ClassLemmas.{AreGiven, key_of}
 use Rattle.sedpass.proofs.classes.split.Given as goal
 

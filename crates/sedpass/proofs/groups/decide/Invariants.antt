@@ -1,13 +1,13 @@
-use Rattle.std.proofs.Common.{[], ◌∷◌, reverse}
-use Rattle.sedpass.specs.Decide.{KeepsGroupRoom, Works, nodes_in, weights}
-use Rattle.sedpass.specs.declared.groups.GroupTask.TheVariants.{Apart}
+use Rattle.sedpass.proofs.Words.{List, [], ◌∷◌, reverse, KeepsGroupRoom, Works, nodes_in, tasks_cost, weights, Apart, GroupTask, root_of}
 use Rattle.sedpass.proofs.groups.decide.Given as goal
-use Rattle.sedpass.specs.Rows.{root_of}
 
 abbrev pub invariant-all : goal.invariant-all
 invariant-all l = record {
   keeps : KeepsGroupRoom l.subject l.initial.tables l.tables l.initial.room l.room;
-  works : Works l.subject (Apart (record { node = (root_of l.subject.prepared.now); start = l.fn.start; stop = l.fn.stop }) ∷ []) l.initial.decided (reverse l.room.tasks.items) l.decided 0 l.initial.steps l.steps;
+  works :
+      let whole : List GroupTask = Apart (record { node = (root_of l.subject.prepared.now); start = l.fn.start; stop = l.fn.stop }) ∷ [] in
+      let rest = reverse l.room.tasks.items in
+      Works l.subject whole l.initial.decided rest l.decided 0 (tasks_cost (nodes_in l.subject) whole) (tasks_cost (nodes_in l.subject) rest) l.initial.steps l.steps;
 }
 
 abbrev pub decreases-all : goal.decreases-all

@@ -1,12 +1,8 @@
-use Rattle.std.proofs.Common.{rules, ◌≡◌, ◌+◌, ◌*◌, ◌≤◌, ap, mul-le-mul_left, ◌-◌, ◌<◌, length, inl, refl, arith}
-use Rattle.sedpass.proofs.Words.{close_at, Star, HasSpan, least_none, least_both}
-use Rattle.sedpass.specs.Decide.{nodes_in, subject_text}
-use Rattle.sedpass.proofs.OwedLemmas.{owed_small}
+use Rattle.sedpass.proofs.Words.{rules, ◌≡◌, ◌+◌, ◌*◌, ◌≤◌, ap, mul-le-mul_left, ◌-◌, ◌<◌, length, inl, refl, arith, close_at, Star, HasSpan, least_none, least_both, nodes_in, subject_text}
 use Rattle.sedpass.proofs.KeptLemmas.{space_then}
 use Rattle.sedpass.proofs.DecideLemmas.{copy_fixed, ends_there}
-use Rattle.sedpass.proofs.MeetingLemmas.{copy_walk, part_within, stops_at_copy}
+use Rattle.sedpass.proofs.MeetingLemmas.{copy_walk, part_within, stops_at_copy, NextCopy}
 use Rattle.sedpass.proofs.TurnLemmas.{opened, part_inside}
-use Rattle.sedpass.specs.Regions.{NextCopy}
 use Rattle.sedpass.proofs.groups.last_copy.Goals.{After-cut-end}
 use Rattle.sedpass.proofs.groups.last_copy.Goals as goal
 
@@ -65,6 +61,3 @@ copies-preserved c =
       cost = (omega (arith, inv.cost.0, cut.ensures.cost.0), omega (arith, inv.cost.1, cut.ensures.cost.1, passed, left, mul-le-mul_left (36 * m) some));
       counts = least_both _ _ _ _ _ _ inv.counts cut.ensures.counts (omega (arith, inv.order.0, next.after));
     }
-
-pub returns-clause-cost : goal.returns-clause-cost
-returns-clause-cost c = search (rules, owed_small (length (nodes_in c.args.subject)) c.args.kept.now.region c.args.here.start, c.requires.ends)

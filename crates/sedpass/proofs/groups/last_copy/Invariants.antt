@@ -1,7 +1,4 @@
-use Rattle.std.proofs.Common.{◌≡◌, ◌⊎◌, ◌+◌, ◌-◌, ◌*◌, ◌<◌, ℕ, length}
-use Rattle.sedpass.proofs.Words.{Ascending, LastCopy, TakesAtLeast, CostsWithin, HasSpan, CopiesLead}
-use Rattle.sedpass.specs.Kept.{owed_region}
-use Rattle.sedpass.specs.Decide.{EndsRegion, KeepsGroupDesk, nodes_in, subject_text}
+use Rattle.sedpass.proofs.Words.{◌≡◌, ◌⊎◌, ◌+◌, ◌-◌, ◌*◌, ◌<◌, ℕ, length, Ascending, LastCopy, TakesAtLeast, CostsWithin, HasSpan, CopiesLead, owed_region, EndsRegion, KeepsGroupDesk, nodes_in, subject_text}
 use Rattle.sedpass.proofs.groups.last_copy.Given as goal
 
 abbrev pub invariant-copies : goal.invariant-copies

@@ -1,9 +1,4 @@
-use Rattle.std.proofs.Common.{length, rules, ◌≡◌, ℕ, ◌+◌, ◌≤◌, Option, Some, refl, sym, subst, inl, ◌∙◌}
-use Rattle.sedpass.proofs.Words.{Alt, Star, Opt}
-use Rattle.sedpass.specs.Decide.{nodes_in, HasBlank, NoneSettled, known_groups, spans_in}
-use Rattle.sedpass.specs.Regions.{last_of}
-use Rattle.sedpass.specs.Walks.{settle}
-use Rattle.sedpass.proofs.OwedLemmas.{owed_small}
+use Rattle.sedpass.proofs.Words.{rules, ◌≡◌, ℕ, ◌+◌, ◌≤◌, Option, Some, refl, sym, subst, inl, ◌∙◌, Alt, Star, Opt, HasBlank, NoneSettled, known_groups, spans_in, last_of, settle}
 use Rattle.sedpass.proofs.DecideLemmas.{flags_at, found_set, settled}
 use Rattle.sedpass.proofs.OneGroupLemmas.{settle-not, settle_takes, takes_blank}
 use Rattle.sedpass.proofs.TurnLemmas.{alt_turned, group_turned, leaf_turned, opt_done, opt_turned, part_inside, seq_turned, star_done, star_turned}
@@ -14,7 +9,7 @@ pub returns-in-Seq-clause-turned : goal.returns-in-Seq-clause-turned
 returns-in-Seq-clause-turned c =
     let cut = c.last_cut-stop.ensures in
     rw (c.in-Seq.is, c.index-node.ensures, c.index-node-in-Seq.ensures)
-    (seq_turned _ _ _ _ _ _ _ _ _ (rw c.in-Seq.is at c.requires.at).stands (search rules) cut.cut cut.cost cut.counts)
+    (seq_turned _ _ _ _ _ _ _ _ _ _ (rw c.in-Seq.is at c.requires.at).stands (search rules) cut.cut cut.cost cut.counts)
 
 pub spans-spans-requires-clause-last : goal.spans-spans-requires-clause-last
 spans-spans-requires-clause-last c = rw c.index-left.ensures (last_of c.args.here.node c.in-Alt.a.index (Alt c.in-Alt.a c.in-Alt.b) (rw c.in-Alt.is at c.requires.at).stands.is (inl refl) c.requires.at.ends.0)
@@ -25,8 +20,8 @@ returns-after-spans-clause-turned c =
     let there = rw c.in-Alt.is at c.requires.at in
     let look = c.spans-spans in
     rw (c.in-Alt.is, c.index-node-in-Alt.ensures)
-    (alt_turned c.args.subject here c.in-Alt.a c.in-Alt.b c.if-spans.index.index _ look.new.self.region c.args.steps.now look.new.steps there.stands (search rules)
-    (search (rules, look.ensures.spans, there.ends.1)) (search (rules, owed_small (length (nodes_in c.args.subject)) c.args.kept.now.region here.start, there.ends)) look.ensures.counts)
+    (alt_turned c.args.subject here c.in-Alt.a c.in-Alt.b c.if-spans.index.index _ c.args.kept.now.region look.new.self.region c.args.steps.now look.new.steps there.stands (search rules)
+    (search (rules, look.ensures.spans, there.ends.1)) look.ensures.cost look.ensures.counts)
 
 -- the group has its span, if it was due
 settled_in : (c : goal.After-index-node-in-Group) → HasBlank c.if-has.decided
@@ -60,13 +55,13 @@ begin-requires-clause-root c =
     search (rules, part_inside c.args.subject c.args.here (Star c.in-Star.a c.in-Star.first) there.stands c.in-Star.a.index refl, c.last_copy.ensures.desk.desk.one_end)
 
 pub returns-in-None-clause-turned : goal.returns-in-None-clause-turned
-returns-in-None-clause-turned c = rw c.in-Star.is (star_done _ _ _ _ _ _ _ _ (rw c.in-Star.is at c.requires.at).stands c.in-None.ensures.copy c.last_copy.ensures.cost c.last_copy.ensures.counts)
+returns-in-None-clause-turned c = rw c.in-Star.is (star_done _ _ _ _ _ _ _ _ _ (rw c.in-Star.is at c.requires.at).stands c.in-None.ensures.copy c.last_copy.ensures.cost c.last_copy.ensures.counts)
 
 pub returns-in-Some-clause-turned : goal.returns-in-Some-clause-turned
 returns-in-Some-clause-turned c =
     let last = c.last_copy.ensures in
     rw (c.in-Star.is, c.index-node-in-Some.ensures)
-    (star_turned _ _ _ _ _ _ _ _ _ (rw c.in-Star.is at c.requires.at).stands c.in-Some.ensures.copy (c.begin.ensures.root ∙ c.index-node-in-Some.ensures) c.begin.ensures.end last.cost last.counts)
+    (star_turned _ _ _ _ _ _ _ _ _ _ (rw c.in-Star.is at c.requires.at).stands c.in-Some.ensures.copy (c.begin.ensures.root ∙ c.index-node-in-Some.ensures) c.begin.ensures.end last.cost last.counts)
 
 pub is_null-requires : goal.is_null-requires
 is_null-requires c = search (rules, part_inside c.args.subject c.args.here (Opt c.in-Opt.a c.in-Opt.first) (rw c.in-Opt.is at c.requires.at).stands c.in-Opt.a.index refl)

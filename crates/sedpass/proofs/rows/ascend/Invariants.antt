@@ -1,7 +1,5 @@
-use Rattle.std.proofs.Common.{◌≢◌, ℕ, ◌-◌, ◌*◌, List, length}
-use Rattle.sedpass.proofs.Words.{CostsWithin, TakesAtLeast, KeepsRows, row_of, Marked, CanEnd, Starts}
-use Rattle.sedpass.specs.Prepared.{null_in}
-use Rattle.sedpass.specs.Rows.{nodes_of, leaves_row, AreNull, AreWide, ShowTook, TreeBelow}
+use Rattle.sedpass.proofs.Words.{◌≢◌, ℕ, ◌-◌, ◌*◌, List, length, CostsWithin, TakesAtLeast, KeepsRows, row_of, Marked, CanEnd, Starts, null_in, nodes_of, leaves_row, AreNull, AreWide, ShowTook}
+use Rattle.sedpass.proofs.RowLemmas.{TreeBelow}
 use Rattle.sedpass.proofs.rows.ascend.Given as goal
 
 abbrev pub invariant-loop-x : goal.invariant-loop-x

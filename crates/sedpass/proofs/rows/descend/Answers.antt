@@ -1,10 +1,6 @@
-use Rattle.std.proofs.Common.{◌≡◌, ◌+◌, ◌-◌, ◌<◌, Bool, Some, ap, ◌∙◌, arith, ℕ, length, slice_get, slice_index_or, slice_set, false, rules}
-use Rattle.sedre.specs.Steps.{TakesAtLeast, IsCounted}
-use Rattle.sedpass.proofs.Words.{seen-arena, seen-length, enter_parts, KeepsRows, row_of, Marked, Enters, CanEnd, least_none}
-use Rattle.sedpass.specs.Prepared.{null_in}
-use Rattle.sedpass.specs.Rows.{nodes_of, bits, InTree, TreeFrom, RowFrom}
+use Rattle.sedpass.proofs.Words.{◌≡◌, ◌+◌, ◌-◌, ◌<◌, Bool, Some, ap, ◌∙◌, arith, ℕ, length, slice_get, slice_index_or, slice_set, false, rules, TakesAtLeast, IsCounted, seen-arena, seen-length, enter_parts, KeepsRows, row_of, Marked, Enters, CanEnd, least_none, null_in, nodes_of, bits, InTree}
 use Rattle.sedpass.proofs.FactLemmas.{inside_seen}
-use Rattle.sedpass.proofs.RowLemmas.{Others, down, down_root, keeps_then, rows_written, still_wide, tree_shown, row_none, row_step, row_done, bits_clear}
+use Rattle.sedpass.proofs.RowLemmas.{Others, down, down_root, keeps_then, rows_written, still_wide, tree_shown, row_none, row_step, row_done, bits_clear, TreeFrom, RowFrom}
 use Rattle.sedpass.proofs.rows.descend.Goals as goal
 
 pub loop-x-init : goal.loop-x-init

@@ -1,8 +1,5 @@
-use Rattle.std.proofs.Common.{ℕ, ◌↔◌, List, IsTrue, ◌+◌, ◌-◌, ◌*◌, length}
-use Rattle.sedpass.proofs.Words.{CostsWithin, TakesAtLeast, KeepsRows, row_of, Marked, IsStart, CanEnd, Enters, Starts}
-use Rattle.sedpass.specs.Prepared.{null_in}
-use Rattle.sedpass.specs.Rows.{nodes_of, AreNull, AreWide, InTree, TreeFrom, RowFrom, bits}
-use Rattle.sedpass.proofs.RowLemmas.{Others}
+use Rattle.sedpass.proofs.Words.{ℕ, ◌↔◌, List, IsTrue, ◌+◌, ◌-◌, ◌*◌, length, CostsWithin, TakesAtLeast, KeepsRows, row_of, Marked, IsStart, CanEnd, Enters, Starts, null_in, nodes_of, AreNull, AreWide, InTree, bits}
+use Rattle.sedpass.proofs.RowLemmas.{Others, TreeFrom, RowFrom}
 use Rattle.sedpass.proofs.rows.descend.Given as goal
 
 abbrev pub invariant-loop-x : goal.invariant-loop-x

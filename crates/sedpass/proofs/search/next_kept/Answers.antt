@@ -1,14 +1,8 @@
-use Rattle.std.proofs.Common.{ap, arith, false, length, mul-le-mul_left, refl, rules, sym, ◌*◌, ◌+◌, ◌-◌, ◌∙◌, ◌≡◌, ◌≤◌}
-use Rattle.sedre.specs.Steps.{TakesAtLeast}
-use Rattle.sedpass.proofs.Words.{HasSpan, both_ways}
-use Rattle.sedpass.specs.Kept.{AllMarked}
-use Rattle.sedpass.specs.Regions.{CeasesAt, ReachesEnd}
-use Rattle.sedpass.specs.Search.{owed_kept}
+use Rattle.sedpass.proofs.Words.{ap, arith, false, length, mul-le-mul_left, refl, rules, sym, ◌*◌, ◌+◌, ◌-◌, ◌∙◌, ◌≡◌, ◌≤◌, TakesAtLeast, HasSpan, both_ways, AllMarked, CeasesAt, ReachesEnd, owed_kept, root_of}
 use Rattle.sedpass.proofs.KeptLemmas.{keeps_then}
 use Rattle.sedpass.proofs.SearchLemmas.{begins_some, kept_cost, kept_each, longest_kept, none_kept, none_marked, shown_whole}
 use Rattle.sedpass.proofs.search.next_kept.Goals.{After-cut-end, else-start-len-via-then-start-len+else-not-is_null, else-start-len-via-else-start-len}
 use Rattle.sedpass.proofs.search.next_kept.Goals as goal
-use Rattle.sedpass.specs.Rows.{root_of}
 
 pub returns-then-not-is_null : goal.returns-then-not-is_null
 returns-then-not-is_null c =
@@ -60,7 +54,7 @@ returns c =
     let longest = longest_kept p w arena start stop begins.0 low begins.1 ceases in
     let keeps = keeps_then _ _ _ _ _ _ _ _ seek.keeps cut.keeps in
     let grows : c.args.steps.now ≤ c.cut-end.new.steps = omega (arith, seek.cost.0, null.1, cut.cost.0) in
-    let cost = kept_cost (length p.nodes) (length w) c.args.from start stop c.args.steps.now c.seek-start.new.steps c.else-start-len.steps c.cut-end.new.steps _ _ _ arena.nonempty seek.order.0 cut.ceases.0 high seek.cost.1 null.2 cut.cost.1 in
+    let cost = kept_cost (length p.nodes) (length w) c.args.from start stop c.args.steps.now c.seek-start.new.steps c.else-start-len.steps c.cut-end.new.steps _ _ _ arena.nonempty seek.order.0 cut.ceases.0 high (omega (arith, seek.cost.1)) null.2 cut.cost.1 in
     record {
       tables = record { forward_one = cut.forward_one; forward_one_shape = cut.shape; reverse_any_shape = keeps.shape; space = keeps.same.space };
       next = record {

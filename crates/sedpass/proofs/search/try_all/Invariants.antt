@@ -1,6 +1,4 @@
-use Rattle.std.proofs.Common.{◌+◌, ◌-◌, ◌*◌, ◌/◌, ◌≤◌, max, length}
-use Rattle.sedpass.proofs.Words.{NoneIn, expression_tree, TakesAtLeast, CostsWithin}
-use Rattle.sedpass.specs.Table.{IsForwardOne, SameShape}
+use Rattle.sedpass.proofs.Words.{◌+◌, ◌-◌, ◌*◌, ◌/◌, ◌≤◌, max, length, NoneIn, expression_tree, TakesAtLeast, CostsWithin, IsForwardOne, SameShape}
 use Rattle.sedpass.proofs.search.try_all.Given as goal
 
 abbrev pub invariant-loop-start : goal.invariant-loop-start

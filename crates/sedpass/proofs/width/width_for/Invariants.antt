@@ -1,4 +1,4 @@
-use Rattle.std.proofs.Common.{◌*◌, ◌-◌, ◌<◌, ◌≤◌}
+use Rattle.sedpass.proofs.Words.{◌*◌, ◌-◌, ◌<◌, ◌≤◌}
 use Rattle.sedpass.proofs.width.width_for.Given as goal
 
 abbrev pub invariant-loop-width : goal.invariant-loop-width

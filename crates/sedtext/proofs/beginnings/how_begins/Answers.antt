@@ -1,6 +1,4 @@
-use Rattle.std.proofs.Common.{◌≡◌, ◌+◌, subst, arith}
-use Rattle.sedre.specs.Tree.{expression_tree}
-use Rattle.sedtext.specs.Bytes.{MemberAt}
+use Rattle.sedtext.proofs.Words.{arith, expression_tree}
 use Rattle.sedtext.proofs.beginnings.how_begins.Goals as goal
 
 pub returns-then-sieve-lt18446744073709551615 : goal.returns-then-sieve-lt18446744073709551615
@@ -9,8 +7,6 @@ returns-then-sieve-lt18446744073709551615 c =
     record { begins = λ w i j at. (pass.0 w i j at, pass.1 w i j at, pass.2 w i j at) }
 
 pub returns-in-Some-set_at : goal.returns-in-Some-set_at
-returns-in-Some-set_at c = record {
-  begins = λ w i j at.
-      let have = c.in-Some-set_at.ensures c.args.expr.now.nodes (expression_tree c.args.expr.now) (rw c.deref-2.ensures.value c.in_ok-branches.ensures.branches) w i j at in
-      rw c.of.ensures (subst (MemberAt c.in-Some-set_at.set w) (let e : i + 0 ≡ i = omega arith in e) have);
-}
+returns-in-Some-set_at c =
+    let have = c.in-Some-set_at.ensures c.args.expr.now.nodes (expression_tree c.args.expr.now) (rw c.deref-2.ensures.value c.in_ok-branches.ensures.branches) in
+    record { begins = λ w i j at. grind (arith, c.of.ensures, have w i j at) }

@@ -1,8 +1,4 @@
-use Rattle.std.proofs.Common.{List}
-use Rattle.sedre.specs.Tree.{Tree}
-use Rattle.sedre.specs.declared.types.Node.{Node}
-use Rattle.sedtext.specs.Branches.{AreBranches}
-use Rattle.sedtext.specs.Sieve.{AllPass}
+use Rattle.sedtext.proofs.Words.{AllPass, AreBranches, List, Node, Tree}
 use Rattle.sedtext.proofs.beginnings.rarest_of.Given as goal
 
 abbrev pub invariant-loop-offset : goal.invariant-loop-offset

@@ -1,5 +1,4 @@
-use Rattle.std.specs.List.{AllWithin}
-use Rattle.sedtext.specs.Branches.{IsOneByte}
+use Rattle.sedtext.proofs.Words.{AllWithin, IsOneByte}
 use Rattle.sedtext.proofs.branches.lead.Given as goal
 
 abbrev pub invariant-loop-x : goal.invariant-loop-x

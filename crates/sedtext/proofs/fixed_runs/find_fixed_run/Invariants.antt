@@ -1,6 +1,4 @@
-use Rattle.std.proofs.Common.{ℕ, ◌+◌, ◌-◌, ◌<◌, ◌≤◌, length}
-use Rattle.sedre.specs.Steps.{TakesAtLeast}
-use Rattle.sedtext.specs.Runs.{SetRepeats}
+use Rattle.sedtext.proofs.Words.{◌+◌, ◌-◌, ◌<◌, ◌≤◌, CostsWithin, length, SetRepeats, TakesAtLeast, ℕ}
 use Rattle.sedtext.proofs.fixed_runs.find_fixed_run.Given as goal
 
 abbrev pub invariant-loop-start : goal.invariant-loop-start
@@ -9,8 +7,7 @@ invariant-loop-start l = record {
   ahead : l.start ≤ l.seen;
   near : l.seen ≤ l.start + l.count;
   within : l.seen ≤ length l.text;
-  grows : l.initial.steps ≤ l.steps;
-  cost : l.steps + l.from ≤ l.initial.steps + l.seen;
+  cost : CostsWithin l.initial.steps l.steps l.seen l.from;
   counts : TakesAtLeast l.initial.steps l.steps (l.seen - l.from);
   copies : SetRepeats l.set l.text l.start l.seen;
   missed : (h : ℕ) → l.from ≤ h → h < l.start → SetRepeats l.set l.text h (h + l.count) → ⊥;

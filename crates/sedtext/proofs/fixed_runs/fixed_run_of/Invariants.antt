@@ -1,6 +1,4 @@
-use Rattle.std.proofs.Common.{◌≡◌}
-use Rattle.std.specs.List.{AllWithin}
-use Rattle.sedtext.specs.declared.links.Link.TheVariants.{Byte}
+use Rattle.sedtext.proofs.Words.{◌≡◌, AllWithin, Byte}
 use Rattle.sedtext.proofs.fixed_runs.fixed_run_of.Given as goal
 
 abbrev pub invariant-loop-x : goal.invariant-loop-x

@@ -1,6 +1,4 @@
-use Rattle.std.proofs.Common.{◌∙◌, sym}
-use Rattle.sedtext.specs.declared.links.Link.TheVariants.{Either}
-use Rattle.sedtext.proofs.LinkLemmas.{both_ways}
+use Rattle.sedtext.proofs.Closing.{◌∙◌, both_ways, Either, sym}
 use Rattle.sedtext.proofs.links.alternatives_at.Goals as goal
 
 pub returns : goal.returns

@@ -1,5 +1,4 @@
-use Rattle.std.proofs.Common.{◌+◌, ◌-◌, length}
-use Rattle.sedtext.specs.Required.{IsLiteral}
+use Rattle.sedtext.proofs.Words.{◌+◌, ◌-◌, IsLiteral, length}
 use Rattle.sedtext.proofs.required.literal_at.Given as goal
 
 abbrev pub invariant-loop-bytes : goal.invariant-loop-bytes

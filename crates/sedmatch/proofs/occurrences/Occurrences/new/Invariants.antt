@@ -1,5 +1,4 @@
-use Rattle.std.proofs.Common.{◌≤◌}
-use Rattle.std.specs.Prelude.{vec_capacity}
+use Rattle.sedmatch.proofs.Words.{◌≤◌, vec_capacity}
 use Rattle.sedmatch.proofs.OccurrenceLemmas.{AreFirst}
 use Rattle.sedmatch.proofs.occurrences.Occurrences.new.Given as goal
 

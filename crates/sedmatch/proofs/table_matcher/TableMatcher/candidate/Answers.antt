@@ -1,16 +1,4 @@
-use Rattle.std.proofs.Common.{◌≡◌, ◌∙◌, ℕ, ◌+◌, ◌≤◌, Bool, List, Option, Some, arith, ◌<◌, ◌++◌, length, length-append, get_or, rules}
-use Rattle.sedre.specs.Tree.{Tree, expression_tree}
-use Rattle.std.specs.Prelude.{slice_get}
-use Rattle.std.proofs.lemmas.List.{get_or-append-add, get_or_append_left}
-use Rattle.std.proofs.lemmas.Option.{slice_get_within, slice_get-get_or, get_or_from_slice_get}
-use Rattle.memchr.specs.Find.{OccursAt}
-use Rattle.sedtext.specs.Spans.{Matches}
-use Rattle.sedtext.specs.Bytes.{FirstFrom}
-use Rattle.sedtext.specs.Sieve.{NoneBefore, PassesSieve}
-use Rattle.sedtext.specs.declared.counted.sieve.Sieve.{Sieve}
-use Rattle.sedmatch.specs.Candidates.{IsBefore, NoMatchBefore}
-use Rattle.sedmatch.specs.Stretches.{ComesFirst}
-use Rattle.sedpass.specs.Prepared.{IsAnalysis}
+use Rattle.sedmatch.proofs.Words.{◌≡◌, ℕ, ◌+◌, ◌≤◌, Bool, List, Option, Some, arith, ◌++◌, length, length-append, rules, Tree, expression_tree, slice_get, get_or-append-add, get_or_append_left, slice_get_within, slice_get-get_or, get_or_from_slice_get, OccursAt, Matches, FirstFrom, NoneBefore, PassesSieve, Sieve, NoMatchBefore, ComesFirst, IsAnalysis}
 use Rattle.sedmatch.proofs.table_matcher.TableMatcher.candidate.Goals as goal
 
 -- A part of a text.
@@ -18,14 +6,8 @@ module _ (before line behind : List ℕ) where
   abbrev whole : List ℕ
   whole = before ++ (line ++ behind)
 
-  length_whole : length whole ≡ length before + (length line + length behind)
-  length_whole = omega (arith, length-append before (line ++ behind), length-append line behind)
-
-  same_at : (i d : ℕ) → i < length line → get_or whole (length before + i) d ≡ get_or line i d
-  same_at i d less = get_or-append-add before (line ++ behind) i d ∙ get_or_append_left line behind d i less
-
   byte_there : (i c : ℕ) → slice_get line i ≡ Some c → slice_get whole (length before + i) ≡ Some c
-  byte_there i c is = grind (arith, length_whole, same_at i c, slice_get_within line i c is, slice_get-get_or whole (length before + i) c, get_or_from_slice_get line i c c is)
+  byte_there i c is = grind (arith, length-append, get_or-append-add, get_or_append_left, slice_get_within line i c is, slice_get-get_or whole (length before + i) c, get_or_from_slice_get line i c c is)
 
   occurs_there : (x : List ℕ) (p : ℕ) → OccursAt line x p → OccursAt whole x (length before + p)
   occurs_there x p h = grind (arith, length-append, get_or-append-add, get_or_append_left)
@@ -40,42 +22,36 @@ module _ (before line behind : List ℕ) where
 first_none : (P : ℕ → Type 0) (r : Option ℕ) → FirstFrom P 0 r → NoneBefore P 0 r
 first_none P r first = grind arith
 
-none_there : (P : ℕ → Type 0) (r : Option ℕ) (k end : ℕ) → NoneBefore P 0 r → P k → k ≤ end → IsBefore end r → ⊥
-none_there P r k end none at le ends = grind arith
-
 -- what is true of a place in each part of a text that has a match
 shown_before : (P : List ℕ → ℕ → Type 0) (e : Tree) (w : List ℕ) (r : Option ℕ) → ((before line behind : List ℕ) (i : ℕ) → P line i → P (before ++ (line ++ behind)) (length before + i)) →
     ((v : List ℕ) (i j : ℕ) → i ≤ length v → Matches e v i j → (k : ℕ) × (k ≤ length v) × P v k) → NoneBefore (P w) 0 r → NoMatchBefore e w r
 shown_before P e w r there all none before line behind is ends found =
     let here = all line found.0 found.1 found.3 found.4 in
-    grind (arith, is, none_there (P w) r (length before + here.0) (length before + length line), there before line behind here.0)
+    grind (arith, is, none, ends, here, there before line behind here.0)
 
 pub returns-in-Stretch-clause-before : goal.returns-in-Stretch-clause-before
 returns-in-Stretch-clause-before c =
-    let first = c.in-Stretch.stretch.first in
     let form = rw (c.in-Stretch.is) at (rw (c.self.view_is, c.in-Direct.is) at c.self.invariant).0 in
-    shown_before (ComesFirst first) (expression_tree c.args.self.now) c.args.text.now c.find_first.result (λ before line behind. comes_there before line behind first)
-    (λ v i j low at. (i, low, ((form v i j low).0 at).0.0)) (first_none (ComesFirst first c.args.text.now) c.find_first.result c.find_first.ensures.first)
+    shown_before (ComesFirst c.in-Stretch.stretch.first) (expression_tree c.args.self.now) c.args.text.now _ (λ before line behind. comes_there before line behind c.in-Stretch.stretch.first)
+    (λ v i j low at. (i, low, ((form v i j low).0 at).0.0)) (first_none _ _ c.find_first.ensures.first)
 
 pub returns-in-Literal-clause-before : goal.returns-in-Literal-clause-before
 returns-in-Literal-clause-before c =
-    let literal = c.in-Literal.finder in
     let form = rw (c.in-Literal.is) at (rw (c.self.view_is, c.in-Direct.is) at c.self.invariant).0 in
-    shown_before (λ v. OccursAt v literal) (expression_tree c.args.self.now) c.args.text.now c.find_literal.result (λ before line behind. occurs_there before line behind literal)
-    (λ v i j low at. (i, low, ((form v i j low).0 at).0)) (first_none (OccursAt c.args.text.now literal) c.find_literal.result c.find_literal.ensures.first)
+    shown_before (λ v. OccursAt v c.in-Literal.finder) (expression_tree c.args.self.now) c.args.text.now _ (λ before line behind. occurs_there before line behind c.in-Literal.finder)
+    (λ v i j low at. (i, low, ((form v i j low).0 at).0)) (first_none _ _ c.find_literal.ensures.first)
 
 pub returns-in-Some-default-clause-before : goal.returns-in-Some-default-clause-before
 returns-in-Some-default-clause-before c =
-    let n = c.in-Some-default.required in
-    let r = c.find_literal-in-Some-default.result in
+    let literal = c.in-Some-default.required.finder in
     let analysis : IsAnalysis c.args.self.now c.deref.result.now.analysis = rw (c.deref.ensures, ← c.self.view_is) (rw c.in-Passes.is at c.self.invariant).0 in
     let required = rw c.in-Some-default.is-0 at analysis.required in
-    shown_before (λ v. OccursAt v n.finder) (expression_tree c.args.self.now) c.args.text.now r (λ before line behind. occurs_there before line behind n.finder)
-    (λ v i j low at. let held = required v i j low at in (held.0, omega (arith, held.3.fits), held.3)) (first_none (OccursAt c.args.text.now n.finder) r c.find_literal-in-Some-default.ensures.first)
+    shown_before (λ v. OccursAt v literal) (expression_tree c.args.self.now) c.args.text.now _ (λ before line behind. occurs_there before line behind literal)
+    (λ v i j low at. let held = required v i j low at in (held.0, omega (arith, held.3.fits), held.3)) (first_none _ _ c.find_literal-in-Some-default.ensures.first)
 
 pub returns-in-None-Before-clause-before : goal.returns-in-None-Before-clause-before
 returns-in-None-Before-clause-before c =
     let s = c.in-None-Before.sieve in
     let analysis : IsAnalysis c.args.self.now c.deref.result.now.analysis = rw (c.deref.ensures, ← c.self.view_is) (rw c.in-Passes.is at c.self.invariant).0 in
     let begins = rw c.in-None-Before.is-1 at analysis.begins in
-    shown_before (PassesSieve s) (expression_tree c.args.self.now) c.args.text.now c.sift.result (λ before line behind. passes_there before line behind s) (λ v i j low at. (i, low, begins v i j at)) c.sift.ensures.none
+    shown_before (PassesSieve s) (expression_tree c.args.self.now) c.args.text.now _ (λ before line behind. passes_there before line behind s) (λ v i j low at. (i, low, begins v i j at)) c.sift.ensures.none

@@ -1,6 +1,7 @@
-use Rattle.std.proofs.Common.{◌≡◌, ℕ, zero, suc, ◌+◌, ◌-◌, ◌*◌, ◌≤◌, ap, arith, mul-le-mul_left, length, rules}
+use Rattle.std.proofs.Common.{ℕ, zero, suc, ◌+◌, ◌-◌, ◌*◌, ◌≤◌, arith, mul-le-mul_left, mul-le-mul_right, length, rules}
 use Rattle.sedre.specs.Tree.{expression_tree}
 use Rattle.sedmatch.specs.Passes.{AnswersGroups}
+use Rattle.sedtext.specs.Groups.{group_depth}
 use Rattle.sedtext.proofs.MatchingLemmas.{report-iff}
 use Rattle.sedtext.proofs.PartLemmas.{report_lies}
 use Rattle.sedmatch.proofs.table_matcher.TableMatcher.groups_of.Goals.{in-Direct, in-Passes}
@@ -11,11 +12,9 @@ square zero = omega arith
 square (suc n) = omega arith
 
 -- the groups of a match of so many bytes, in a text of n bytes
-groups_within : (m n long : ℕ) → long ≤ n → 172 * m * (m - 1) * long + 2 * m ≤ 51 * m * m * (n + 1) * (n + 1)
-groups_within zero n long few = omega arith
-groups_within (suc k) n long few =
-    let same : 172 * suc k * (suc k - 1) * long ≡ 172 * suc k * k * long = ap (λ v. 172 * suc k * v * long) (omega arith) in
-    omega (arith, same, mul-le-mul_left (172 * suc k * k) few, square n, mul-le-mul_left k (square n), mul-le-mul_left (k * k) (square n))
+groups_within : (m d n long : ℕ) → d + 1 ≤ m → long ≤ n → 172 * m * d * long + 2 * m ≤ 51 * m * m * (n + 1) * (n + 1)
+groups_within m d n long deep few =
+    omega (arith, mul-le-mul_left (172 * m * d) few, mul-le-mul_left m (square n), mul-le-mul_left (m * d) (square n), mul-le-mul_right (51 * (n + 1) * (n + 1)) (mul-le-mul_left m deep))
 
 answered : (c : goal.Joined-self) → AnswersGroups c.args.self.now c.args.text.now (c.args.start, c.args.end) c.args.steps.now c.match-self.steps c.match-self.result
 answered c =
@@ -31,15 +30,10 @@ returns c =
     let all = answered c in
     let e = expression_tree c.args.self.now in
     let n = length c.args.text.now in
-    let inside = c.requires.inside in
-    record {
-      same = search rules;
-      scratch = search rules;
-      groups = (report-iff e c.args.text.now c.args.start c.args.end c.match-self.result c.requires.spans).1 all.report;
-      lies = report_lies n e c.args.text.now c.args.start c.args.end c.match-self.result c.requires.order inside all.report;
-      none_cost = all.none_cost;
-      cost = (all.cost.0, omega (arith, all.cost.1, groups_within (length c.args.self.now.nodes) n (c.args.end - c.args.start) (omega (arith, inside))));
-      linear_cost = all.cost;
-      counts = all.counts;
-      entered = all.entered;
-    }
+    search (
+      rules,
+      all,
+      (report-iff e c.args.text.now c.args.start c.args.end c.match-self.result c.requires.spans).1 all.report,
+      report_lies n e c.args.text.now c.args.start c.args.end c.match-self.result c.requires.order c.requires.inside all.report,
+      groups_within (length c.args.self.now.nodes) (group_depth e) n (c.args.end - c.args.start) (omega (arith, all.deep)) (omega (arith, c.requires.inside)),
+    )

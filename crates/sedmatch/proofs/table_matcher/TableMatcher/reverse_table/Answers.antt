@@ -1,4 +1,4 @@
-use Rattle.std.proofs.Common.{◌∙◌, rules}
+use Rattle.sedmatch.proofs.Words.{◌∙◌, rules}
 use Rattle.sedmatch.proofs.table_matcher.TableMatcher.reverse_table.Goals as goal
 
 pub returns-in_ok-table-in-Passes : goal.returns-in_ok-table-in-Passes

@@ -1,5 +1,4 @@
-use Rattle.std.proofs.Common.{◌≡◌, ℕ, ◌+◌, ◌*◌, ◌^◌, ◌<◌, ◌≤◌, ⊎_elim, add-one, arith, rules}
-use Rattle.sedpass.proofs.Words.{cases_lt, pow-le-pow_right}
+use Rattle.sedpass.proofs.Words.{◌≡◌, ℕ, ◌+◌, ◌*◌, ◌^◌, ◌<◌, ◌≤◌, ⊎_elim, add-one, arith, rules, cases_lt, pow-le-pow_right}
 use Rattle.sedpass.proofs.cells.Layout.new.Goals as goal
 
 -- so few cells are counted by eight bits

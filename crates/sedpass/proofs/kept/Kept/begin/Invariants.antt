@@ -1,4 +1,4 @@
-use Rattle.std.proofs.Common.{◌≡◌, ◌+◌, ◌-◌, length, vec_capacity}
+use Rattle.sedpass.proofs.Words.{◌≡◌, ◌+◌, ◌-◌, length, vec_capacity}
 use Rattle.sedpass.proofs.kept.Kept.begin.Given as goal
 
 abbrev pub invariant-loop-states : goal.invariant-loop-states

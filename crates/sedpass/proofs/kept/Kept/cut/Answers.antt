@@ -1,8 +1,4 @@
-use Rattle.std.proofs.Common.{arith, length, rules, subst, ℕ, ◌<◌, ◌≡◌, ◌≤◌}
-use Rattle.sedre.specs.Steps.{TakesAtLeast}
-use Rattle.sedpass.proofs.Words.{one_start}
-use Rattle.sedpass.specs.Kept.{Follows, KeepsRegion, Meet, ends_shown}
-use Rattle.sedpass.specs.Regions.{MeetsAt}
+use Rattle.sedpass.proofs.Words.{arith, length, rules, subst, ℕ, ◌<◌, ◌≡◌, ◌≤◌, TakesAtLeast, one_start, Follows, KeepsRegion, Meet, ends_shown, MeetsAt}
 use Rattle.sedpass.proofs.ForwardLemmas.{forward_one_still}
 use Rattle.sedpass.proofs.KeptLemmas.{coded, follows_first, holds_then, keeps_then, meet_end, shown_as}
 use Rattle.sedpass.proofs.OwedLemmas.{owed_falls}

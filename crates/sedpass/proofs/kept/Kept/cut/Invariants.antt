@@ -1,7 +1,4 @@
-use Rattle.std.proofs.Common.{◌+◌, ◌-◌, ◌*◌, length}
-use Rattle.sedpass.proofs.Words.{Ascending, TakesAtLeast, CostsWithin}
-use Rattle.sedpass.specs.Table.{IsForwardOne, IsOffset, SameShape}
-use Rattle.sedpass.specs.Kept.{Follows, KeepsRegion, Meet, owed_region}
+use Rattle.sedpass.proofs.Words.{◌+◌, ◌-◌, ◌*◌, length, Ascending, TakesAtLeast, CostsWithin, IsForwardOne, IsOffset, SameShape, Follows, KeepsRegion, Meet, owed_region}
 use Rattle.sedpass.proofs.kept.Kept.cut.Given as goal
 
 abbrev pub invariant-loop-place : goal.invariant-loop-place

@@ -1,6 +1,4 @@
-use Rattle.std.proofs.Common.{ap, arith, length, rules, sym, ◌∙◌, ◌≢◌}
-use Rattle.sedpass.proofs.Words.{KeepsRows, row_of}
-use Rattle.sedpass.specs.Rows.{IsApart, bits}
+use Rattle.sedpass.proofs.Words.{ap, arith, length, rules, sym, ◌∙◌, ◌≢◌, KeepsRows, row_of, IsApart, bits}
 use Rattle.sedpass.proofs.KeptLemmas.{coded, first_at}
 use Rattle.sedpass.proofs.RowLemmas.{copied_rows, keeps_then}
 use Rattle.sedpass.proofs.TableLemmas.{adds_rows, table_rows}

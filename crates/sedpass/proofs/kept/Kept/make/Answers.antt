@@ -1,9 +1,4 @@
-use Rattle.std.proofs.Common.{ap, arith, length, mul-le-mul_left, refl, rules, ◌*◌, ◌+◌, ◌-◌, ◌/◌, ◌∙◌, ◌≡◌, ◌≢◌, ◌≤◌}
-use Rattle.std.proofs.Math.Nat.{mul-sub}
-use Rattle.sedre.specs.Steps.{Takes, TakesAtLeast}
-use Rattle.sedpass.proofs.Words.{div-mul-le_self, row_of}
-use Rattle.sedpass.specs.Kept.{EdgesFrom, PassesDownTo, SameKept}
-use Rattle.sedpass.specs.Rows.{bits, ends_row, leaves_row}
+use Rattle.sedpass.proofs.Words.{ap, arith, length, mul-le-mul_left, refl, rules, ◌*◌, ◌+◌, ◌-◌, ◌/◌, ◌∙◌, ◌≡◌, ◌≢◌, ◌≤◌, mul-sub, Takes, TakesAtLeast, div-mul-le_self, row_of, EdgesFrom, PassesDownTo, SameKept, bits, ends_row, leaves_row}
 use Rattle.sedpass.proofs.KeptLemmas.{block_right, edges_more, edges_none, edges_same, kept_passed, region_kept, same_kept}
 use Rattle.sedpass.proofs.RowLemmas.{copied_rows, keeps_then}
 use Rattle.sedpass.proofs.kept.Kept.make.Goals.{After-max-least, then-place-end, else-place-end}

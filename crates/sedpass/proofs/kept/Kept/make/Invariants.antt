@@ -1,7 +1,4 @@
-use Rattle.std.proofs.Common.{◌≡◌, ℕ, ◌-◌, ◌*◌, ◌<◌, length}
-use Rattle.sedpass.proofs.Words.{Ascending, TakesAtLeast, CostsWithin}
-use Rattle.sedpass.specs.Table.{SameShape}
-use Rattle.sedpass.specs.Kept.{EdgesFrom, PassesDownTo, SameKept}
+use Rattle.sedpass.proofs.Words.{◌≡◌, ℕ, ◌-◌, ◌*◌, ◌<◌, length, Ascending, TakesAtLeast, CostsWithin, SameShape, EdgesFrom, PassesDownTo, SameKept}
 use Rattle.sedpass.proofs.kept.Kept.make.Given as goal
 
 abbrev pub invariant-loop-place : goal.invariant-loop-place

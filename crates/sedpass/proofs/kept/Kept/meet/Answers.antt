@@ -1,9 +1,4 @@
-use Rattle.std.proofs.Common.{IsTrue, ap, arith, rules, sym, true≢false, ℕ, ◌+◌, ◌↔◌, ◌∙◌, ◌≡◌}
-use Rattle.sedre.specs.Steps.{IsCounted, TakesAtLeast}
-use Rattle.sedpass.proofs.Words.{eq-eqb, eqb-true, one_start}
-use Rattle.sedpass.specs.Kept.{Follows, ends_shown}
-use Rattle.sedpass.specs.Regions.{MeetsAt}
-use Rattle.sedpass.specs.Rows.{leaves_row}
+use Rattle.sedpass.proofs.Words.{IsTrue, ap, arith, rules, sym, true≢false, ℕ, ◌+◌, ◌↔◌, ◌∙◌, ◌≡◌, IsCounted, TakesAtLeast, eq-eqb, eqb-true, one_start, Follows, ends_shown, MeetsAt, leaves_row}
 use Rattle.sedpass.proofs.ForwardLemmas.{forward_one_still}
 use Rattle.sedpass.proofs.KeptLemmas.{coded, follows_next, holds_on, meet_read}
 use Rattle.sedpass.proofs.kept.Kept.meet.Goals.{After-meets}

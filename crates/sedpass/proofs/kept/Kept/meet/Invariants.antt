@@ -1,7 +1,4 @@
-use Rattle.std.proofs.Common.{ℕ, ◌-◌, ◌*◌, ◌≤◌, length}
-use Rattle.sedpass.proofs.Words.{Ascending, TakesAtLeast, CostsWithin}
-use Rattle.sedpass.specs.Table.{IsForwardOne, IsOffset, SameShape}
-use Rattle.sedpass.specs.Kept.{Follows, Meet}
+use Rattle.sedpass.proofs.Words.{ℕ, ◌-◌, ◌*◌, ◌≤◌, length, Ascending, TakesAtLeast, CostsWithin, IsForwardOne, IsOffset, SameShape, Follows, Meet}
 use Rattle.sedpass.proofs.kept.Kept.meet.Given as goal
 
 abbrev pub invariant-loop-place : goal.invariant-loop-place

@@ -1,7 +1,4 @@
-use Rattle.std.proofs.Common.{arith, length, mul-le-mul_left, ◌+◌, ◌-◌, ◌≡◌}
-use Rattle.std.proofs.Math.Nat.{mul-sub}
-use Rattle.sedre.specs.Steps.{IsCounted, TakesAtLeast}
-use Rattle.sedpass.proofs.Words.{eq-eqb, eqb-true}
+use Rattle.sedpass.proofs.Words.{arith, length, mul-le-mul_left, ◌+◌, ◌-◌, ◌≡◌, mul-sub, IsCounted, TakesAtLeast, eq-eqb, eqb-true}
 use Rattle.sedpass.proofs.KeptLemmas.{coded, comes_down}
 use Rattle.sedpass.proofs.kept.Kept.pass.Goals as goal
 

@@ -1,5 +1,4 @@
-use Rattle.std.proofs.Common.{arith, inl, inr, length, ◌*◌, ◌+◌, ◌-◌, ◌/◌, ◌<◌, ◌≤◌, ◌⊎◌}
-use Rattle.sedpass.proofs.Words.{lt-div-mul-add}
+use Rattle.sedpass.proofs.Words.{arith, inl, inr, length, ◌*◌, ◌+◌, ◌-◌, ◌/◌, ◌<◌, ◌≤◌, ◌⊎◌, lt-div-mul-add}
 use Rattle.sedpass.proofs.OwedLemmas.{owed_again, owed_made}
 use Rattle.sedpass.proofs.kept.Kept.ready.Goals.{then-at-self, else-at-self+then-at-self-2, then-at-self-2-via-then-at-self-2, then-at-self-2-via-else-at-self-2+then-self-at, else-at-self+else-at-self-2+else-self-at}
 use Rattle.sedpass.proofs.kept.Kept.ready.Goals as goal

@@ -1,7 +1,4 @@
-use Rattle.std.proofs.Common.{arith, length, refl, rules, ◌*◌, ◌+◌, ◌-◌, ◌/◌, ◌<◌, ◌≡◌}
-use Rattle.sedre.specs.Steps.{TakesAtLeast}
-use Rattle.sedpass.proofs.Words.{div-mul-le_self, lt-div-mul-add}
-use Rattle.sedpass.specs.Table.{SameShape}
+use Rattle.sedpass.proofs.Words.{arith, length, refl, rules, ◌*◌, ◌+◌, ◌-◌, ◌/◌, ◌<◌, ◌≡◌, TakesAtLeast, div-mul-le_self, lt-div-mul-add, SameShape}
 use Rattle.sedpass.proofs.KeptLemmas.{added_few, edges_same, kept_passed}
 use Rattle.sedpass.proofs.OwedLemmas.{again_cost}
 use Rattle.sedpass.proofs.kept.Kept.remake.Goals as goal

@@ -1,6 +1,4 @@
-use Rattle.std.proofs.Common.{arith, length, not, ◌≡◌}
-use Rattle.sedre.specs.Steps.{TakesAtLeast}
-use Rattle.sedpass.specs.Kept.{AllMarked, KeepsRegion, ends_shown}
+use Rattle.sedpass.proofs.Words.{arith, length, not, ◌≡◌, TakesAtLeast, AllMarked, KeepsRegion, ends_shown}
 use Rattle.sedpass.proofs.KeptLemmas.{holds_then, keeps_then, shown_as}
 use Rattle.sedpass.proofs.OwedLemmas.{owed_falls}
 use Rattle.sedpass.proofs.kept.Kept.seek.Goals.{After-seek_in-found}

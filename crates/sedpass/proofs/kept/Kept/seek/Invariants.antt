@@ -1,6 +1,4 @@
-use Rattle.std.proofs.Common.{◌+◌, ◌-◌, ◌*◌, length, not}
-use Rattle.sedpass.proofs.Words.{Ascending, TakesAtLeast, CostsWithin}
-use Rattle.sedpass.specs.Kept.{AllMarked, KeepsRegion, ends_shown, owed_region}
+use Rattle.sedpass.proofs.Words.{◌+◌, ◌-◌, ◌*◌, length, not, Ascending, TakesAtLeast, CostsWithin, AllMarked, KeepsRegion, ends_shown, owed_region}
 use Rattle.sedpass.proofs.kept.Kept.seek.Given as goal
 
 abbrev pub invariant-loop-place : goal.invariant-loop-place

@@ -1,7 +1,4 @@
-use Rattle.std.proofs.Common.{IsTrue, arith, ◌<◌, ◌↔◌}
-use Rattle.sedre.specs.Steps.{IsCounted, TakesAtLeast}
-use Rattle.sedpass.specs.Kept.{ends_shown}
-use Rattle.sedpass.specs.Regions.{ReachesEnd}
+use Rattle.sedpass.proofs.Words.{IsTrue, arith, ◌<◌, ◌↔◌, IsCounted, TakesAtLeast, ends_shown, ReachesEnd}
 use Rattle.sedpass.proofs.KeptLemmas.{as_asked, holds_on, kept_mark, not_asked}
 use Rattle.sedpass.proofs.kept.Kept.seek_in.Goals.{After-get}
 use Rattle.sedpass.proofs.kept.Kept.seek_in.Goals as goal

@@ -1,6 +1,4 @@
-use Rattle.std.proofs.Common.{◌-◌, not}
-use Rattle.sedpass.proofs.Words.{Ascending, TakesAtLeast, CostsWithin}
-use Rattle.sedpass.specs.Kept.{AllMarked, ends_shown}
+use Rattle.sedpass.proofs.Words.{◌-◌, not, Ascending, TakesAtLeast, CostsWithin, AllMarked, ends_shown}
 use Rattle.sedpass.proofs.kept.Kept.seek_in.Given as goal
 
 abbrev pub invariant-loop-place : goal.invariant-loop-place

@@ -1,4 +1,4 @@
-use Rattle.std.proofs.Common.{false}
+use Rattle.sedpass.proofs.Words.{false}
 use Rattle.sedpass.proofs.FactLemmas.{null_shows}
 use Rattle.sedpass.proofs.kept.Subject.is_null.Goals as goal
 

@@ -1,6 +1,4 @@
-use Rattle.std.proofs.Common.{◌≡◌, length, vec_capacity}
-use Rattle.sedre.specs.Steps.{Takes, TakesAtLeast}
-use Rattle.sedpass.specs.Prepared.{AreFacts}
+use Rattle.sedpass.proofs.Words.{◌≡◌, length, vec_capacity, Takes, TakesAtLeast, AreFacts}
 use Rattle.sedpass.proofs.nodes.Analysis.fit.Given as goal
 
 abbrev pub invariant-loop-x : goal.invariant-loop-x

@@ -1,7 +1,4 @@
-use Rattle.std.proofs.Common.{ℕ, ◌-◌, ◌<◌, ◌≤◌, IsTrue}
-use Rattle.sedpass.specs.Table.{IsOffset}
-use Rattle.sedpass.specs.Forwards.{PassIs}
-use Rattle.sedpass.proofs.Words.{CostsWithin, TakesAtLeast}
+use Rattle.sedpass.proofs.Words.{ℕ, ◌-◌, ◌<◌, ◌≤◌, IsTrue, IsOffset, PassIs, CostsWithin, TakesAtLeast}
 use Rattle.sedpass.proofs.table.Table.follow.Given as goal
 
 abbrev pub invariant-loop-at : goal.invariant-loop-at

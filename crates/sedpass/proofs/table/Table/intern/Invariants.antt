@@ -1,4 +1,4 @@
-use Rattle.std.proofs.Common.{◌+◌, ◌*◌, length, ◌≡◌, ◌≤◌}
+use Rattle.sedpass.proofs.Words.{◌+◌, ◌*◌, length, ◌≡◌, ◌≤◌}
 use Rattle.sedpass.proofs.table.Table.intern.Given as goal
 
 abbrev pub invariant-loop-slot : goal.invariant-loop-slot

@@ -1,7 +1,4 @@
-use Rattle.std.proofs.Common.{◌≢◌, ◌+◌, length, ◌∙◌, sym, arith, true≢false}
-use Rattle.sedpass.proofs.Words.{KeepsRows, row_of, seen-length, IsPlace}
-use Rattle.sedpass.specs.Rows.{IsApart, nodes_of, at_begin, at_edge, bits, leaves_row, ShowTook}
-use Rattle.sedpass.specs.Table.{HasNewRow, IsMade, PassState}
+use Rattle.sedpass.proofs.Words.{◌≢◌, ◌+◌, ◌∙◌, sym, arith, true≢false, KeepsRows, seen-length, IsApart, nodes_of}
 use Rattle.sedpass.proofs.FactLemmas.{null_shows}
 use Rattle.sedpass.proofs.RowLemmas.{first_bits, keeps_then, took_bits}
 use Rattle.sedpass.proofs.TableLemmas.{adds_rows, names_map, table_rows}
@@ -12,43 +9,26 @@ use Rattle.sedpass.proofs.table.Table.make.Goals as goal
 keeps : (c : After-descend) → KeepsRows (IsApart 2 c.make_room.new.self.count) c.make_room.new.self.rows c.descend.new.rows
 keeps c = keeps_then (λ q. q ≢ 1) (IsApart 1 c.make_room.new.self.count) (IsApart 2 c.make_room.new.self.count) _ _ _ (λ q far. (λ e. omega (arith, e, far.0), (omega (arith, far.0), far.1, far.2))) c.ascend.ensures.keeps c.descend.ensures.keeps
 
--- the row is the one asked for
-made : (c : After-descend) (a : PassState) → HasNewRow (length c.args.act.prepared.now.nodes) (record c.make_room.new.self { rows = c.descend.new.rows }) c.args.act.root a →
-    IsMade c.args.act c.args.byte c.args.first (bits (length c.args.act.prepared.now.nodes) (row_of c.make_room.new.self.rows (leaves_row c.args.from))) a
-made c a has =
-    let act = c.args.act in
-    let e = act.prepared.now in
-    let leaves = row_of c.make_room.new.self.rows (leaves_row c.args.from) in
-    record {
-      root = has.0;
-      comes_next = λ kind before w s p bytes is_end is_start row.
-          let there : IsPlace w (p + 1) (at_begin act.way.mirrored act.kind) (at_edge act.way.mirrored act.kind) =
-          ((λ h. absurd (true≢false (sym h ∙ kind)), λ none. absurd (omega arith)), is_end) in
-          let nulls = null_shows act.way.mirrored e act.kind w (p + 1) there in
-          let shown : ShowTook (nodes_of act.way e) w act.root s (p + 1) c.args.byte leaves =
-          took_bits (nodes_of act.way e) w act.root p s act.way.mirrored (length e.nodes) leaves before c.args.byte (seen-length act.way.mirrored e) bytes row in
-          rw (has.1, has.2) (c.descend.ensures.row w s (p + 1) nulls (c.ascend.ensures.ended w s (p + 1) nulls shown) is_start);
-      begins = λ none starts. (
-        has.0,
-        λ w s there some.
-            let nulls = null_shows act.way.mirrored e act.kind w s.first there in
-            let took = first_bits (nodes_of act.way e) w act.root s leaves in
-            rw (has.1, has.2) (c.descend.ensures.row w s s.first nulls (c.ascend.ensures.ended w s s.first nulls (rw none took)) (λ h. (omega arith, some), λ h. starts)),
-      );
-    }
-
 pub intern-requires-clause-table : goal.intern-requires-clause-table
 intern-requires-clause-table c = table_rows c.args.act.prepared.now c.make_room.new.self c.descend.new.rows (keeps (goal.at.intern-requires-clause-table c).After-descend) c.make_room.ensures.table
 
+-- the row is the one asked for
 pub returns-clause-codes : goal.returns-clause-codes
 returns-clause-codes c =
-    let p = c.args.act.prepared.now in
-    let S = c.make_room.new.self in
-    let N = c.intern.new.self in
+    let act = c.args.act in
+    let e = act.prepared.now in
+    let nulls = null_shows act.way.mirrored e act.kind in
+    let row = c.descend.ensures.row in
+    let ended = c.ascend.ensures.ended in
     let codes = c.intern.ensures.codes in
-    let after = (goal.at.returns-clause-codes c).After-descend in
     record {
       table = codes.table;
-      adds = c.make_room.ensures.adds N (adds_rows p S c.descend.new.rows (keeps after) N codes.adds);
-      names = rw (← c.make_room.ensures.rows) (names_map _ N (HasNewRow _ (record S { rows = c.descend.new.rows }) c.args.act.root) _ c.intern.result (made after) codes.names);
+      adds = c.make_room.ensures.adds c.intern.new.self (adds_rows e c.make_room.new.self c.descend.new.rows (keeps (goal.at.returns-clause-codes c).After-descend) c.intern.new.self codes.adds);
+      names = rw (← c.make_room.ensures.rows) (names_map _ _ _ _ _ (λ a has. record {
+        root = has.0;
+        comes_next = λ kind before w s p bytes is_end is_start from.
+            let null = nulls w (p + 1) ((λ h. absurd (true≢false (sym h ∙ kind)), λ none. absurd (omega arith)), is_end) in
+            rw (has.1, has.2) (row w s (p + 1) null (ended w s (p + 1) null (took_bits _ w _ p s _ _ _ before _ (seen-length act.way.mirrored e) bytes from)) is_start);
+        begins = λ none starts. (has.0, λ w s there some. rw (has.1, has.2) (row w s s.first (nulls w s.first there) (ended w s s.first (nulls w s.first there) (rw none (first_bits (nodes_of act.way e) w act.root s _))) (λ h. (omega arith, some), λ h. starts)));
+      }) codes.names);
     }

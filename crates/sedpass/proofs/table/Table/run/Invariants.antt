@@ -1,7 +1,4 @@
-use Rattle.std.proofs.Common.{◌+◌, ◌-◌, ◌*◌, length}
-use Rattle.sedpass.proofs.Words.{TakesAtLeast, CostsWithin}
-use Rattle.sedpass.specs.Table.{IsTable, IsOffset, SameShape}
-use Rattle.sedpass.specs.Forwards.{PassIs}
+use Rattle.sedpass.proofs.Words.{◌+◌, ◌-◌, ◌*◌, length, TakesAtLeast, CostsWithin, IsTable, IsOffset, SameShape, PassIs}
 use Rattle.sedpass.proofs.table.Table.run.Given as goal
 
 abbrev pub invariant-loop-here : goal.invariant-loop-here

@@ -1,5 +1,4 @@
-use Rattle.memchr.specs.Find.{Nowhere, Passes}
-use Rattle.sedre.specs.Sets.{has}
+use Rattle.sedtext.proofs.Words.{has, Nowhere, Passes}
 use Rattle.sedtext.proofs.counted.members.first_member.Given as goal
 
 abbrev pub invariant-loop-place : goal.invariant-loop-place

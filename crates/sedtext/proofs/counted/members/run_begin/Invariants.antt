@@ -1,10 +1,5 @@
-use Rattle.std.proofs.Common.{◌≡◌, ◌≤◌}
-use Rattle.sedtext.specs.Runs.{SetRepeats}
+use Rattle.sedtext.proofs.Words.{◌≡◌, ◌≤◌, SetRepeats}
 use Rattle.sedtext.proofs.counted.members.run_begin.Given as goal
 
 abbrev pub invariant-loop-place : goal.invariant-loop-place
-invariant-loop-place l = record {
-  low : l.from ≤ l.place;
-  steps : l.steps ≡ l.fn.steps;
-  copies : SetRepeats l.set l.bytes l.place l.to;
-}
+invariant-loop-place l = (l.from ≤ l.place) × (l.steps ≡ l.fn.steps) × SetRepeats l.set l.bytes l.place l.to

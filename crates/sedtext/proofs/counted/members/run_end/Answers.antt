@@ -1,10 +1,5 @@
-use Rattle.std.proofs.Common.{◌≡◌, ap, length, subst, arith}
-use Rattle.sedtext.specs.Runs.{IsRun}
-use Rattle.sedtext.proofs.RunLemmas.{stops_behind}
+use Rattle.sedtext.proofs.Closing.{arith, run_ends, ap, length}
 use Rattle.sedtext.proofs.counted.members.run_end.Goals as goal
 
 pub returns-clause-run : goal.returns-clause-run
-returns-clause-run c =
-    let end : c.loop-place.place ≡ length c.uncounted-bytes.result.now = omega (arith, ap length c.uncounted-bytes.ensures) in
-    rw (← c.uncounted-bytes.ensures) (subst (IsRun c.args.set.now c.uncounted-bytes.result.now c.args.from) end
-    (omega (arith, ap length c.uncounted-bytes.ensures), c.loop-place.invariant.copies, stops_behind c.args.set.now c.uncounted-bytes.result.now c.loop-place.place (omega arith)))
+returns-clause-run c = run_ends _ _ _ _ _ c.uncounted-bytes.ensures (omega (arith, ap length c.uncounted-bytes.ensures)) c.loop-place.invariant.0

@@ -1,20 +1,12 @@
-use Rattle.std.proofs.Common.{◌≡◌, ◌/◌, ◌^◌, Fits, get_or, bit_and, ap, ◌∙◌, arith, w8}
-use Rattle.std.proofs.lemmas.Nat.{and_mask}
-use Rattle.std.proofs.lemmas.Simd.{Each1-get_or}
-use Rattle.sedtext.proofs.LaneLemmas.{lanes_with, lanes_zip, marked_lane, nonzero_few, nonzero_lane}
-use Rattle.sedtext.specs.declared.counted.nibbles.TheConstants.{UPPER}
+use Rattle.sedtext.proofs.Closing.{◌/◌, ◌^◌, ◌∙◌, ◌≡◌, and_mask, arith, bit_and, Each1-get_or, Fits, get_or, lanes_with, lanes_zip, marked_lane, nonzero_few, nonzero_lane, w8}
 use Rattle.sedtext.proofs.counted.nibbles.Nibbles.marked.Goals as goal
 
 pub look_up-rows-requires : goal.look_up-rows-requires
-look_up-rows-requires c k lt =
-    let is = (lanes_with bit_and c.args.lanes 15 c.fits-lanes.0).1 k lt ∙ and_mask (get_or c.args.lanes k 0) 4 in
-    omega (arith, is)
+look_up-rows-requires c k lt = omega (arith, (lanes_with bit_and c.args.lanes 15 c.fits-lanes.0).1 k lt, and_mask (get_or c.args.lanes k 0) 4)
 
 pub look_up-bits-requires : goal.look_up-bits-requires
 look_up-bits-requires c k lt =
-    let is = (lanes_with (λ a b. a / 2 ^ b) c.args.lanes 4 c.fits-lanes.0).1 k lt in
-    let small = (Each1-get_or (Fits w8) c.args.lanes k 0 (omega (arith, c.fits-lanes.0)) c.fits-lanes.1).fits in
-    omega (arith, is, small)
+    omega (arith, (lanes_with (λ a b. a / 2 ^ b) c.args.lanes 4 c.fits-lanes.0).1 k lt, (Each1-get_or (Fits w8) c.args.lanes k 0 (omega (arith, c.fits-lanes.0)) c.fits-lanes.1).fits)
 
 pub returns-clause-few : goal.returns-clause-few
 returns-clause-few c = nonzero_few _ (lanes_zip bit_and c.look_up-rows.result c.look_up-bits.result c.look_up-rows.ensures.0 c.look_up-bits.ensures.0).0
@@ -25,6 +17,4 @@ returns-clause-marked c k lt mark =
     let small = (Each1-get_or (Fits w8) c.args.lanes k 0 (omega (arith, c.fits-lanes.0)) c.fits-lanes.1).fits in
     let low = (lanes_with bit_and c.args.lanes 15 c.fits-lanes.0).1 k lt ∙ and_mask (get_or c.args.lanes k 0) 4 in
     let high : get_or _ k 0 ≡ get_or c.args.lanes k 0 / 16 = (lanes_with (λ a b. a / 2 ^ b) c.args.lanes 4 c.fits-lanes.0).1 k lt in
-    let row = c.look_up-rows.ensures.1 k lt ∙ ap (λ i. get_or c.args.self.now.rows i 0) low in
-    let bit = c.look_up-bits.ensures.1 k lt ∙ ap (λ i. get_or UPPER i 0) high in
-    nonzero_lane _ both.0 k lt (marked_lane c.args.self.now.rows (get_or c.args.lanes k 0) _ _ _ small mark row bit (both.1 k lt))
+    nonzero_lane _ both.0 k lt (grind (arith, marked_lane c.args.self.now.rows (get_or c.args.lanes k 0), small, mark, low, high, both.1 k lt, c.look_up-rows.ensures.1 k lt, c.look_up-bits.ensures.1 k lt))

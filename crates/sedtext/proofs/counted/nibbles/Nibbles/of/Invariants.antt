@@ -1,9 +1,5 @@
-use Rattle.std.proofs.Common.{◌≡◌, length}
-use Rattle.sedtext.proofs.NibbleLemmas.{AllMarked}
+use Rattle.sedtext.proofs.Closing.{◌≡◌, AllMarked, length}
 use Rattle.sedtext.proofs.counted.nibbles.Nibbles.of.Given as goal
 
 abbrev pub invariant-loop-byte : goal.invariant-loop-byte
-invariant-loop-byte l = record {
-  long : length l.rows ≡ 16;
-  marked : AllMarked l.set l.byte l.rows;
-}
+invariant-loop-byte l = (length l.rows ≡ 16) × AllMarked l.set l.byte l.rows

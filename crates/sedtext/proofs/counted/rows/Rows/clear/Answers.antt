@@ -1,10 +1,6 @@
-use Rattle.std.proofs.Common.{◌/◌, arith}
-use Rattle.sedtext.proofs.WordLemmas.{new_bit, row_written, row_there, zero_unmarked}
+use Rattle.sedtext.proofs.Closing.{arith, row_there, row_written}
 use Rattle.sedtext.proofs.counted.rows.Rows.clear.Goals as goal
 
 pub returns-clause-keeps : goal.returns-clause-keeps
 returns-clause-keeps c = row_written c.self.inside c.args.self.now c.self.view_is c.self.invariant c.loop-x.words.items c.args.row c.div_ceil-x-end.result
     (omega (arith, row_there c.self.inside c.args.self.now c.self.view_is c.self.invariant c.args.row c.requires.row)) c.loop-x.invariant.2 (λ k high. c.loop-x.invariant.3 k (omega (arith, high)))
-
-pub returns-clause-clear : goal.returns-clause-clear
-returns-clause-clear c i lt = grind (arith, new_bit, zero_unmarked, c.loop-x.invariant.1 (i / 64))

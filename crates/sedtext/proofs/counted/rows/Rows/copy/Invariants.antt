@@ -1,10 +1,8 @@
-use Rattle.std.proofs.Common.{◌≡◌, ℕ, ◌+◌, ◌<◌, ◌≤◌, length}
-use Rattle.std.specs.Prelude.{slice_index_or}
+use Rattle.sedtext.proofs.Words.{◌+◌, ◌<◌, ◌≡◌, ◌≤◌, slice_index_or, ℕ}
 use Rattle.sedtext.proofs.counted.rows.Rows.copy.Given as goal
 
 abbrev pub invariant-loop-x : goal.invariant-loop-x
 invariant-loop-x l = record {
-  len : length l.words.items ≡ length l.initial.words.items;
   copied : (k : ℕ) → k < l.x → slice_index_or l.words.items (l.to + k) 0 ≡ slice_index_or l.other-inside.words.items (l.from + k) 0;
   before : (k : ℕ) → k < l.to → slice_index_or l.words.items k 0 ≡ slice_index_or l.initial.words.items k 0;
   rest : (k : ℕ) → l.to + l.x ≤ k → slice_index_or l.words.items k 0 ≡ slice_index_or l.initial.words.items k 0;

@@ -1,6 +1,4 @@
-use Rattle.std.proofs.Common.{ℕ, ◌*◌, ◌<◌}
-use Rattle.sedtext.specs.Words.{row_of}
-use Rattle.sedtext.proofs.BitLemmas.{Meet}
+use Rattle.sedtext.proofs.Closing.{◌*◌, ◌<◌, Meet, row_of, ℕ}
 use Rattle.sedtext.proofs.counted.rows.Rows.meets.Given as goal
 
 abbrev pub invariant-loop-x : goal.invariant-loop-x

@@ -1,5 +1,4 @@
-use Rattle.std.proofs.Common.{◌≡◌, ℕ, ◌+◌, ◌<◌}
-use Rattle.std.specs.Prelude.{slice_index_or}
+use Rattle.sedtext.proofs.Words.{◌+◌, ◌<◌, ◌≡◌, slice_index_or, ℕ}
 use Rattle.sedtext.proofs.counted.rows.Rows.same.Given as goal
 
 abbrev pub invariant-loop-x : goal.invariant-loop-x

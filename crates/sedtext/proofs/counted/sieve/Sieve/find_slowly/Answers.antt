@@ -1,15 +1,10 @@
-use Rattle.std.proofs.Common.{◌≡◌, ◌+◌, subst, sym, ◌∙◌, true≢false, arith}
-use Rattle.sedtext.specs.Sieve.{PassesSieve}
-use Rattle.sedtext.proofs.SieveLemmas.{none_on, passes_within}
+use Rattle.sedtext.proofs.Closing.{⊎_elim, cases_lt, ◌<◌, ◌≤◌, ◌≡◌, ◌∙◌, arith, passes_within, PassesSieve, subst, sym, true≢false}
 use Rattle.sedtext.proofs.counted.sieve.Sieve.find_slowly.Goals as goal
 
 pub loop-place-preserved : goal.loop-place-preserved
-loop-place-preserved c =
-    let place = c.loop-place.place in
-    none_on _ c.args.from place (place + 1) c.loop-place.invariant
-    (λ i ge high is. true≢false (sym (c.passes.ensures (subst (PassesSieve c.args.self.now c.args.bytes.now) (let e : i ≡ place = omega arith in e) is)) ∙ c.if-passes.false))
+loop-place-preserved c i low high is =
+    let here = λ (e : i ≡ c.loop-place.place). true≢false (sym (c.passes.ensures (subst (PassesSieve c.args.self.now c.args.bytes.now) e is)) ∙ c.if-passes.false) in
+    ⊎_elim (λ (lt : i < c.loop-place.place). c.loop-place.invariant i low lt is) (λ (ge : c.loop-place.place ≤ i). here (omega arith)) (cases_lt i c.loop-place.place)
 
 pub returns-clause-none : goal.returns-clause-none
-returns-clause-none c i low is =
-    let inside = passes_within c.args.self.now c.args.bytes.now i is in
-    c.loop-place.invariant i low (omega (arith, inside)) is
+returns-clause-none c i low is = c.loop-place.invariant i low (omega (arith, passes_within c.args.self.now c.args.bytes.now i is)) is

@@ -1,5 +1,4 @@
-use Rattle.std.proofs.Common.{ℕ, ◌<◌, ◌≤◌}
-use Rattle.sedtext.specs.Sieve.{PassesSieve}
+use Rattle.sedtext.proofs.Words.{◌<◌, ◌≤◌, PassesSieve, ℕ}
 use Rattle.sedtext.proofs.counted.sieve.Sieve.find_slowly.Given as goal
 
 abbrev pub invariant-loop-place : goal.invariant-loop-place
