@@ -6,13 +6,30 @@ use Rattle.std.proofs.Math.Seq.{drop-nil}
 use Rattle.std.proofs.lemmas.Bool.Decides.{nat_tests}
 use Rattle.sedre.specs.Tree.{WrittenExpression, expression_tree}
 use Rattle.sedmatch.specs.Matching.{leftmost_longest, unless_null_at}
-use Rattle.sedmatch.specs.Following.{EndsWithin, LiesOn}
+use Rattle.sedmatch.specs.Following.{EndsWithin, LiesOn, next_span}
 use Rattle.sedmatch.proofs.MatchingLemmas.{found-iff, IsLeftmostLongest-within}
 use Rattle.sedmatch.proofs.SpanLemmas.{Matches-forward, Matches-within}
 use Rattle.sedacts.specs.Substitute.{Occurrence, occurrences_from}
 use Rattle.sedacts.specs.State.{search_for, occurrence_at_span}
 use Rattle.sedacts.specs.SubstituteParts.{next_occurrence, Skips, occurrences_after, pending}
 use Rattle.std.specs.Option.{option_map, option_map_or}
+
+-- the next occurrence is that of the next span
+chosen : {X Y : Type 0} (f : X → Y) (b : Bool) (x y : Option X) → option_map f (if b then x else y) ≡ (if b then option_map f x else option_map f y)
+chosen f true x y = refl
+chosen f false x y = refl
+
+past_null : (e : WrittenExpression) (w : List ℕ) (q : ℕ) (x y : Option (ℕ × ℕ)) → option_map (occurrence_at_span e w) (unless_null_at (λ f. f) q x y)
+    ≡ unless_null_at (λ (m : Occurrence). (m.start, m.end)) q (option_map (occurrence_at_span e w) x) (option_map (occurrence_at_span e w) y)
+past_null e w q None y = refl
+past_null e w q (Some f) y = chosen (occurrence_at_span e w) (nat_eq f.0 q && nat_eq f.1 q) y (Some f)
+
+pub occurrence_as : (e : WrittenExpression) (w : List ℕ) (last : Option ℕ) → option_map (occurrence_at_span e w) (next_span (leftmost_longest (expression_tree e) w) (length w) last) ≡ next_occurrence (search_for e w) (length w) last
+occurrence_as e w None = refl
+occurrence_as e w (Some q) =
+    let search = leftmost_longest (expression_tree e) w in
+    past_null e w q (search q) (if nat_lt q (length w) then search (q + 1) else None)
+    ∙ ap (λ y. unless_null_at (λ (m : Occurrence). (m.start, m.end)) q (search_for e w q) y) (chosen (occurrence_at_span e w) (nat_lt q (length w)) (search (q + 1)) None)
 
 -- a match lies in the text, after the place from which it is sought
 pub found_lies : (e : WrittenExpression) (w : List ℕ) (p i j : ℕ) → p ≤ length w → leftmost_longest (expression_tree e) w p ≡ Some (i, j) →

@@ -21,8 +21,7 @@ use sedre::{ByteSet, Expr, Steps};
 use sedtext::counted::Text;
 use sedtext::counted::lookups::find_literal;
 use sedtext::fixed_runs::{find_fixed_run, fixed_run_of};
-use sedtext::links::{Link, alternatives_at};
-use sedtext::required::literal_at;
+use sedtext::links::{Link, alternatives_at, literal_at};
 use std::alloc::{AllocError, Global};
 
 /// The form of the matches of an expression.

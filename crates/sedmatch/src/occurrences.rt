@@ -20,7 +20,6 @@ use sedpass::table::Table;
 use sedpass::width::width_for;
 use sedre::Steps;
 use sedtext::counted::Text;
-use sedtext::required::skip_to_literal;
 use std::alloc::{AllocError, Global};
 
 /// How many expressions have a table of their own at most.
@@ -74,11 +73,7 @@ impl Occurrences {
         let kept = Kept::new(alloc, max_text, max_text / width + 1, max_nodes)?;
         let shared = Table::with_room(alloc, REVERSE_ANY, width + 1, max_nodes)?;
         Ok(Occurrences {
-            seeking: Seeking {
-                kept,
-                begun: false,
-                tried: 0,
-            },
+            seeking: Seeking { kept, tried: 0 },
             shared,
             own,
             number: 0,
@@ -171,7 +166,7 @@ fn next_with(
 {
     let subject = Subject { prepared, text };
     let Some(at) = last else {
-        let start = skip_to_literal(prepared.required(), text, 0, steps)?;
+        let start = prepared.hints().skip_to_literal(text, 0, steps)?;
         return next_match(subject, forward_one, reverse_any, seeking, start, steps);
     };
     let first = next_match(subject, forward_one, reverse_any, seeking, at, steps);

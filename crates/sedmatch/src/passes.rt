@@ -18,10 +18,9 @@ use sedpass::kept::{Kept, Subject};
 use sedpass::nodes::{Analysis, Prepared};
 use sedpass::rows::Way;
 use sedre::{Expr, Steps};
-use sedtext::beginnings::{Begins, how_begins, next_start};
 use sedtext::counted::Text;
+use sedtext::hints::{Begins, Hints};
 use sedtext::links::Link;
-use sedtext::required::{find_required, skip_to_literal};
 use std::alloc::{AllocError, Global};
 
 /// What passes over an expression need.
@@ -66,8 +65,8 @@ pub fn new_passes(
     let nodes = expr.nodes();
     let mut analysis = Analysis::with_room(alloc, nodes)?;
     analysis.fit(expr, steps);
-    analysis.begins = how_begins(alloc, expr, chain, steps)?;
-    analysis.required = find_required(alloc, chain)?;
+    let hints = Hints::of(alloc, expr, chain, steps)?;
+    let analysis = Analysis { hints, ..analysis };
     let states = room.states.clamp(2, 513);
     let mut own = None;
     if size_of(nodes, states) <= room.bytes {
@@ -94,11 +93,12 @@ fn matches_with(
     ensures passes { IsTrue result → LooksPast (expression_tree prepared.now) text.now from steps.old steps.new }
     ensures cost { Takes steps.old steps.new (43 * length prepared.now.nodes * (length text.now + 1)) }
 {
-    let Some(start) = next_start(prepared.begins(), text, from, steps) else {
+    let hints = prepared.hints();
+    let Some(start) = hints.next_start(text, from, steps) else {
         return false;
     };
     let (any, one) = (&mut tables.forward_any, &mut tables.forward_one);
-    match prepared.begins() {
+    match &hints.begins {
         // The first place alone is a start, and a pass from it can end early.
         Begins::AtStart => one.run(prepared, text, start, steps).end.is_some(),
         _ => any.run(prepared, text, start, steps).end.is_some(),
@@ -122,7 +122,7 @@ pub fn matches_by(
     ensures answered { AnswersMatch expr.now text.now from steps.old steps.new result }
 {
     let prepared = &Prepared::of(expr, &passes.analysis);
-    let Some(start) = skip_to_literal(prepared.required(), text, from, steps) else {
+    let Some(start) = prepared.hints().skip_to_literal(text, from, steps) else {
         return false;
     };
     if let Some(own) = &mut passes.own {

@@ -28,9 +28,9 @@ use crate::table_room::TableRoom;
 use sedpass::nodes::Prepared;
 use sedpass::table::Table;
 use sedre::{Expr, Steps};
-use sedtext::beginnings::Begins;
 use sedtext::counted::Text;
 use sedtext::counted::lookups::{find_literal, sift};
+use sedtext::hints::Begins;
 use sedtext::links::chain_of;
 use std::alloc::{AllocError, Global};
 use std::marker::Model;
@@ -200,8 +200,8 @@ impl TableMatcher {
                 DirectForm::FixedRun(_, _) => Some(0),
             },
             SearchMethod::Passes(passes) => {
-                let analysis = &passes.analysis;
-                match (&analysis.required, &analysis.begins) {
+                let hints = &passes.analysis.hints;
+                match (&hints.required, &hints.begins) {
                     (Some(required), _) => find_literal(text, &required.finder, 0, steps),
                     (None, Begins::Before(sieve)) => sift(text, sieve, 0, steps),
                     _ => Some(0),

@@ -93,7 +93,7 @@ comes_down p w first t after start k high place offset next byte code to edge is
           let was = old.live q (omega (arith, lt, is)) on.1 in
           rw (get_or-set_other k.states.items place q s 0 (λ e. omega arith))
           (omega (arith, (adds.grows on.0).0, was.0), subst (λ a. KeptAt p w after.way.all_starts k.region.root k.region.end q a) (sym (adds.kept on.0 (slice_index_or k.states.items q 0) was.0)) (rw adds.shape.0 was.1))
-      | inr ge ↦ let e : q ≡ place = omega arith in rw (e, get_or-set_same k.states.items place s 0 (omega (arith, under, old.region.long, old.region.inside))) (new.0.0, at)
+      | inr ge ↦ let e : q ≡ place = omega arith in rw (e, get_or-set_same k.states.items place s 0 (omega (arith, under, old.long, old.region.inside))) (new.0.0, at)
     ] in
     search (rules, live, at, new.0, length-set k.states.items place s, under, region_kept p w t after k, old.region, down, codes)
 
@@ -135,14 +135,14 @@ added_few m t after adds none = search rules
 -- What the marks say.
 
 -- the number of a place's state, as it is read
-pub kept_read : (p : WrittenExpression) (w : List ℕ) (t : Table) (k : Kept) (q s : ℕ) → IsKept p w t k → q < k.region.to → s ≡ slice_index_or k.states.items q s → s ≡ slice_index_or k.states.items q 0
-kept_read p w t k q s kept before is = is ∙ get_or_default k.states.items q s 0 (omega (arith, kept.region))
+pub kept_read : (p : WrittenExpression) (w : List ℕ) (t : Table) (k : Kept) (q s : ℕ) → IsKept p w t k → k.region.from ≤ q → q < k.region.to → s ≡ slice_index_or k.states.items q s → s ≡ slice_index_or k.states.items q 0
+kept_read p w t k q s kept above before is = is ∙ get_or_default k.states.items q s 0 (omega (arith, kept.region, kept.low, kept.long (omega (arith, kept.region.within, kept.low))))
 
 -- whether a node is marked at a place whose state is in the table
 pub kept_mark : (p : WrittenExpression) (w : List ℕ) (t : Table) (k : Kept) (x q s row : ℕ) (mark : Bool) → IsKept p w t k → x < length p.nodes → k.region.from ≤ q → q < k.region.to → s ≡ slice_index_or k.states.items q s →
     row ≡ ends_row s → mark ≡ slice_index_or (row_of t.rows row) x false → IsTrue mark ↔ ReachesEnd p.nodes w k.region.root (ends_shown t.way.all_starts k.region.end) x q
 kept_mark p w t k x q s row mark kept inside above before read at_row is =
-    let row_at = rw (← kept_read p w t k q s kept before read) at (kept.live q above before).1 in
+    let row_at = rw (← kept_read p w t k q s kept above before read) at (kept.live q above before).1 in
     rw (is, at_row, ← bits_here (length p.nodes) (row_of t.rows (ends_row s)) x inside)
     (behind_reaches p w k.region.root x q (length w - q) (starts_shown t.way.all_starts (length w) k.region.end) (ends_shown t.way.all_starts k.region.end) _ _
     kept.region.table.expr.arena (shown_opposite t.way.all_starts (length w) k.region.end kept.region.inside) kept.region.inside (omega (arith, kept.region.within, kept.region.inside)) row_at.1)
@@ -189,7 +189,7 @@ pub meet_read : (p : WrittenExpression) (w : List ℕ) (t forward_one : Table) (
     (IsTrue met ↔ ((c : ℕ) × (c < n) × IsTrue (slice_index_or (row_of forward_one.rows front_row) c false) × IsTrue (slice_index_or (row_of t.rows behind_row) c false))) →
     IsTrue met ↔ MeetsAt p.nodes w k.region.root (ends_shown t.way.all_starts k.region.end) a (one_start i) place
 meet_read p w t forward_one k a i place offset n front_row s behind_row met kept above before follows count front_is read behind_is shows =
-    let row_at = rw (← kept_read p w t k place s kept before read) at (kept.live place above before).1 in
+    let row_at = rw (← kept_read p w t k place s kept above before read) at (kept.live place above before).1 in
     let one = bits_meet (length p.nodes) (row_of forward_one.rows (leaves_row (offset / 2 ^ forward_one.layout.shift))) (row_of t.rows (ends_row s)) met (rw (count, front_is, behind_is) at shows) in
     let two = meet_rows p w k.region.root a place (length w - place) (one_start i) (starts_shown t.way.all_starts (length w) k.region.end) (ends_shown t.way.all_starts k.region.end) forward_one.way.mirrored _ _ _ _
     kept.region.table.expr.arena (shown_opposite t.way.all_starts (length w) k.region.end kept.region.inside) kept.region.inside (omega (arith, kept.region.within, kept.region.inside)) (rw follows.0 at follows.1) row_at.1 in

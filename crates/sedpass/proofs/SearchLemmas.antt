@@ -1,5 +1,5 @@
 -- What the pass from the text's end says of matches of the whole expression, and what searches cost.
-use Rattle.sedpass.proofs.Words.{◌≡◌, ℕ, zero, suc, ◌+◌, ◌-◌, ◌*◌, ◌/◌, ◌<◌, ◌≤◌, ◌↔◌, false, max, List, length, Option, Some, None, IsTrue, refl, sym, true≢false, arith, mul-le-mul_left, IfSome, rules, mul-div-le, mul-le-mul_right, mul-sub, IsArena, WrittenExpression, expression_tree, Tree, TakesAtLeast, SpanAnswer, Starts, HasSpan, IsStart, IsLongestFrom, starts_to, AllBegin, NextStart, NoneIn, Table, Matches, NotFound, SomeFound, Matches-forward, Matches-within, Region, Seeking, least_less, least_both, least_since, Kept, Begins, AllMarked, ends_shown, IsKept, CeasesAt, all_of, ReachesEnd, LooksFrom, owed_kept, search_cost, Searched, root_of}
+use Rattle.sedpass.proofs.Words.{cases_lt, ◌≡◌, ℕ, zero, suc, ◌+◌, ◌-◌, ◌*◌, ◌/◌, ◌<◌, ◌≤◌, ◌↔◌, false, max, List, length, Option, Some, None, IsTrue, inl, inr, refl, sym, ap, true≢false, arith, mul-le-mul_left, IfSome, rules, mul-div-le, mul-le-mul_right, mul-sub, IsArena, WrittenExpression, expression_tree, Tree, TakesAtLeast, SpanAnswer, Starts, HasSpan, IsStart, IsLongestFrom, starts_to, Narrowed, NoneIn, Table, Matches, NotFound, SomeFound, Matches-forward, Matches-within, Region, Seeking, least_less, least_both, least_since, Kept, AllMarked, ends_shown, IsKept, CeasesAt, all_of, ReachesEnd, LooksFrom, owed_after_search, owed_kept, owed_seeking, search_cost, Searched, root_of}
 use Rattle.sedpass.proofs.OwedLemmas.{owed_small}
 use Rattle.sedpass.proofs.LeaveLemmas.{CanLeave-last, last-leaves, reaches_ends}
 use Rattle.sedpass.proofs.MeetingLemmas.{stops_at}
@@ -57,6 +57,23 @@ pub kept_cost : (m n from start stop s0 s1 s2 s3 o0 o1 o2 : ℕ) → 1 ≤ m →
     s3 + (o2 + 36 * m * start) ≤ s2 + (o1 + 36 * m * (stop + 1)) → s3 + (o2 + 42 * m * (n - stop)) ≤ s0 + (o0 + 42 * m * (n - from) + 42 * m)
 kept_cost m n from start stop s0 s1 s2 s3 o0 o1 o2 some low on within seek null cut = grind (arith, mul-sub, mul-le-mul_right (start - from) some)
 
+-- what is owed while trials are made, and once they are given up
+pub owed_trying : (m n place : ℕ) (s : Seeking) → s.tried ≤ n → owed_seeking m n s place ≡ 40 * m * (2 * n + 1 - s.tried) + 142 * m * (n - place)
+owed_trying m n place s few = search rules
+
+pub owed_given_up : (m n place : ℕ) (s : Seeking) → n < s.tried → owed_seeking m n s place ≡ owed_kept m n s.kept.region place
+owed_given_up m n place s many = search rules
+
+pub owed_kept_few : (m n : ℕ) (r : Region) (place : ℕ) → r.end ≤ n → owed_kept m n r place ≤ 142 * m * (n - place)
+owed_kept_few m n r place inside = omega (arith, owed_small m r place, mul-sub, mul-le-mul_left m inside)
+
+pub owed_either : (m n place : ℕ) (s : Seeking) → s.kept.region.end ≤ n → owed_seeking m n s place ≤ 40 * m * (2 * n + 1 - s.tried) + 142 * m * (n - place)
+owed_either m n place s inside = grind (arith, owed_trying m n place s, owed_given_up m n place s, owed_kept_few m n s.kept.region place inside)
+
+pub owed_later : (m n : ℕ) (s : Seeking) (r : Option (ℕ × ℕ)) → n < s.tried → owed_after_search (owed_seeking m n s) r ≡ owed_after_search (λ q. owed_kept m n s.kept.region q) r
+owed_later m n s None many = refl
+owed_later m n s (Some f) many = owed_given_up m n f.1 s many
+
 -- the places that trials went over, as those that are left for them
 pub tried_left : (m n tried tried' s t a b : ℕ) → tried ≤ n → tried' ≤ 2 * n + 1 → t + (40 * m * tried + a) ≤ s + (40 * m * tried' + b) → t + (40 * m * (2 * n + 1 - tried') + a) ≤ s + (40 * m * (2 * n + 1 - tried) + b)
 tried_left m n tried tried' s t a b few few' pays = omega (arith, mul-sub, mul-le-mul_left m few, mul-le-mul_left m few')
@@ -77,22 +94,44 @@ pub trials_each : (m n from room to tried s t : ℕ) → 1 ≤ m → from ≤ n 
 trials_each m n from room to tried s t some low within few pays =
     omega (arith, few_tried m n (n + 1 - from) tried room few, mul-sub m n from, mul-sub m (n + 1) from, mul-le-mul_right (n - from) some, mul-le-mul_left m low)
 
-pub tired_each : (m n from k tried tried' s t1 t2 : ℕ) → 1 ≤ m → from < k → k ≤ n → tried' ≤ max tried (n / 8) + (n + 1 - from) → t1 + (40 * m * tried + 3 * from) ≤ s + (40 * m * tried' + 3 * k) →
+kept_search : (m n from : ℕ) → 142 * m * (n - from) + 42 * m ≤ search_cost m n from
+kept_search m n from = search rules
+
+pub tired_each : (m n from k tried tried' s t1 t2 : ℕ) → 1 ≤ m → from ≤ k → (k ≡ from → tried' ≡ tried) → k ≤ n → tried' ≤ max tried (n / 8) + (n + 1 - from) → t1 + (40 * m * tried + 3 * from) ≤ s + (40 * m * tried' + 3 * k) →
     t2 ≤ t1 + (142 * m * (n - k) + 42 * m) → t2 ≤ s + search_cost m n from
-tired_each m n from k tried tried' s t1 t2 some low within few pays more =
-    omega (arith, few_tried m n (n + 1 - from) tried tried' few, mul-sub m n from, mul-sub m (n - from) 1, mul-sub m (n + 1) from, mul-sub m n k, mul-le-mul_right (k - from) some, mul-sub m k from, mul-le-mul_left m low, mul-le-mul_left m within)
+tired_each m n from k tried tried' s t1 t2 some low none within few pays more = elim (cases_lt from k) [
+  | inl on ↦ omega (arith, few_tried m n (n + 1 - from) tried tried' few, mul-sub m n from, mul-sub m (n - from) 1, mul-sub m (n + 1) from, mul-sub m n k, mul-le-mul_right (k - from) some, mul-sub m k from, mul-le-mul_left m on, mul-le-mul_left m within)
+  | inr same ↦
+      let at : k ≡ from = omega arith in
+      let first : t1 ≤ s = omega (arith, ap (λ v. 40 * m * v) (none at)) in
+      omega (arith, first, ap (λ v. 142 * m * (n - v)) at, kept_search m n from)
+]
+
+-- trials over the places up to k, and the pass from the text's end from there on
+pub tired_cost : (m n from k tried' s t u after : ℕ) (r : Option (ℕ × ℕ)) (old : Seeking) → 1 ≤ m → from ≤ k → k ≤ n → old.kept.region.end ≤ n → (n < old.tried → k ≡ from) → (k ≡ from → tried' ≡ old.tried) → (old.tried ≤ n → tried' ≤ 2 * n + 1) →
+    t + (40 * m * old.tried + 3 * from) ≤ s + (40 * m * tried' + 3 * k) → u + after ≤ t + (owed_kept m n old.kept.region k + 42 * m) → u + after ≤ s + (owed_seeking m n old from + 43 * m)
+tired_cost m n from k tried' s t u after r old some low within inside enough none few pays more = elim (cases_lt n old.tried) [
+  | inl over ↦
+      let at : k ≡ from = enough over in
+      let first : t ≤ s = omega (arith, pays, ap (λ v. 40 * m * v) (none at)) in
+      rw (owed_given_up m n from old over) (omega (arith, first, ap (λ v. owed_kept m n old.kept.region v) at, more))
+  | inr le ↦
+      let left = tried_left m n old.tried tried' s t (3 * from) (3 * k) le (few le) pays in
+      rw (owed_trying m n from old le)
+      (omega (arith, more, owed_kept_few m n old.kept.region k inside, left, mul-sub m n from, mul-sub m n k, mul-le-mul_left m low, mul-le-mul_left m within, mul-le-mul_right (k - from) some, mul-sub m k from))
+]
 
 -- of one by a pass from the text's end alone
 pub kept_each : (m n : ℕ) (r : Region) (from s t after : ℕ) → r.end ≤ n → t + after ≤ s + (owed_kept m n r from + 42 * m) → t ≤ s + (142 * m * (n - from) + 42 * m)
-kept_each m n r from s t after inside pays = omega (arith, owed_small m r from, mul-sub, mul-le-mul_left m inside)
+kept_each m n r from s t after inside pays = omega (arith, owed_kept_few m n r from inside)
 
 -- of a search in a text, by its length
 pub search_long : (m n from : ℕ) → search_cost m n from ≤ m * (192 * n + 48)
 search_long m n from = search rules
 
--- the first place at which one can begin is as good as one before it
-pub some_from : (e : Tree) (w : List ℕ) (begins : Begins) (from start : ℕ) → AllBegin e begins → NextStart begins w from (Some start) → SomeFound e w start ↔ SomeFound e w from
-some_from e w begins from start all next = search rules
+-- a place before which none begins is as good as one before it
+pub some_from : (e : Tree) (w : List ℕ) (from start : ℕ) → Narrowed e w from (Some start) → SomeFound e w start ↔ SomeFound e w from
+some_from e w from start narrowed = search rules
 
 -- the match from a place on, where none begins before another
 pub later_answer : (e : Tree) (w : List ℕ) (from k : ℕ) (r : Option (ℕ × ℕ)) → from ≤ k → NoneIn e w from k → SpanAnswer e w k r → SpanAnswer e w from r

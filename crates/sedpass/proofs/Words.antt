@@ -38,7 +38,7 @@ pub use Rattle.sedtext.proofs.NodeLemmas.{node_at, parts_below, size-parts, size
 pub use Rattle.sedtext.proofs.ReachLemmas.{BeginsWith-part, Enters-from, Enters-inside, Enters-part, Enters-root, FromNode, close_at, open_at, same_node, star_copies, takes_some}
 pub use Rattle.sedtext.proofs.SpanLemmas.{CopiesLead-append, CopiesLead-forward, CopiesLead-last, Matches-forward, Matches-within}
 pub use Rattle.sedtext.specs.Answer.{SpanAnswer}
-pub use Rattle.sedtext.specs.Beginnings.{AllBegin, NextStart, NoneIn}
+pub use Rattle.sedtext.specs.Hints.{Narrowed, NoneIn}
 pub use Rattle.sedtext.specs.Caps.{Captures, IsReport, LastCopy, LastCut, only, then_copy}
 pub use Rattle.sedtext.specs.Following.{LooksPast}
 pub use Rattle.sedtext.specs.Groups.{SpansOfGroups, deeper, forget, group_depth, no_groups}
@@ -49,7 +49,6 @@ pub use Rattle.sedtext.specs.Places.{Ascending, IsPlace, takes_any}
 pub use Rattle.sedtext.specs.Reach.{BeginsWith, CanEnd, Enters, HasSpan, IsLongestFrom, IsStart, Marked, PartFrom, SomeSpan, Starts, after_left, again, at_root, one_start, starts_to, with_whole}
 pub use Rattle.sedtext.specs.Spans.{CopiesLead, Matches, NotFound, SomeFound, no_copy, one_more}
 pub use Rattle.sedtext.specs.Words.{AgreeBelow, KeepsRows, row_of}
-pub use Rattle.sedtext.specs.declared.beginnings.Begins.{Begins}
 pub use Rattle.sedpass.specs.Classes.{IsFiner, IsNumbering}
 pub use Rattle.sedpass.specs.Decide.{AreTables, EndsRegion, HasBlank, HasDesk, HasNoKnownLength, HasSpace, IsAtEnd, IsCopyFrom, IsTaskReady, IsTurn, KeepsGroupDesk, KeepsGroupRoom, LooksAt, NodeMatches, NodeTurned, NoneSettled, Works, entered_at, flags_of, known_groups, match_cost, nodes_in, region_cost, spans_in, subject_text, task_cost, tasks_after, tasks_cost, then_cost, weights}
 pub use Rattle.sedpass.specs.Forwards.{Arrives, EndsBelow, IsPassEnd, LastBelow, PassIs, is_over, starts_of}
@@ -57,7 +56,7 @@ pub use Rattle.sedpass.specs.Kept.{AllMarked, ComesDown, EdgesFrom, Follows, IsE
 pub use Rattle.sedpass.specs.Prepared.{AreFacts, IsFacts, IsShort, holds, is_one_set, length_of, null_at, null_in, nullable, repeated_set, reported, same_of, sum_of}
 pub use Rattle.sedpass.specs.Regions.{CanLeave, CeasesAt, EndsPastIn, EndsWith, IsLastIn, IsLastPart, IsRunOf, IsSetAt, MeetsAt, ReachesEnd, all_of, at_end, before_copies, before_right, in_group, last_of, repeated, with_end}
 pub use Rattle.sedpass.specs.Rows.{AreNull, AreWide, EndKept, InTree, IsApart, IsNodeRange, LeafAt, RowOfPlace, SameBytes, ShowTook, Took, at_begin, at_edge, bits, ended_by, ends_row, is_tree, leaves_row, nodes_of, part_of, root_of}
-pub use Rattle.sedpass.specs.Search.{LooksFrom, Searched, owed_kept, search_cost}
+pub use Rattle.sedpass.specs.Search.{LooksFrom, Searched, owed_after_search, owed_kept, owed_seeking, search_cost}
 pub use Rattle.sedpass.specs.Table.{AddsStates, BeginsIn, Codes, FlagsShow, HasNewRow, HasRoom, HasRows, IsColumn, IsForwardOne, IsLayout, IsMade, IsNext, IsOffset, IsRoomy, IsTable, LeadsBy, LeadsOn, MayBegin, NamesState, PassState, SameRoom, SameShape, beginning_at, beginning_of, cell_of, code_of, column_at, kind_number, state_of}
 pub use Rattle.sedpass.specs.Walks.{EntersGroups, GroupIsIn, GroupState, IsFirstState, NoneDue, WalkEnters, drop_groups, has_group, is_due, settle}
 pub use Rattle.sedpass.specs.declared.cells.Layout.{Layout}

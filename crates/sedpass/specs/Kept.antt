@@ -63,7 +63,6 @@ pub record IsRegion (e : WrittenExpression) (w : List ℕ) (t : Table) (k : Kept
   pub whole : IsTrue t.way.all_starts → k.region.end ≡ length w
   pub inside : k.region.end ≤ length w
   pub within : k.region.to ≤ k.region.end
-  pub long : length w < length k.states.items
 
 -- the edges of the blocks that end after a place are kept
 abbrev pub EdgesFrom : WrittenExpression → List ℕ → Table → Kept → ℕ → Type 0
@@ -79,6 +78,7 @@ pub record PassesDownTo (e : WrittenExpression) (w : List ℕ) (t : Table) (k : 
   pub region : IsRegion e w t k
   pub within : place ≤ k.region.end
   pub above : place ≤ k.region.to
+  pub long : length w < length k.states.items
   pub there : IsOffset t offset
   pub at : KeptAt e w t.way.all_starts k.region.root k.region.end place (state_of (length e.nodes) t (offset / 2 ^ t.layout.shift))
   pub live : LiveFrom e w t k place
@@ -110,6 +110,7 @@ pub record IsKept (e : WrittenExpression) (w : List ℕ) (t : Table) (k : Kept) 
   pub region : IsRegion e w t k
   pub low : k.region.low ≤ k.region.from
   pub from : k.region.from ≤ k.region.end
+  pub long : k.region.low < k.region.end → length w < length k.states.items
   pub live : LiveFrom e w t k k.region.from
   pub edges : EdgesFrom e w t k k.region.low
 

@@ -4,8 +4,7 @@ use Rattle.std.specs.Prelude.{◌≡◌, ℕ, ◌+◌, ◌-◌, ◌*◌, ◌≤�
 use Rattle.std.specs.Int.{bit_at, from_bool}
 use Rattle.sedre.specs.Tree.{Tree, byte_of, text_begin, text_end, sequence, either_of, grouped, any_copies, WrittenExpression, expression_tree, tree_at, null_string, one_or_none, size}
 use Rattle.sedre.specs.declared.types.Node.{Node}
-use Rattle.sedtext.specs.Beginnings.{AllBegin}
-use Rattle.sedtext.specs.Required.{IsRequired}
+use Rattle.sedtext.specs.Hints.{AreHints}
 use Rattle.sedpass.specs.Classes.{AreClasses}
 use Rattle.sedpass.specs.declared.nodes.Facts.{Facts}
 use Rattle.sedpass.specs.declared.nodes.Analysis.{Analysis}
@@ -93,5 +92,4 @@ pub record IsAnalysis (e : WrittenExpression) (f : Analysis) : Type 0 where
   pub all : length f.facts.items ≡ length e.nodes
   pub facts : AreFacts e.nodes f.facts.items
   pub classes : AreClasses e.nodes f.classes.of f.classes.count
-  pub begins : AllBegin (expression_tree e) f.begins
-  pub required : IsRequired (expression_tree e) f.required
+  pub hints : AreHints (expression_tree e) f.hints

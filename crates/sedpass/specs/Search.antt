@@ -1,13 +1,13 @@
 -- Private to the proofs: no contract that `sedmatch` makes public cites what is here.
 -- Searches in one text, from places that don't fall: what they find, and what they may cost.
-use Rattle.std.specs.Prelude.{ℕ, max, ◌+◌, ◌-◌, ◌*◌, ◌/◌, ◌<◌, ◌≤◌, if◌then◌else◌, List, length, Option, Some, None, IfSome, IsTrue}
+use Rattle.std.specs.Prelude.{◌≡◌, ℕ, max, nat_le, ◌+◌, ◌-◌, ◌*◌, ◌/◌, ◌<◌, ◌≤◌, if◌then◌else◌, List, length, Option, Some, None, IfSome, IsTrue}
 use Rattle.sedre.specs.Tree.{expression_tree, Tree, WrittenExpression}
 use Rattle.sedre.specs.Steps.{TakesAtLeast, CostsWithin}
 use Rattle.sedtext.specs.Answer.{SpanAnswer}
-use Rattle.sedtext.specs.Beginnings.{NoneIn}
+use Rattle.sedtext.specs.Hints.{NoneIn}
 use Rattle.sedtext.specs.Spans.{IsLeftmostLongest, NotFound}
-use Rattle.sedpass.specs.Table.{IsForwardOne, IsTable, SameShape}
-use Rattle.sedpass.specs.Kept.{IsKept, KeptRoom, SameSpace, owed_region}
+use Rattle.sedpass.specs.Table.{IsForwardOne, SameShape}
+use Rattle.sedpass.specs.Kept.{IsKept, SameSpace, owed_region}
 use Rattle.sedpass.specs.declared.table.Table.{Table}
 use Rattle.sedpass.specs.declared.kept.Kept.{Kept}
 use Rattle.sedpass.specs.declared.kept.Region.{Region}
@@ -15,12 +15,10 @@ use Rattle.sedpass.specs.declared.search.Seeking.{Seeking}
 use Rattle.sedpass.specs.declared.search.Trials.{Trials}
 use Rattle.sedpass.specs.declared.search.Trials.TheVariants.{Hit, Nothing, Tired}
 
--- there is room for a pass from the text's end, and what is kept of it is right if it was begun
+-- what is kept of a pass from the text's end is right
 pub record SearchServes (e : WrittenExpression) (w : List ℕ) (reverse_any : Table) (s : Seeking) : Type 0 where
-  pub table : IsTable e reverse_any
-  pub room : KeptRoom (length e.nodes) (length w) reverse_any s.kept
+  pub kept : IsKept e w reverse_any s.kept
   pub all_starts : IsTrue reverse_any.way.all_starts
-  pub kept : IsTrue s.begun → IsKept e w reverse_any s.kept
 
 -- a search may be made: the table of passes forwards is right, and what is kept serves
 pub record MaySearch (e : WrittenExpression) (w : List ℕ) (a b : Table) (s : Seeking) : Type 0 where
@@ -44,7 +42,7 @@ pub record Searched (e : WrittenExpression) (w : List ℕ) (a a' b b' : Table) (
 abbrev pub TrialsAnswer : Tree → List ℕ → ℕ → Trials → Type 0
 TrialsAnswer e w from (Hit i j) = IsLeftmostLongest e w from i j × (j ≤ length w)
 TrialsAnswer e w from Nothing = NotFound e w from
-TrialsAnswer e w from (Tired k) = (from < k) × (k ≤ length w) × NoneIn e w from k
+TrialsAnswer e w from (Tired k) = (from ≤ k) × (k ≤ length w) × NoneIn e w from k
 
 -- each byte from the place on up to a match's end was looked at, and one look more was made
 abbrev pub LooksFrom : ℕ → ℕ → ℕ → Option (ℕ × ℕ) → Type 0
@@ -75,12 +73,15 @@ abbrev pub trials_room : ℕ → Trials → ℕ
 trials_room tried (Hit i j) = tried + (j + 1 - i)
 trials_room tried other = tried
 
--- trials from the place on found this: in so many steps, and over so many places in no match, before and after
+-- trials from the place on found this: in so many steps, and over so many places in no match, before and after; none is made where they
+-- went over more places than the text has
 pub record TrialsMade (e : Tree) (w : List ℕ) (m from tried tried' before after : ℕ) (r : Trials) : Type 0 where
   pub answer : TrialsAnswer e w from r
   pub few : trials_room tried' r ≤ max tried (length w / 8) + (length w + 1 - from)
   pub cost : CostsWithin before after (40 * m * trials_room tried' r + 3 * trials_to (length w) r) (40 * m * tried + 3 * from)
   pub counts : LooksInTrials from before after r
+  pub enough : length w < tried → r ≡ Tired from
+  pub none : r ≡ Tired from → tried' ≡ tried
 
 -- of one search from a place on, whatever was found out before it: by a pass from the text's end over the rest of the text, or by
 -- trials over that rest and an eighth of the text besides, and by such a pass after them, from a later place on
@@ -94,7 +95,7 @@ owed_kept m n r place = owed_region m r place + 42 * m * (n - place)
 -- by that or by trials,
 abbrev pub owed_seeking : ℕ → ℕ → Seeking → ℕ → ℕ
 owed_seeking m n s place =
-    if s.begun then owed_kept m n s.kept.region place else 40 * m * (2 * n + 1 - s.tried) + 142 * m * (n - place)
+    if nat_le s.tried n then 40 * m * (2 * n + 1 - s.tried) + 142 * m * (n - place) else owed_kept m n s.kept.region place
 
 -- and after an answer: none where there is no match
 abbrev pub owed_after_search : (ℕ → ℕ) → Option (ℕ × ℕ) → ℕ

@@ -267,8 +267,12 @@ fn turn_node(
         }
         // The left alternative, if it matches, and else the right one.
         Node::Alt(a, b) => {
-            let left = a.index();
-            let spans = kept.spans(subject, &mut tables.reverse_one, left, here.start, steps);
+            let (left, reverse_one) = (a.index(), &mut tables.reverse_one);
+            let spans = if here.start == here.stop {
+                subject.is_null(left, here.start, steps)
+            } else {
+                kept.marks(subject, reverse_one, left, here.start, steps)
+            };
             let node = if spans { *a } else { *b }.index();
             Then::One(Matched { node, ..here })
         }

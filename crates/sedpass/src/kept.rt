@@ -8,7 +8,7 @@ ghost use Rattle.sedre.specs.Steps.{CostsWithin, Takes, TakesAtLeast, TakesExact
 ghost use Rattle.sedtext.specs.Places.{Ascending};
 ghost use Rattle.sedtext.specs.Reach.{HasSpan, one_start};
 ghost use Rattle.sedtext.specs.Words.{row_of};
-ghost use Rattle.sedpass.specs.Regions.{CeasesAt, IsLastIn, MeetsAt, ReachesEnd};
+ghost use Rattle.sedpass.specs.Regions.{CeasesAt, MeetsAt, ReachesEnd};
 ghost use Rattle.sedpass.specs.Table.{AddsStates, IsForwardOne, IsOffset, IsTable, MayBegin, SameShape, state_of};
 ghost use Rattle.sedpass.specs.Kept.{AllMarked, ComesDown, Follows, IsEdge, IsKept, IsRegion, KeepsRegion, KeptAt, KeptRoom, Meet, PassesDownTo, SameSpace, again, ends_shown, owed_region};
 
@@ -100,11 +100,6 @@ impl Kept {
         ensures owed { (i : ℕ) → i ≤ end → owed_region (length subject.entry.prepared.now.nodes) self.new.region i
             ≤ 100 * length subject.entry.prepared.now.nodes * (end - i) }
     {
-        let length = subject.text.len();
-        let states = &mut self.states;
-        while states.len() <= length {
-            states.push_reserved(0);
-        }
         self.region = Region {
             root,
             end,
@@ -112,6 +107,18 @@ impl Kept {
             from: end,
             to: end,
         };
+    }
+
+    /// Sees to it that there is a number of a state for each place of a text of so many bytes.
+    fn grow(&mut self, bytes: usize)
+        requires { bytes < vec_capacity self.old.states }
+        ensures long { bytes < length self.new.states.items }
+        ensures capacity { vec_capacity self.new.states ≡ vec_capacity self.old.states }
+        ensures same { (self.new.region ≡ self.old.region) × (self.new.edges ≡ self.old.edges) }
+    {
+        while self.states.len() <= bytes {
+            self.states.push_reserved(0);
+        }
     }
 
     /// Goes back from a place to another, and keeps the states; gives where the last one's cells begin.
@@ -203,6 +210,7 @@ impl Kept {
     {
         let nodes = subject.prepared.nodes();
         let end = self.region.end;
+        self.grow(subject.text.len());
         let mut offset = self.edge_state(subject, table, 0, end, steps);
         self.region.to = end;
         let mut place = end;
@@ -288,31 +296,6 @@ impl Kept {
         self.ready(subject, table, place, steps);
         let ends = ends_row(self.states[place] as usize);
         table.rows.get(ends, x, steps)
-    }
-
-    /// Whether a node x that is last in the region matches from a place up to the region's end.
-    pub fn spans(
-        &mut self,
-        subject: Subject,
-        table: &mut Table,
-        x: usize,
-        place: usize,
-        steps: &mut Steps,
-    ) -> bool
-        requires kept { IsKept subject.prepared.now subject.text.now table.old self.old }
-        requires all_starts { table.old.way.all_starts ≡ false }
-        requires last { IsLastIn subject.prepared.now.nodes self.old.region.root x }
-        requires place { place ≤ self.old.region.end }
-        ensures keeps { KeepsRegion subject.entry.prepared.now subject.entry.text.now table.old table.new self.old self.new }
-        ensures spans { IsTrue result ↔ HasSpan subject.entry.prepared.now.nodes subject.entry.text.now x place self.old.region.end }
-        ensures cost { let m = length subject.entry.prepared.now.nodes in
-            CostsWithin steps.old steps.new (owed_region m self.old.region place + 1) (owed_region m self.new.region place) }
-        ensures counts { TakesAtLeast steps.old steps.new 1 }
-    {
-        if place == self.region.end {
-            return subject.is_null(x, place, steps);
-        }
-        self.marks(subject, table, x, place, steps)
     }
 
     /// The first place from one on at which the node x is marked, or isn't, as asked; the region's end where there is none

@@ -6,8 +6,7 @@ ghost use Rattle.sedre.specs.Tree.{expression_tree, tree_at, tree_of, Tree, any_
 ghost use Rattle.sedre.specs.Mirror.{node_seen, seen};
 ghost use Rattle.sedre.specs.Packed.{PartsBelow};
 ghost use Rattle.sedre.specs.Steps.{Takes, TakesExactly, TakesAtLeast};
-ghost use Rattle.sedtext.specs.Beginnings.{AllBegin};
-ghost use Rattle.sedtext.specs.Required.{IsRequired};
+ghost use Rattle.sedtext.specs.Hints.{AreHints};
 ghost use Rattle.sedpass.specs.Classes.{AreClasses};
 ghost use Rattle.sedpass.specs.Prepared.{IsAnalysis, holds, IsFacts, AreFacts, IsShort, is_one_set, null_at, null_in, sum_of, same_of};
 ghost use Rattle.sedpass.specs.Regions.{IsRunOf, IsSetAt};
@@ -16,8 +15,7 @@ ghost use Rattle.sedpass.specs.Rows.{IsNodeRange, root_of};
 use crate::classes::{Classes, classes_of};
 use crate::group_set::GroupSet;
 use sedre::{Expr, Node, NodeId, Steps};
-use sedtext::beginnings::Begins;
-use sedtext::required::RequiredLiteral;
+use sedtext::hints::Hints;
 use std::alloc::{AllocError, Global};
 use std::marker::Model;
 
@@ -198,10 +196,8 @@ pub struct Analysis {
     pub facts: Vec<Facts>,
     /// Classes of bytes: those of one class are in the same sets.
     pub classes: Classes,
-    /// How its matches begin.
-    pub begins: Begins,
-    /// A literal that they contain, where one is known.
-    pub required: Option<RequiredLiteral>,
+    /// What is known of its matches.
+    pub hints: Hints,
 }
 
 impl Analysis {
@@ -212,12 +208,11 @@ impl Analysis {
         Ok(Analysis {
             facts: Vec::with_capacity(alloc, nodes)?,
             classes: classes_of(&[]),
-            begins: Begins::Anyhow,
-            required: None,
+            hints: Hints::none(),
         })
     }
 
-    /// Finds out what passes need, by a look at each node. Of how matches begin and what they contain nothing is known then.
+    /// Finds out what passes need, by a look at each node. Of its matches nothing is known then.
     #[tactic(auto, using(sedtext::proofs::NodeLemmas::parts_below), unfolding(sedre::specs::Steps::TakesAtLeast, sedre::specs::Steps::IsCounted))]
     pub fn fit(&mut self, expr: &Expr, steps: &mut Steps)
         requires room { length expr.now.nodes ≤ vec_capacity self.old.facts }
@@ -234,8 +229,7 @@ impl Analysis {
             self.facts.push_reserved(next);
         }
         self.classes = classes_of(expr.sets());
-        self.begins = Begins::Anyhow;
-        self.required = None;
+        self.hints = Hints::none();
     }
 }
 
@@ -300,18 +294,11 @@ impl<'a> Prepared<'a> {
         &self.analysis.classes
     }
 
-    /// How matches begin.
-    pub fn begins(&self) -> &Begins
-        ensures { AllBegin (expression_tree self.now) result.now }
+    /// What is known of its matches.
+    pub fn hints(&self) -> &Hints
+        ensures { AreHints (expression_tree self.now) result.now }
     {
-        &self.analysis.begins
-    }
-
-    /// A literal that all matches contain, where one is known.
-    pub fn required(&self) -> &Option<RequiredLiteral>
-        ensures { IsRequired (expression_tree self.now) result.now }
-    {
-        &self.analysis.required
+        &self.analysis.hints
     }
 
     /// The node of an index, as it is or mirrored. Counts one look.

@@ -2,27 +2,27 @@
 //!
 //! A trial is a pass from one place at which a match can begin. Where trials went over many places that are in no match, a pass
 //! from the text's end is kept for the rest of the text: it shows where matches begin, and how far one leads.
-ghost use Rattle.std.specs.Prelude.{◌≡◌, false, ◌+◌, ◌-◌, ◌*◌, ◌≤◌, length, if◌then◌else◌, IsTrue};
+ghost use Rattle.std.specs.Prelude.{◌≡◌, ◌+◌, ◌-◌, ◌*◌, ◌≤◌, eqb, length, if◌then◌else◌, IsTrue};
 ghost use Rattle.sedtext.specs.Answer.{SpanAnswer};
 ghost use Rattle.sedre.specs.Steps.{CostsWithin, Takes};
 ghost use Rattle.sedre.specs.Tree.{expression_tree};
 ghost use Rattle.sedpass.specs.Table.{IsForwardOne, IsTable, SameShape};
-ghost use Rattle.sedpass.specs.Kept.{IsKept, KeptRoom};
+ghost use Rattle.sedpass.specs.Kept.{IsKept, KeptRoom, SameSpace};
 ghost use Rattle.sedpass.specs.Search.{IsNextMatch, LooksFrom, MaySearch, Searched, SearchServes, TablesStay, TrialsMade, owed_behind, owed_kept, owed_seeking, owed_after_search, search_cost};
 
 use crate::kept::{Kept, Subject};
 use crate::table::Table;
 use sedre::Steps;
-use sedtext::beginnings::next_start;
+
+/// More places than any text has: trials are given up.
+const GIVEN_UP: usize = usize::MAX;
 
 /// How the searches in one text go on.
 #[derive(Drop)]
 pub struct Seeking {
     /// The pass from the text's end.
     pub kept: Kept,
-    /// Whether that pass was begun.
-    pub begun: bool,
-    /// How many places the trials in this text went over that are in no match.
+    /// How many places the trials in this text went over that are in no match; `usize::MAX` once that pass is used.
     pub tried: usize,
 }
 
@@ -31,16 +31,16 @@ pub fn begin_text(subject: Subject, reverse_any: &Table, seeking: &mut Seeking)
     requires table { IsTable subject.prepared.now reverse_any.now }
     requires room { KeptRoom (length subject.prepared.now.nodes) (length subject.text.now) reverse_any.now seeking.old.kept }
     requires all_starts { IsTrue reverse_any.now.way.all_starts }
-    ensures kept { seeking.new.kept ≡ seeking.old.kept }
-    ensures begun { seeking.new.begun ≡ false }
-    ensures tried { seeking.new.tried ≡ if seeking.old.begun then length subject.entry.text.now else 0 }
+    ensures space { SameSpace seeking.old.kept seeking.new.kept }
+    ensures tried { seeking.new.tried ≡ if eqb seeking.old.tried 18446744073709551615 then length subject.entry.text.now else 0 }
     ensures serves { SearchServes subject.entry.prepared.now subject.entry.text.now reverse_any.now seeking.new }
     ensures owed { let m = length subject.entry.prepared.now.nodes in let n = length subject.entry.text.now in
         owed_behind m n seeking.new 0 + 43 * m ≤ 308 * m * (n + 1) }
 {
+    let (root, length) = (subject.prepared.root(), subject.text.len());
+    seeking.kept.begin(subject, reverse_any, root, length);
     // what was left to a pass in the text before is left to it here after one trial
-    seeking.tried = if seeking.begun { subject.text.len() } else { 0 };
-    seeking.begun = false;
+    seeking.tried = if seeking.tried == GIVEN_UP { length } else { 0 };
 }
 
 /// What trials found.
@@ -64,15 +64,18 @@ fn try_all(
 ) -> Trials
     requires from { from ≤ length subject.text.now }
     requires forward_one { IsForwardOne subject.prepared.now forward_one.old }
-    requires tried { tried.old ≤ length subject.text.now }
     ensures forward_one { IsForwardOne subject.entry.prepared.now forward_one.new }
     ensures forward_one_shape { SameShape forward_one.old forward_one.new }
     ensures made { TrialsMade (expression_tree subject.entry.prepared.now) subject.entry.text.now (length subject.entry.prepared.now.nodes) from tried.old tried.new steps.old steps.new result }
 {
-    let length = subject.text.len();
-    let mut start = from;
+    let (length, hints) = (subject.text.len(), subject.prepared.hints());
+    // all places for the first trial, an eighth of them for others
+    let (mut start, mut most) = (from, length);
     while start <= length {
-        let Some(first) = next_start(subject.prepared.begins(), subject.text, start, steps) else {
+        if *tried > most {
+            return Trials::Tired(start);
+        }
+        let Some(first) = hints.next_start(subject.text, start, steps) else {
             return Trials::Nothing;
         };
         let passed = forward_one.run(subject.prepared, subject.text, first, steps);
@@ -82,14 +85,12 @@ fn try_all(
         }
         *tried += passed.place + 1 - first;
         start = first + 1;
-        if start <= length && *tried > length / 8 {
-            return Trials::Tired(start);
-        }
+        most = length / 8;
     }
     Trials::Nothing
 }
 
-/// The match from a place on, by the pass from the text's end, which was begun.
+/// The match from a place on, by the pass from the text's end.
 pub fn next_kept(
     subject: Subject,
     forward_one: &mut Table,
@@ -119,35 +120,6 @@ pub fn next_kept(
     Some((start, end))
 }
 
-/// The match from a place on, by the pass from the text's end, which is begun unless it was.
-fn next_begun(
-    subject: Subject,
-    forward_one: &mut Table,
-    reverse_any: &mut Table,
-    seeking: &mut Seeking,
-    from: usize,
-    steps: &mut Steps,
-) -> Option<(usize, usize)>
-    requires from { from ≤ length subject.text.now }
-    requires ready { MaySearch subject.prepared.now subject.text.now forward_one.old reverse_any.old seeking.old }
-    ensures searched { Searched subject.entry.prepared.now subject.entry.text.now forward_one.old forward_one.new reverse_any.old reverse_any.new seeking.old seeking.new }
-    ensures answer { SpanAnswer (expression_tree subject.entry.prepared.now) subject.entry.text.now from result }
-    ensures cost { let m = length subject.entry.prepared.now.nodes in let n = length subject.entry.text.now in
-        CostsWithin steps.old steps.new (owed_seeking m n seeking.old from + 43 * m) (owed_after_search (owed_seeking m n seeking.new) result) }
-    ensures each { let m = length subject.entry.prepared.now.nodes in
-        Takes steps.old steps.new (142 * m * (length subject.entry.text.now - from) + 42 * m) }
-    ensures counts { LooksFrom from steps.old steps.new result }
-{
-    if !seeking.begun {
-        let length = subject.text.len();
-        seeking.begun = true;
-        let root = subject.prepared.root();
-        seeking.kept.begin(subject, reverse_any, root, length);
-    }
-    let kept = &mut seeking.kept;
-    next_kept(subject, forward_one, reverse_any, kept, from, steps)
-}
-
 /// The leftmost of the longest matches that begin at a place or later. For one text the places don't fall from call to call.
 pub fn next_match(
     subject: Subject,
@@ -166,14 +138,13 @@ pub fn next_match(
     ensures each { Takes steps.old steps.new (search_cost (length subject.entry.prepared.now.nodes) (length subject.entry.text.now) from) }
     ensures counts { LooksFrom from steps.old steps.new result }
 {
-    if seeking.begun || seeking.tried > subject.text.len() {
-        return next_begun(subject, forward_one, reverse_any, seeking, from, steps);
-    }
     match try_all(subject, forward_one, from, &mut seeking.tried, steps) {
         Trials::Hit(first, end) => Some((first, end)),
         Trials::Nothing => None,
         Trials::Tired(later) => {
-            next_begun(subject, forward_one, reverse_any, seeking, later, steps)
+            seeking.tried = GIVEN_UP;
+            let kept = &mut seeking.kept;
+            next_kept(subject, forward_one, reverse_any, kept, later, steps)
         }
     }
 }

@@ -1,5 +1,5 @@
 -- Bytes of a set that are sought in what is left of a text.
-use Rattle.sedtext.proofs.Words.{◌+◌, ◌-◌, ◌<◌, ◌||◌, ◌↔◌, ◌∙◌, ◌≡◌, ◌≤◌, ap, AreMembers, arith, Bool, common_steps, drop, Few, FirstFrom, FirstLiteral, get_or-drop}
+use Rattle.sedtext.proofs.Words.{◌+◌, ◌-◌, ◌<◌, ◌||◌, ◌↔◌, ◌∙◌, ◌≡◌, ◌≤◌, ap, AreMembers, arith, Bool, common_steps, drop, Few, FirstFrom, FirstFrom, OccursAt, get_or-drop}
 use Rattle.sedtext.proofs.Words.{get_or_from_slice_get, get_or_past, has, HasFew, IfSome, is_byte, IsFirst, IsFirstByte, IsIn, length, length-drop, length-set_of, List, MemberAt}
 use Rattle.sedtext.proofs.Words.{nat_tests, None, OccursAt, Option, option_map, Passes, slice_get, slice_get-get_or, slice_get_within, slice_index, Some, sym, take, take_rest, union, ℕ}
 
@@ -28,7 +28,7 @@ module _ (w v : List ℕ) (p : ℕ) (same : v ≡ w) (from : p ≤ length w) whe
         λ h. (_, slice_get-get_or w (p + k) 0 (omega (arith, length-rest, h.0)), ap (has set) (sym (rest_at k)) ∙ h.1),
       )) r
 
-  pub literal_behind : (literal : List ℕ) (r : Option ℕ) → IsFirst (OccursAt rest literal) 0 (length rest + 1) r → FirstLiteral w literal p (option_map (λ k. p + k) r)
+  pub literal_behind : (literal : List ℕ) (r : Option ℕ) → IsFirst (OccursAt rest literal) 0 (length rest + 1) r → FirstFrom (OccursAt w literal) p (option_map (λ k. p + k) r)
   literal_behind literal r = first_behind (OccursAt w literal) (OccursAt rest literal) p (length rest + 1) (λ k. grind (arith, common_steps, length-rest, rest_at)) r
 
 -- the members of a set among the first bytes are those gathered

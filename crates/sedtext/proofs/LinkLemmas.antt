@@ -1,6 +1,6 @@
 -- Chains of links, cut and joined, and how a node is taken apart into one; the alternatives with which an expression begins, and the literals that its spans hold.
-use Rattle.sedtext.proofs.Words.{◌++◌, ◌+◌, ◌-◌, ◌<◌, ◌==◌, ◌||◌, ◌↔◌, ◌∙◌, ◌∷◌, ◌≡◌, ◌≤◌, ◌⊎◌, [], All, All-append, All-nil, All-pop, All-push, AllWithin, any_copies, AnyLeads, ap, append-nil, append_assoc, AreAlternatives, AreBranches}
-use Rattle.sedtext.proofs.Words.{arith, Bool, Byte, byte_of, ChainLeads, common_steps, Decides-eqb, drop, drop-cons, Either, false, FirstLiteral, get_or_from_slice_get, Group, has, has-set_of, HasSpan, inl, inr, IsArena, IsContinuation, IsIn}
+use Rattle.sedtext.proofs.Words.{FirstFrom, ◌++◌, ◌+◌, ◌-◌, ◌<◌, ◌==◌, ◌||◌, ◌↔◌, ◌∙◌, ◌∷◌, ◌≡◌, ◌≤◌, ◌⊎◌, [], All, All-append, All-nil, All-pop, All-push, AllWithin, any_copies, AnyLeads, ap, append-nil, append_assoc, AreAlternatives, AreBranches}
+use Rattle.sedtext.proofs.Words.{arith, Bool, Byte, byte_of, ChainLeads, common_steps, Decides-eqb, drop, drop-cons, Either, false, get_or_from_slice_get, Group, has, has-set_of, HasSpan, inl, inr, IsArena, IsContinuation, IsIn}
 use Rattle.sedtext.proofs.Words.{IsLiteral, IsOneByte, IsPart, IsRequired, IsTrue, LeadsFrom, length, length-append, Link, LinkLeads, List, Matches, MemberAt, Narrowed, Node, NodeId, None, OccursAt, Option, or_left, or_right, Other, refl}
 use Rattle.sedtext.proofs.Words.{RequiredLiteral, Requires, Run, Seq, Set, SetRepeats, size, slice_get, slice_get-get_or, slice_get_within, slice_index_or, Some, Star, subst, suc, sym, take, take-append-drop, take_more, Tree, tree_at, Vec, zero, ℕ}
 use Rattle.sedtext.proofs.ReachLemmas.{NodeSpans, open_at, close_at}
@@ -180,9 +180,9 @@ module _ (e : Tree) (w : List ℕ) (p : ℕ) (n : RequiredLiteral) (required : O
   holds = rw is at all
 
   -- a text without the literal has no match
-  pub required_none : (r : Option ℕ) → r ≡ None → FirstLiteral w n.finder p None → Narrowed e w p r
+  pub required_none : (r : Option ℕ) → r ≡ None → FirstFrom (OccursAt w n.finder) p None → Narrowed e w p r
   required_none r missing none = rw missing (λ i k low within s. let h = holds w i k within s in none h.0 (omega (arith, h.1)) h.3)
 
   -- where each match begins with it, none begins before it
-  pub required_first : (place : ℕ) → IsTrue n.is_prefix → FirstLiteral w n.finder p (Some place) → Narrowed e w p (Some place)
+  pub required_first : (place : ℕ) → IsTrue n.is_prefix → FirstFrom (OccursAt w n.finder) p (Some place) → Narrowed e w p (Some place)
   required_first place is_prefix first = (first.0, omega (arith, first.1.fits), λ i k low lt s. grind (arith, first.1.fits, holds w i k, first.2 i))

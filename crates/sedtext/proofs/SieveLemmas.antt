@@ -1,8 +1,8 @@
 -- Where bytes of three sets are, and bytes of one; what the lanes of a vector hold, and the rows of marked bytes.
-use Rattle.sedtext.proofs.Words.{◌%◌, ◌*◌, ◌++◌, ◌+◌, ◌-◌, ◌/◌, ◌<◌, ◌^◌, ◌∙◌, ◌≡◌, ◌≢◌, ◌≤◌, agree_below_at, ap, arith, Before, bit_and, bit_at, bit_at-lt, bit_at-trailing_zeros, bit_at-zero, bit_at_above, bit_at_and, bit_at_or}
+use Rattle.sedtext.proofs.Words.{◌%◌, ◌*◌, ◌++◌, ◌+◌, ◌-◌, ◌/◌, ◌<◌, ◌^◌, ◌∙◌, ◌≡◌, ◌≢◌, ◌≤◌, agree_below_at, ap, arith, bit_and, bit_at, bit_at-lt, bit_at-trailing_zeros, bit_at-zero, bit_at_above, bit_at_and, bit_at_or}
 use Rattle.sedtext.proofs.Words.{bit_at_set_same, bit_mask_l, bit_or, bitmask_splat, Bool, cases_lt, cond, eqb, eqb-true, FirstFrom, get_or, get_or-map, get_or-replicate, get_or-set_other, get_or-set_same, get_or-swz_l_below, get_or-take}
 use Rattle.sedtext.proofs.Words.{get_or-zip2, get_or_append_left, HasLanes, IfSome, IsIn, IsMarked, length, length-map, length-replicate, length-swz_l, length-take-le, length-zip2, List, map, MarksPlaces, mask_l, mask_l-lt, max, MemberAt}
-use Rattle.sedtext.proofs.Words.{ne_eqb, NextStart, None, NoneBefore, not, Option, PassesSieve, refl, replicate, Sieve, slice_get_within, slice_index, slice_set, Some, swz_l, take, top, trailing_zeros, true, UPPER, w64, w8, With, zip2, ℕ}
+use Rattle.sedtext.proofs.Words.{ne_eqb, Narrowed, Matches, Tree, None, NoneBefore, not, Option, PassesSieve, refl, replicate, Sieve, slice_get_within, slice_index, slice_set, Some, swz_l, take, top, trailing_zeros, true, UPPER, w64, w8, zip2, ℕ}
 
 -- none up to a place, and marks from that place on, or from one before it
 module _ (P : ℕ → Type 0) (from q p marks : ℕ) (near : p ≤ q) (are : MarksPlaces P p marks) (before : NoneBefore P from (Some q)) where
@@ -19,15 +19,19 @@ module _ (P : ℕ → Type 0) (from q p marks : ℕ) (near : p ≤ q) (are : Mar
 pub passes_within : (s : Sieve) (w : List ℕ) (i : ℕ) → PassesSieve s w i → i + max (max s.first.offset s.second.offset) s.third.offset < length w
 passes_within s w i is = grind (arith, slice_get_within)
 
--- where a match can begin so
-pub sifted : (s : Sieve) (w : List ℕ) (p : ℕ) (r : Option ℕ) → NoneBefore (PassesSieve s w) p r → IfSome r (λ k. k ≤ length w) → NextStart (Before s) w p r
-sifted s w p None none inside = λ i low within. none i low
-sifted s w p (Some k) none inside = (none.0, inside, none.1)
+-- where a match can begin, as something shows that is true of each place where one does
+pub narrowed_by : (e : Tree) (w : List ℕ) (p : ℕ) (P : ℕ → Type 0) (r : Option ℕ) → ((i k : ℕ) → Matches e w i k → P i) → NoneBefore P p r → IfSome r (λ k. k ≤ length w) → Narrowed e w p r
+narrowed_by e w p P None begins none inside = λ i k low within span. none i low (begins i k span)
+narrowed_by e w p P (Some q) begins none inside = (none.0, inside, λ i k low lt span. none.1 i low (omega arith) (begins i k span))
 
--- the first place at which one can begin so
-pub starts_with_member : (w : List ℕ) (p : ℕ) (s : List Bool) (r : Option ℕ) → FirstFrom (MemberAt s w) p r → NextStart (With s) w p r
-starts_with_member w p s None first = λ i low within begins. first i low begins
-starts_with_member w p s (Some k) first = let inside = slice_get_within w k first.1.0 first.1.1 in (first.0, omega (arith, inside), first.2)
+-- the first place that has a byte of the set
+pub first_member_at : (w : List ℕ) (p : ℕ) (s : List Bool) (r : Option ℕ) → FirstFrom (MemberAt s w) p r → NoneBefore (MemberAt s w) p r
+first_member_at w p s None first = first
+first_member_at w p s (Some k) first = (first.0, first.2)
+
+pub first_lies : (w : List ℕ) (p : ℕ) (s : List Bool) (r : Option ℕ) → FirstFrom (MemberAt s w) p r → IfSome r (λ k. (p ≤ k) × (k ≤ length w))
+first_lies w p s None first = tt
+first_lies w p s (Some k) first = let inside = slice_get_within w k first.1.0 first.1.1 in (first.0, omega (arith, inside))
 
 -- two vectors combined lane by lane, and one with the same number in each lane
 pub lanes_zip : (f : ℕ → ℕ → ℕ) (a b : List ℕ) → length a ≡ 32 → length b ≡ 32 → HasLanes (zip2 f a b) (λ k. f (get_or a k 0) (get_or b k 0))

@@ -9,7 +9,7 @@ pub use Rattle.std.proofs.lemmas.List.Elements.{All-append, All-nil, All-pop, Al
 pub use Rattle.std.proofs.lemmas.List.FromFn.{get_or-map-range_with_len, length-map-range_with_len}
 pub use Rattle.std.proofs.lemmas.Nat.{and_le_l, and_mask, one_shl}
 pub use Rattle.std.proofs.lemmas.Nat.Bits.{bit_at-lt, bit_at-trailing_zeros, bit_at-zero, bit_at_above, bit_at_and, bit_at_clear_other, bit_at_clear_same, bit_at_ones, bit_at_ones_above, bit_at_or, bit_at_set_other, bit_at_set_same}
-pub use Rattle.std.proofs.lemmas.Option.{get_or_from_slice_get, gets, none-some, slice_get-get_or, slice_get_read, slice_get_within}
+pub use Rattle.std.proofs.lemmas.Option.{IfSome_then, get_or_from_slice_get, gets, none-some, slice_get-get_or, slice_get_read, slice_get_within}
 pub use Rattle.std.proofs.lemmas.Simd.{bit_mask_l, bitmask_splat, Each1-from_get_or, Each1-get_or, get_or-chunk, get_or-swz_l_below, get_or-zip2, length-swz_l, length-zip2, mask_l-lt, swz_l, SwzOk-from_below}
 pub use Rattle.std.specs.Int.{bit_at, trailing_zeros}
 pub use Rattle.std.specs.List.{All, AllWithin, range_with_len}
@@ -32,7 +32,6 @@ pub use Rattle.sedre.specs.declared.types.Node.{Node}
 pub use Rattle.sedre.specs.declared.types.Node.TheVariants.{Alt, Begin, End, Group, Opt, Seq, Set, Star}
 pub use Rattle.sedre.specs.declared.types.NodeId.{NodeId}
 pub use Rattle.sedtext.specs.Answer.{SpanIn}
-pub use Rattle.sedtext.specs.Beginnings.{NextStart}
 pub use Rattle.sedtext.specs.Branches.{AnyLeads, AreBranches, IsOneByte, LeadsFrom}
 pub use Rattle.sedtext.specs.Bytes.{FirstFrom, MemberAt}
 pub use Rattle.sedtext.specs.Caps.{Captures, IsReport, LastCopy, LastCut, only, then_copy}
@@ -40,22 +39,22 @@ pub use Rattle.sedtext.specs.Few.{AreMembers, HasFew}
 pub use Rattle.sedtext.specs.FixedRuns.{AllFixedRuns, FirstFixedRun}
 pub use Rattle.sedtext.specs.Following.{EndsWithin, LiesOn, next_span, OccursAfter}
 pub use Rattle.sedtext.specs.Groups.{forget, no_groups, span_of, SpansOfGroups}
-pub use Rattle.sedtext.specs.Links.{AreAlternatives, ChainLeads, IsContinuation, IsWithin, LinkLeads}
+pub use Rattle.sedtext.specs.Links.{AreAlternatives, ChainLeads, IsContinuation, IsLiteral, IsWithin, LinkLeads}
 pub use Rattle.sedtext.specs.Matching.{byte_is_in}
 unfoldable pub use Rattle.sedtext.specs.Matching.{any, copies, first_copy, found_from, greatest, greatest_cut, groups_after, last_start, leftmost_longest, longest, reported_groups, spans}
 pub use Rattle.sedtext.specs.Nodes.{IsRepetitionOf, parts_of}
 pub use Rattle.sedtext.specs.Reach.{after_left, again, at_root, BeginsWith, Enters, HasSpan, IsLongestFrom, IsStart, Starts, with_whole}
-pub use Rattle.sedtext.specs.Required.{FirstLiteral, IsLiteral, IsRequired, Narrowed, Requires}
+pub use Rattle.sedtext.specs.Hints.{AllBegin, AreHints, CanBegin, IsRequired, Narrowed, NoneIn, Requires}
 pub use Rattle.sedtext.specs.Runs.{IsRun, RunBegins, SetRepeats}
 pub use Rattle.sedtext.specs.Sieve.{AllPass, HasLanes, IsMarked, MarksPlaces, NoneBefore, PassesSieve}
 pub use Rattle.sedtext.specs.Spans.{CopiesLead, IsIn, IsLeftmostLongest, Matches, no_copy, NotFound, one_more, SomeFound}
 pub use Rattle.sedtext.specs.Words.{KeepsRows, row_of}
 unfoldable pub use Rattle.sedtext.specs.Words.{row_at, rows_of, tabulated}
-pub use Rattle.sedtext.specs.declared.beginnings.Begins.TheVariants.{Before, With}
+pub use Rattle.sedtext.specs.declared.hints.Begins.TheVariants.{Before, With}
 pub use Rattle.sedtext.specs.declared.counted.nibbles.TheConstants.{UPPER}
 pub use Rattle.sedtext.specs.declared.counted.rows.Rows.TheInside.{Inside}
 pub use Rattle.sedtext.specs.declared.counted.set_finder.Few.{Few}
 pub use Rattle.sedtext.specs.declared.counted.sieve.Sieve.{Sieve}
 pub use Rattle.sedtext.specs.declared.links.Link.{Link}
 pub use Rattle.sedtext.specs.declared.links.Link.TheVariants.{Byte, Either, Other, Run}
-pub use Rattle.sedtext.specs.declared.required.RequiredLiteral.{RequiredLiteral}
+pub use Rattle.sedtext.specs.declared.hints.RequiredLiteral.{RequiredLiteral}

@@ -14,11 +14,6 @@ IsFixedRun members count w i j = SetRepeats members w i j × (j ≡ i + count)
 abbrev pub AllFixedRuns : List Link → List Bool → ℕ → Type 0
 AllFixedRuns links members count = (nodes : List Node) (w : List ℕ) (i j : ℕ) → ChainLeads nodes w links i j ↔ IsFixedRun members count w i j
 
--- the end of the `count` bytes found, or the end n of the text
-abbrev pub passed_run : ℕ → ℕ → Option ℕ → ℕ
-passed_run n count None = n
-passed_run n count (Some k) = k + count
-
 -- the first place from p on from which `count` bytes are in the set, if there is one
 abbrev pub FirstFixedRun : List Bool → ℕ → List ℕ → ℕ → Option ℕ → Type 0
 FirstFixedRun members count w p None = (k : ℕ) → p ≤ k → k ≤ length w → SetRepeats members w k (k + count) → ⊥

@@ -34,6 +34,7 @@ deeper zero = zero
 deeper (suc depth) = suc (suc depth)
 
 -- how many parts lie within one another at most of which the groups are decided apart: the whole, the left part of a concatenation, a copy
+-- (this project's own)
 abbrev pub group_depth : Tree → ℕ
 group_depth (sequence a b) = max (deeper (group_depth a)) (group_depth b)
 group_depth (either_of a b) = max (group_depth a) (group_depth b)

@@ -11,10 +11,9 @@ pub mod Nodes
 pub mod PartMarks
 pub mod Reach
 pub mod Places
-pub mod Beginnings
 pub mod Runs
 pub mod Following
-pub mod Required
+pub mod Hints
 pub mod Branches
 pub mod FixedRuns
 pub mod Few

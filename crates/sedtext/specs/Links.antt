@@ -1,6 +1,7 @@
 -- Private to the proofs: no contract that `sedmatch` makes public cites what is here.
 -- An expression as a chain of links: what its spans are made of, one after another.
-use Rattle.std.specs.Prelude.{◌≡◌, ℕ, ◌+◌, ◌<◌, ◌⊎◌, ◌↔◌, List, [], ◌∷◌, ◌++◌, length}
+use Rattle.std.specs.Prelude.{◌≡◌, ℕ, ◌+◌, ◌<◌, ◌≤◌, ◌⊎◌, ◌↔◌, List, [], ◌∷◌, ◌++◌, drop, length}
+use Rattle.memchr.specs.Find.{OccursAt}
 use Rattle.std.specs.List.{All}
 use Rattle.sedre.specs.Tree.{Tree}
 use Rattle.sedre.specs.declared.types.Node.{Node}
@@ -44,3 +45,8 @@ pub record IsContinuation (nodes : List Node) (before : List Link) (x : ℕ) (li
 pub record AreAlternatives (nodes : List Node) (links left right : List Link) : Type 0 where
   pub spans : (w : List ℕ) (i j : ℕ) → ChainLeads nodes w links i j ↔ (ChainLeads nodes w left i j ⊎ ChainLeads nodes w right i j)
   pub within : All (IsWithin (length nodes)) left × All (IsWithin (length nodes)) right
+
+-- from the link q on the chain leads over the bytes, and then on as its links do that follow after as many
+abbrev pub IsLiteral : List Link → ℕ → List ℕ → Type 0
+IsLiteral links q bytes = (q + length bytes ≤ length links) × ((nodes : List Node) (w : List ℕ) (i j : ℕ) → i ≤ length w →
+    ChainLeads nodes w (drop q links) i j ↔ (OccursAt w bytes i × ChainLeads nodes w (drop (q + length bytes) links) (i + length bytes) j))

@@ -4,8 +4,9 @@
 //! The last of these bytes is looked at first. Where it isn't in the set, no match begins before it, and those before
 //! it aren't looked at: where such bytes are rare, most of a text is passed over unseen.
 ghost use Rattle.std.specs.Prelude.{◌+◌, ◌≤◌, ◌-◌, length, IfSome};
-ghost use Rattle.sedtext.specs.FixedRuns.{AllFixedRuns, FirstFixedRun, passed_run};
-ghost use Rattle.sedre.specs.Steps.{CostsWithin, TakesAtLeast};
+ghost use Rattle.sedtext.specs.Bytes.{passed_to};
+ghost use Rattle.sedtext.specs.FixedRuns.{AllFixedRuns, FirstFixedRun};
+ghost use Rattle.sedre.specs.Steps.{Takes, TakesAtLeast};
 
 use crate::counted::Text;
 use crate::counted::members::run_begin;
@@ -46,7 +47,7 @@ pub fn find_fixed_run(
 ) -> Option<usize>
     requires from { from ≤ length text.now }
     ensures first { FirstFixedRun set.now count text.now from result }
-    ensures cost { CostsWithin steps.old steps.new (passed_run (length text.now) count result) from }
+    ensures cost { Takes steps.old steps.new (passed_to (length text.now) from count result) }
     ensures counts { IfSome result (λ k. TakesAtLeast steps.old steps.new (k + count - from)) }
 {
     let mut start = from;

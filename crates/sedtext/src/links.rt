@@ -1,14 +1,17 @@
 //! An expression as a chain of links: what its spans are made of, one after another. What follows asks chains alone for what an
 //! expression shows of its matches.
-ghost use Rattle.std.specs.Prelude.{◌≡◌, ℕ, List, [], ◌+◌, ◌<◌, ◌↔◌, length, slice_get, take, IfOk, IfSome, Some};
+ghost use Rattle.std.specs.Prelude.{◌≡◌, ℕ, List, [], ◌+◌, ◌<◌, ◌≤◌, ◌↔◌, length, slice_get, take, IfOk, IfSome, Some};
 ghost use Rattle.std.specs.List.{All};
 ghost use Rattle.sedre.specs.Arena.{IsArena};
 ghost use Rattle.sedre.specs.Tree.{expression_tree};
-ghost use Rattle.sedtext.specs.Links.{AreAlternatives, IsContinuation, IsChain, IsWithin, LinkLeads};
+ghost use Rattle.sedtext.specs.Links.{AreAlternatives, IsContinuation, IsChain, IsLiteral, IsWithin, LinkLeads};
 ghost use Rattle.sedtext.specs.Reach.{HasSpan};
 
 use sedre::{ByteSet, Expr, Node, Steps};
 use std::alloc::{AllocError, Global};
+
+/// The most bytes of a literal.
+const MAX_LITERAL: usize = 32;
 
 /// A link: what comes next in a span.
 #[derive(Clone, Copy)]
@@ -102,4 +105,22 @@ pub fn chain_of(alloc: Global, expr: &Expr, steps: &mut Steps) -> Result<Vec<Lin
 {
     let root = expr.root().index();
     continued(alloc, &[], expr, root, steps)
+}
+
+/// The bytes that the chain's links are from a place on, as far as each is one alone.
+pub fn literal_at(alloc: Global, chain: &[Link], from: usize) -> Result<Vec<u8>, AllocError>
+    requires from { from ≤ length chain.now }
+    ensures literal { IfOk result (λ v. IsLiteral chain.now from v.items) }
+{
+    let mut bytes = Vec::new(alloc);
+    while bytes.len() < MAX_LITERAL && from + bytes.len() < chain.len() {
+        let Link::Byte(set) = &chain[from + bytes.len()] else {
+            break;
+        };
+        let Some(byte) = set.sole() else {
+            break;
+        };
+        bytes.push(byte)?;
+    }
+    Ok(bytes)
 }

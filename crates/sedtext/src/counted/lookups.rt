@@ -1,7 +1,7 @@
 //! Where literals and bytes of three sets are in a text, by calls that count.
 ghost use Rattle.std.specs.Prelude.{◌*◌, ◌≤◌, length, IfSome};
-ghost use Rattle.sedtext.specs.Bytes.{passed_to};
-ghost use Rattle.sedtext.specs.Required.{FirstLiteral};
+ghost use Rattle.memchr.specs.Find.{OccursAt};
+ghost use Rattle.sedtext.specs.Bytes.{FirstFrom, passed_to};
 ghost use Rattle.sedtext.specs.Sieve.{NoneBefore, PassesSieve};
 ghost use Rattle.sedre.specs.Steps.{Takes, TakesAtLeast, TakesExactly};
 
@@ -14,7 +14,7 @@ use sedre::Steps;
 /// Counts a look for each byte from `from` to the literal's end, or to the end where there is none.
 pub fn find_literal(text: &Text, finder: &Finder, from: usize, steps: &mut Steps) -> Option<usize>
     requires from { from ≤ length text.now }
-    ensures first { FirstLiteral text.now finder.now from result }
+    ensures first { FirstFrom (OccursAt text.now finder.now) from result }
     ensures cost { TakesExactly steps.old steps.new (passed_to (length text.now) from (length finder.now) result) }
 {
     let bytes = uncounted(text);

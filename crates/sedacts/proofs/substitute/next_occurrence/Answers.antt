@@ -1,12 +1,19 @@
-use Rattle.std.proofs.Common.{rules, ◌∙◌, length, None, Some, arith, refl, sym}
+use Rattle.std.proofs.Common.{rules, ap, ◌∙◌, length, None, Some, arith, refl, sym}
 use Rattle.std.proofs.lemmas.Bool.{false≢true}
 use Rattle.sedacts.proofs.DecidingGroups.{takes_none, shown_paid, none_paid}
+use Rattle.std.specs.Option.{option_map}
+use Rattle.sedacts.proofs.Occurrences.{occurrence_as}
+use Rattle.sedacts.specs.State.{occurrence_at_span}
 use Rattle.sedacts.specs.SubstituteParts.{IsNextOccurrence}
 use Rattle.sedacts.proofs.substitute.next_occurrence.Goals.{In_ok-span}
 use Rattle.sedacts.proofs.substitute.next_occurrence.Goals as goal
 
 found : (c : In_ok-span) → IsNextOccurrence c.args.matcher.now c.args.text.now c.args.last (Some c.in_ok-span.span)
-found c = search rules
+found c =
+    let e = c.args.matcher.now in
+    let w = c.args.text.now in
+    let next = rw c.new.ensures at c.in_ok-span.ensures.next in
+    (ap (option_map (occurrence_at_span e w)) next ∙ occurrence_as e w c.args.last, (rw c.new.ensures at c.in_ok-span.ensures.occurs).1)
 
 pub returns-then-wanted : goal.returns-then-wanted
 returns-then-wanted c = record {
@@ -22,7 +29,7 @@ returns-then-wanted c = record {
 
 pub returns-else-wanted : goal.returns-else-wanted
 returns-else-wanted c = record {
-  next = search rules;
+  next = found (goal.at.returns-else-wanted c).In_ok-span;
   groups = λ shown. absurd (false≢true (sym c.if-wanted.false ∙ shown));
   same = (c.in_ok-span.ensures.same, c.in_ok-span.ensures.scratch);
   serves = rw c.new.ensures at c.in_ok-span.ensures.serves;

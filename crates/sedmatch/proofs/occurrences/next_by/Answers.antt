@@ -11,7 +11,7 @@ returns-then-not-occurrences-clause-answered c =
     let tables = done.searched.tables in
     let shape = tables.reverse_any_shape in
     shows _ _ _ _ mid _ _ _ _ c.requires.forward_one.table.expr.arena.nonempty c.requires.serves first.ready
-    (still_ready c.args.prepared.now c.args.text.now mid _ refl tables.space ((shape.0, shape.1, shape.3, shape.4), inr done.searched.serves.table) (λ x u is. inl is) first.ready.room
+    (still_ready c.args.prepared.now c.args.text.now mid _ refl tables.space ((shape.0, shape.1, shape.3, shape.4), inr done.searched.serves.kept.region.table) (λ x u is. inl is) first.ready.room
     (record { own = λ h. absurd (true≢false (sym h ∙ c.if-not-occurrences.true)); shared = λ h. done.searched.serves })) first.same first.owed first.used done.next done.occurs done.cost done.once done.counts
 
 pub returns-clause-answered : goal.returns-clause-answered
@@ -26,5 +26,5 @@ returns-clause-answered c =
     let is = own_is p c.args.text.now mid first.ready.table c.if-not-occurrences.false _ _ c.index_mut.ensures.value c.in-Some.is in
     let there = set_there mid.own.items mid.number (Some c.in-Some.reverse) (Some table) is in
     shows _ _ _ _ mid _ _ _ _ c.requires.forward_one.table.expr.arena.nonempty c.requires.serves first.ready
-    (still_ready p c.args.text.now mid _ refl tables.space (unused p mid.shared) (own_set p mid.own.items mid.number table (tables.reverse_any_shape.0 ∙ (first.ready.room.own c.in-Some.reverse is).0, serves.table)) first.ready.room
+    (still_ready p c.args.text.now mid _ refl tables.space (unused p mid.shared) (own_set p mid.own.items mid.number table (tables.reverse_any_shape.0 ∙ (first.ready.room.own c.in-Some.reverse is).0, serves.kept.region.table)) first.ready.room
     (record { own = λ h. (table, there, serves); shared = λ h. absurd (true≢false (sym c.if-not-occurrences.false ∙ h)) })) first.same first.owed first.used done.next done.occurs done.cost done.once done.counts

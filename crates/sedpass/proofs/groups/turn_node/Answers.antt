@@ -1,9 +1,10 @@
-use Rattle.sedpass.proofs.Words.{rules, ◌≡◌, ℕ, ◌+◌, ◌≤◌, Option, Some, refl, sym, subst, inl, ◌∙◌, Alt, Star, Opt, HasBlank, NoneSettled, known_groups, spans_in, last_of, settle}
+use Rattle.sedpass.proofs.Words.{rules, ◌≡◌, ℕ, ◌+◌, ◌≤◌, Option, Some, refl, sym, subst, inl, ◌∙◌, Alt, Star, Opt, HasBlank, NoneSettled, known_groups, spans_in, last_of, settle, arith, length, ◌<◌, ◌↔◌, IsTrue, IsCounted, TakesAtLeast, CostsWithin, HasSpan, one_start, KeepsGroupDesk, SameKept, nodes_in, subject_text, owed_region}
 use Rattle.sedpass.proofs.DecideLemmas.{flags_at, found_set, settled}
 use Rattle.sedpass.proofs.OneGroupLemmas.{settle-not, settle_takes, takes_blank}
 use Rattle.sedpass.proofs.TurnLemmas.{alt_turned, group_turned, leaf_turned, opt_done, opt_turned, part_inside, seq_turned, star_done, star_turned}
 use Rattle.sedpass.proofs.groups.turn_node.Goals as goal
-use Rattle.sedpass.proofs.groups.turn_node.Goals.{then-has, else-has}
+use Rattle.sedpass.proofs.groups.turn_node.Goals.{In-Alt, Joined-spans, then-has, else-has, then-here, else-here}
+use Rattle.sedpass.proofs.LeaveLemmas.{reaches_ends}
 
 pub returns-in-Seq-clause-turned : goal.returns-in-Seq-clause-turned
 returns-in-Seq-clause-turned c =
@@ -11,17 +12,54 @@ returns-in-Seq-clause-turned c =
     rw (c.in-Seq.is, c.index-node.ensures, c.index-node-in-Seq.ensures)
     (seq_turned _ _ _ _ _ _ _ _ _ _ (rw c.in-Seq.is at c.requires.at).stands (search rules) cut.cut cut.cost cut.counts)
 
-pub spans-spans-requires-clause-last : goal.spans-spans-requires-clause-last
-spans-spans-requires-clause-last c = rw c.index-left.ensures (last_of c.args.here.node c.in-Alt.a.index (Alt c.in-Alt.a c.in-Alt.b) (rw c.in-Alt.is at c.requires.at).stands.is (inl refl) c.requires.at.ends.0)
+left_inside : (c : In-Alt) → c.in-Alt.a.index < length (nodes_in c.args.subject)
+left_inside c = part_inside c.args.subject c.args.here (Alt c.in-Alt.a c.in-Alt.b) (rw c.in-Alt.is at c.requires.at).stands c.in-Alt.a.index (inl refl)
+
+pub is_null-spans-requires : goal.is_null-spans-requires
+is_null-spans-requires c = search (rules, c.index-left.ensures, left_inside (goal.at.is_null-spans-requires c).In-Alt)
+
+pub marks-spans-requires-clause-x : goal.marks-spans-requires-clause-x
+marks-spans-requires-clause-x c = search (rules, c.index-left.ensures, left_inside (goal.at.marks-spans-requires-clause-x c).In-Alt)
+
+-- whether it matches, in what was looked at
+looked : (c : Joined-spans) → (IsTrue c.if-here.spans ↔ HasSpan (nodes_in c.args.subject) (subject_text c.args.subject) c.in-Alt.a.index c.args.here.start c.args.here.stop)
+    × KeepsGroupDesk c.args.subject c.args.tables.now c.if-here.tables c.args.kept.now c.if-here.kept × SameKept c.args.kept.now c.if-here.kept
+    × CostsWithin c.args.steps.now c.if-here.steps (owed_region (length (nodes_in c.args.subject)) c.args.kept.now.region c.args.here.start + 1) (owed_region (length (nodes_in c.args.subject)) c.if-here.kept.region c.args.here.start)
+    × TakesAtLeast c.args.steps.now c.if-here.steps 1
+unfolding TakesAtLeast IsCounted
+looked c =
+    let s = c.args.subject in
+    let here = c.args.here in
+    let at = rw c.in-Alt.is at c.requires.at in
+    let region = at.desk.region.region in
+    let end = at.ends.1 in
+    elim c.if-here.branch [
+      | then-here w ↦
+          let null = rw c.index-left.ensures at w.is_null-spans.ensures.null in
+          rw (w.spans-is, w.tables-is, w.kept-is, w.steps-is) (rw (← w.if-here.true) null, search (rules, at.desk), search rules, omega (arith, w.is_null-spans.ensures.cost), omega (arith, w.is_null-spans.ensures.cost))
+      | else-here w ↦
+          let last = last_of here.node c.in-Alt.a.index (Alt c.in-Alt.a c.in-Alt.b) at.stands.is (inl refl) at.ends.0 in
+          let both = reaches_ends (nodes_in s) (subject_text s) c.args.kept.now.region.root c.in-Alt.a.index here.start (one_start c.args.kept.now.region.end) region.table.expr.arena last in
+          let look = w.marks-spans.ensures in
+          let shown = rw (c.index-left.ensures, at.desk.one_end) at look.marked in
+          let spans : IsTrue w.marks-spans.result ↔ HasSpan (nodes_in s) (subject_text s) c.in-Alt.a.index here.start here.stop = (
+            λ h. let there = both.0 (shown.0 h) in let to : there.0 ≡ here.stop = omega (arith, there.1, end) in rw to at there.2,
+            λ span. shown.1 (both.1 (here.stop, (omega arith, omega arith), span, inl (omega arith))),
+          ) in
+          rw (w.spans-is, w.tables-is, w.kept-is, w.steps-is) (spans, search (rules, at.desk, look.keeps), look.keeps.same, look.cost, look.counts)
+    ]
 
 pub returns-after-spans-clause-turned : goal.returns-after-spans-clause-turned
 returns-after-spans-clause-turned c =
     let here = c.args.here in
     let there = rw c.in-Alt.is at c.requires.at in
-    let look = c.spans-spans in
+    let look = looked (goal.at.returns-after-spans-clause-turned c).Joined-spans in
     rw (c.in-Alt.is, c.index-node-in-Alt.ensures)
-    (alt_turned c.args.subject here c.in-Alt.a c.in-Alt.b c.if-spans.index.index _ c.args.kept.now.region look.new.self.region c.args.steps.now look.new.steps there.stands (search rules)
-    (search (rules, look.ensures.spans, there.ends.1)) look.ensures.cost look.ensures.counts)
+    (alt_turned c.args.subject here c.in-Alt.a c.in-Alt.b c.if-spans.index.index _ c.args.kept.now.region c.if-here.kept.region c.args.steps.now c.if-here.steps there.stands (search rules)
+    (search (rules, look.0)) look.3 look.4)
+
+pub returns-after-spans-clause-desk : goal.returns-after-spans-clause-desk
+returns-after-spans-clause-desk c = (looked (goal.at.returns-after-spans-clause-desk c).Joined-spans).1
 
 -- the group has its span, if it was due
 settled_in : (c : goal.After-index-node-in-Group) → HasBlank c.if-has.decided

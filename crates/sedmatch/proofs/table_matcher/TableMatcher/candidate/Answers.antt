@@ -45,7 +45,7 @@ pub returns-in-Some-default-clause-before : goal.returns-in-Some-default-clause-
 returns-in-Some-default-clause-before c =
     let literal = c.in-Some-default.required.finder in
     let analysis : IsAnalysis c.args.self.now c.deref.result.now.analysis = rw (c.deref.ensures, ← c.self.view_is) (rw c.in-Passes.is at c.self.invariant).0 in
-    let required = rw c.in-Some-default.is-0 at analysis.required in
+    let required = rw c.in-Some-default.is-0 at analysis.hints.required in
     shown_before (λ v. OccursAt v literal) (expression_tree c.args.self.now) c.args.text.now _ (λ before line behind. occurs_there before line behind literal)
     (λ v i j low at. let held = required v i j low at in (held.0, omega (arith, held.3.fits), held.3)) (first_none _ _ c.find_literal-in-Some-default.ensures.first)
 
@@ -53,5 +53,5 @@ pub returns-in-None-Before-clause-before : goal.returns-in-None-Before-clause-be
 returns-in-None-Before-clause-before c =
     let s = c.in-None-Before.sieve in
     let analysis : IsAnalysis c.args.self.now c.deref.result.now.analysis = rw (c.deref.ensures, ← c.self.view_is) (rw c.in-Passes.is at c.self.invariant).0 in
-    let begins = rw c.in-None-Before.is-1 at analysis.begins in
+    let begins = rw c.in-None-Before.is-1 at analysis.hints.begins in
     shown_before (PassesSieve s) (expression_tree c.args.self.now) c.args.text.now _ (λ before line behind. passes_there before line behind s) (λ v i j low at. (i, low, begins v i j at)) c.sift.ensures.none

@@ -35,6 +35,7 @@ edge_kept c =
               region = region_kept p w t t k _ (search rules) old.passes.region.table same refl old.passes.region.within old.passes.region;
               within = old.passes.within;
               above = old.passes.above;
+              long = old.passes.long;
               there = old.passes.there;
               at = old.passes.at;
               live = old.passes.live;

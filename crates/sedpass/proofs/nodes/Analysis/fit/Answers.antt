@@ -1,4 +1,4 @@
-use Rattle.sedpass.proofs.Words.{rules, length-append, TakesAtLeast, IsCounted}
+use Rattle.sedpass.proofs.Words.{expression_tree, rules, length-append, TakesAtLeast, IsCounted}
 use Rattle.sedpass.proofs.FactLemmas.{facts_more}
 use Rattle.sedpass.proofs.nodes.Analysis.fit.Goals as goal
 
@@ -13,3 +13,6 @@ loop-x-preserved c =
     let here = rw (c.id.ensures, ← old.all) at c.look-node.ensures.node in
     let facts = facts_more e.nodes c.look-node.ensures.arena shown _ next old.facts here (c.facts_of-next.ensures e.nodes e.groups c.groups-groups.ensures.expr old.facts here) in
     rw items (search (rules, length-append))
+
+pub returns-clause-analysis : goal.returns-clause-analysis
+returns-clause-analysis c = search (rules, c.none.ensures (expression_tree c.args.expr.now))

@@ -1,5 +1,5 @@
 use Rattle.sedtext.proofs.Words.{arith, expression_tree}
-use Rattle.sedtext.proofs.beginnings.how_begins.Goals as goal
+use Rattle.sedtext.proofs.hints.how_begins.Goals as goal
 
 pub returns-then-sieve-lt18446744073709551615 : goal.returns-then-sieve-lt18446744073709551615
 returns-then-sieve-lt18446744073709551615 c =

@@ -1,5 +1,5 @@
 use Rattle.sedtext.proofs.Closing.{◌∙◌, all_hold, lt-leb, sym, true≢false}
-use Rattle.sedtext.proofs.required.find_required.Goals as goal
+use Rattle.sedtext.proofs.hints.find_required.Goals as goal
 
 pub loop-from-preserved-then-len : goal.loop-from-preserved-then-len
 loop-from-preserved-then-len c =

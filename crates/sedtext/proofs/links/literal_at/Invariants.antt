@@ -1,5 +1,5 @@
 use Rattle.sedtext.proofs.Words.{◌+◌, ◌-◌, IsLiteral, length}
-use Rattle.sedtext.proofs.required.literal_at.Given as goal
+use Rattle.sedtext.proofs.links.literal_at.Given as goal
 
 abbrev pub invariant-loop-bytes : goal.invariant-loop-bytes
 invariant-loop-bytes l = IsLiteral l.chain l.from l.bytes.items

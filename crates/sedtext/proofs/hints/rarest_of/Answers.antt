@@ -1,4 +1,4 @@
-use Rattle.sedtext.proofs.beginnings.rarest_of.Goals as goal
+use Rattle.sedtext.proofs.hints.rarest_of.Goals as goal
 
 pub loop-offset-preserved : goal.loop-offset-preserved
 loop-offset-preserved c nodes e are =
