@@ -2,7 +2,7 @@
 //! of the tables name their fields.
 //!
 //! By tables `is_match` has to answer the same as `find`, and from the text's beginning on the occurrences and their groups have
-//! to: by tables of 513 states, of 64, of two, which are emptied again and again, and of none.
+//! to: by tables of 1,537 states at most, of 64, of two, which are emptied again and again, and of none.
 
 ghost use Rattle.std.specs.Prelude.{◌≡◌, ◌≤◌, ◌^◌, [], ◌∷◌, IfOk, IfSome, length};
 ghost use Rattle.sedmatch.specs.Occurrences.{RoomFor};
@@ -19,7 +19,7 @@ use std::alloc::{AllocError, Global};
 use std::slice;
 
 /// The most states of the tables by which a text is searched.
-const STATES: [usize; 4] = [513, 64, 2, 0];
+const STATES: [usize; 4] = [1537, 64, 2, 0];
 
 /// What going over occurrences comes to.
 #[derive(Clone, Copy)]

@@ -9,8 +9,8 @@ use sedre::Steps;
 use sedscript::Script;
 use std::alloc::{AllocError, Global};
 
-/// A matcher for each expression of the script, in its order. What one finds out at a line serves at all later lines. Where there
-/// is room for the tables of some expressions alone, these are the first.
+/// A matcher for each expression of the script, in its order. What one finds out at a line serves at all later lines. Each gets an
+/// equal share of the room for tables that is left.
 pub(crate) fn matchers_of(
     alloc: Global,
     script: &Script,
@@ -26,8 +26,9 @@ pub(crate) fn matchers_of(
     let mut steps = Steps::new();
     let mut matchers = Vec::with_capacity(alloc, count)?;
     for k in 0..count {
+        let share = room.share(count - k);
         // The matchers are let go of by a call: in place they are proved field by field.
-        let Ok(matcher) = TableMatcher::new(alloc, script.expr(k), room, &mut steps) else {
+        let Ok(matcher) = TableMatcher::new(alloc, script.expr(k), share, &mut steps) else {
             TableMatcher::close_all(matchers);
             return Err(AllocError);
         };

@@ -38,17 +38,24 @@ pub const REVERSE_ANY: Way = Way {
     all_starts: true,
 };
 
-/// How many states such a table has, where it serves one expression.
-pub const OWN_STATES: usize = 513;
+/// How many states the tables of an expression's own have where it has no more nodes.
+const OWN_STATES: usize = 513;
+
+/// With fewer states than so many they'd serve worse than those that serve all expressions,
+const FEW_STATES: usize = 16;
+
+/// and with fewer than so many they'd be worth no room where texts without a literal have no match, so that they're seldom asked.
+const FEW_WITH_LITERAL: usize = 64;
 
 /// How many tables an expression has: four in [`Tables`], and `reverse_any` for all occurrences in a text.
 const TABLES: usize = 5;
 
-/// How many bytes so many states take in all tables of an expression, at most.
-pub fn size_of(nodes: usize, states: usize) -> usize {
+/// How many bytes a state takes in all tables of an expression of so many nodes, at most.
+pub fn size_of_state(nodes: usize) -> usize
+    ensures { 0 < result }
+{
     let cells = 16 * nodes.saturating_add(1).min(64);
-    let state = cells + nodes / 4 + 64;
-    state.saturating_mul(TABLES).saturating_mul(states)
+    (cells + nodes / 4 + 64).saturating_mul(TABLES)
 }
 
 /// An expression that is searched by passes, whose chain this is, with its own tables if there is room for them.
@@ -67,9 +74,15 @@ pub fn new_passes(
     analysis.fit(expr, steps);
     let hints = Hints::of(alloc, expr, chain, steps)?;
     let analysis = Analysis { hints, ..analysis };
-    let states = room.states.clamp(2, 513);
+    // Passes that count, as those of `(a{0,23}){23}`, come to about as many states as there are nodes.
+    let most = room.states.clamp(2, nodes.clamp(OWN_STATES, 65535));
+    let states = most.min(room.bytes / size_of_state(nodes));
+    let few = match &analysis.hints.required {
+        None => FEW_STATES,
+        Some(_) => FEW_WITH_LITERAL,
+    };
     let mut own = None;
-    if size_of(nodes, states) <= room.bytes {
+    if states >= most.min(few) {
         let mut tables = Tables::with_room(alloc, states, nodes)?;
         tables.fit(&Prepared::of(expr, &analysis));
         own = Some(tables);

@@ -20,7 +20,7 @@ use crate::Span;
 use crate::direct::{DirectForm, direct_form_of, direct_matches, direct_span};
 use crate::occurrences::{Occurrences, is_null_at, next_by};
 use crate::passes::{
-    OWN_STATES, Passes, REVERSE_ANY, groups_by, matches_by, new_passes, size_of, whole_alone,
+    Passes, REVERSE_ANY, groups_by, matches_by, new_passes, size_of_state, whole_alone,
 };
 use crate::scratch::{Desk, Scratch};
 use crate::stretches::find_first;
@@ -157,7 +157,7 @@ impl TableMatcher {
         match &self.method {
             SearchMethod::Direct(_) => 0,
             SearchMethod::Passes(passes) => match &passes.own {
-                Some(own) => size_of(self.expr.nodes(), own.forward_any.room),
+                Some(own) => size_of_state(self.expr.nodes()).saturating_mul(own.forward_any.room),
                 None => 0,
             },
         }
@@ -167,15 +167,16 @@ impl TableMatcher {
     pub(crate) fn reverse_table(&self, alloc: Global) -> Result<Option<Table>, AllocError>
         ensures { IfOk result (λ t. IfSome t (IsReverseAny self.now)) }
     {
-        match &self.method {
-            SearchMethod::Passes(passes) if passes.own.is_some() => {
-                let nodes = self.expr.nodes();
-                let mut table = Table::with_room(alloc, REVERSE_ANY, OWN_STATES, nodes)?;
-                table.fit(&Prepared::of(&self.expr, &passes.analysis));
-                Ok(Some(table))
-            }
-            _ => Ok(None),
-        }
+        let SearchMethod::Passes(passes) = &self.method else {
+            return Ok(None);
+        };
+        let Some(own) = &passes.own else {
+            return Ok(None);
+        };
+        let (states, nodes) = (own.reverse_one.room, self.expr.nodes());
+        let mut table = Table::with_room(alloc, REVERSE_ANY, states, nodes)?;
+        table.fit(&Prepared::of(&self.expr, &passes.analysis));
+        Ok(Some(table))
     }
 
     /// How many nodes the expression has.

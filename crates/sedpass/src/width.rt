@@ -4,7 +4,7 @@ ghost use Rattle.std.specs.Prelude.{◌+◌, ◌*◌, ◌/◌, ◌^◌, ◌<◌,
 /// How many places a block has, for texts of at most `max_text` bytes: 16 in short ones, since tables of few states take little
 /// memory, 512 from a megabyte on, from 16 megabytes on so many that there are 32,768 blocks at most, and 65,534 at most.
 ///
-/// So up to there a table of 513 states serves each text, as the tables of an expression are.
+/// So up to there a table of 513 states serves each text.
 pub fn width_for(max_text: usize) -> usize
     ensures least { 16 ≤ result }
     ensures most { result ≤ 65534 }

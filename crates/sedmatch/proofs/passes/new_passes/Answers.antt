@@ -1,11 +1,11 @@
 use Rattle.sedmatch.proofs.Words.{rules}
 use Rattle.sedmatch.proofs.passes.new_passes.Goals as goal
 
-pub of-requires-then-size_of-room : goal.of-requires-then-size_of-room
-of-requires-then-size_of-room c = search (rules, c.fit.ensures.analysis, c.in_ok-hints.ensures)
+pub of-requires-then-states-min : goal.of-requires-then-states-min
+of-requires-then-states-min c = search (rules, c.fit.ensures.analysis, c.in_ok-hints.ensures)
 
 pub returns : goal.returns
 returns c = (
   search (rules, c.fit.ensures.analysis, c.in_ok-hints.ensures),
-  elim c.if-size_of-room.branch [ goal.then-size_of-room+in_ok-tables w ↦ rw (w.own-is, ← w.of-then-size_of-room.ensures.is) w.fit-then-size_of-room.ensures.tables | goal.else-size_of-room w ↦ rw w.own-is tt ],
+  elim c.if-states-min.branch [ goal.then-states-min+in_ok-tables w ↦ rw (w.own-is, ← w.of-then-states-min.ensures.is) w.fit-then-states-min.ensures.tables | goal.else-states-min w ↦ rw w.own-is tt ],
 )
