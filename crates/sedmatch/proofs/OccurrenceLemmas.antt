@@ -1,5 +1,5 @@
 -- The tables by which all occurrences are found, and what the searches cost.
-use Rattle.sedmatch.proofs.Words.{rules, common_steps, ◌≡◌, [], ◌∷◌, ◌++◌, length-append, ℕ, ◌+◌, ◌-◌, ◌*◌, ◌<◌, ◌≤◌, ◌⊎◌, Bool, false, List, length, get_or, Option, Some, None, IfSome, IsTrue, refl, sym, ap, ◌∙◌, subst, arith, mul-le-mul_left, unwrap_or, slice_get, slice_set, if◌then◌else◌, gets, IfSome_then, slice_get_read, slice_get_within, WrittenExpression, expression_tree, CostsWithin, Takes, TakesAtLeast, if_occurs, OccursAfter, next_span, leftmost_longest, SameSpace, KeptRoom, ServesOn, owed_seeking, owed_after_search, search_cost, owed_behind, Seeking, Table, search_long, looks_later, looks_past, looks_to_end, searched_then, Occurrences, HasOwn, HasTable, IsReverseAny, IsReady, RoomAt, ServesFrom, AnswersNext, owed, owed_after, owed_direct, owed_search, LiesOn, SpanAnswer, Tree, found-iff, nat_lt, not_found-iff, owed_falls, square, suc, zero}
+use Rattle.sedmatch.proofs.Words.{rules, common_steps, ◌≡◌, [], ◌∷◌, ◌++◌, length-append, ℕ, ◌+◌, ◌-◌, ◌*◌, ◌<◌, ◌≤◌, ◌⊎◌, Bool, false, List, length, get_or, Option, Some, None, IfSome, IsTrue, refl, sym, ap, ◌∙◌, subst, arith, mul-le-mul_left, unwrap_or, slice_get, slice_set, if◌then◌else◌, gets, IfSome_then, slice_get_read, slice_get_within, WrittenExpression, expression_tree, CostsWithin, Takes, TakesAtLeast, if_occurs, OccursAfter, next_span, leftmost_longest, SameSpace, KeptRoom, ServesOn, owed_seeking, owed_after_search, search_cost, owed_behind, Seeking, Table, search_long, looks_later, looks_past, looks_to_end, searched_then, Occurrences, HasOwn, HasTable, IsReverseAny, IsReady, RoomAt, ServesFrom, AnswersNext, IsLook, SomeFound, TakesFirst, bytes_passed, inl, inr, least_since, owed, owed_after, owed_direct, owed_search, LiesOn, SpanAnswer, Tree, found-iff, nat_lt, not_found-iff, owed_falls, square, suc, zero}
 use Rattle.sedmatch.proofs.RoomLemmas.{IsUsed, roomy}
 
 -- What is found.
@@ -106,10 +106,73 @@ first_paid m n start old new s a t None looks pays = (omega (arith, looks.0, pay
 first_paid m n start old new s a t (Some f) looks pays =
     (omega (arith, looks.0, pays.0), omega (arith, search_falls m n old 0 start (omega arith), looks.1, pays.1, mul-le-mul_left {m = n + 1 - f.1} {n = n + 1 - 0} (86 * m) (omega arith)))
 
+one_pays : (m n : ℕ) → 1 ≤ m → 43 * m * (n + 1) ≤ 64 * m * m * (n + 1) * (n + 1)
+one_pays m n some =
+    let enough : 43 ≤ 64 * (m * (n + 1)) = omega (arith, mul-le-mul_left (n + 1) some) in
+    omega (arith, mul-le-mul_left (m * (n + 1)) enough)
+
+square_pays : (m n : ℕ) → 1 ≤ m → 16 ≤ n → 236 * m * (n + 1) ≤ 64 * m * m * (n + 1) * (n + 1)
+square_pays m n some long =
+    let enough : 236 ≤ 64 * (m * (n + 1)) = omega (arith, mul-le-mul_left (n + 1) some, long) in
+    omega (arith, mul-le-mul_left (m * (n + 1)) enough)
+
 pub first_square : (m n start s a t : ℕ) → 1 ≤ m → CostsWithin s a n 0 → Takes a t (search_cost m n start) → Takes s t (64 * m * m * (n + 1) * (n + 1))
 first_square m n start s a t some looks each =
     let few : 193 * n + 48 ≤ 64 * (n + 1) * (n + 1) = grind (arith, common_steps) in
     (omega (arith, looks.0, each.0), omega (arith, looks.1, each.1, search_long m n start, mul-le-mul_left n some, mul-le-mul_left m few, mul-le-mul_left (m * (64 * (n + 1) * (n + 1))) some))
+
+-- and of all that the searches in a text may take together it is a part
+pub first_takes : (m n start s a t : ℕ) → 1 ≤ m → CostsWithin s a n 0 → Takes a t (search_cost m n start) → Takes s t (193 * m * (n + 1))
+first_takes m n start s a t some looks each = (omega (arith, looks.0, each.0), omega (arith, looks.1, each.1, search_long m n start, mul-le-mul_left n some))
+
+pub first_due : (m n : ℕ) (last : Option ℕ) (old mid new : Occurrences) (r : Option (ℕ × ℕ)) (s t : ℕ) → 1 ≤ m → (last ≡ None → IsTrue old.is_fresh) →
+    (IsTrue old.is_fresh → owed_behind m n mid.seeking 0 + 43 * m ≤ 308 * m * (n + 1)) → new.is_fresh ≡ false → CostsWithin s t (owed_search m n last mid.seeking) (owed_after_search (owed_behind m n new.seeking) r) →
+    (last ≡ None → Takes s t (193 * m * (n + 1))) → last ≡ None → TakesFirst m n new s t r
+first_due m n None old mid new None s t some fresh begun used cost first none = ((cost.0, omega (arith, cost.1, begun (fresh refl), mul-le-mul_left (n + 1) some)), first refl)
+first_due m n None old mid new (Some f) s t some fresh begun used cost first none = ((cost.0, grind (arith, cost.1, begun (fresh refl), mul-le-mul_left (n + 1) some, owed_as m n f.1 new)), first refl)
+first_due m n (Some q) old mid new r s t some fresh begun used cost first none = search rules
+
+-- a look whether there is any match is paid for before the first search
+pub looked_first : (m n : ℕ) (old new : Occurrences) (s a t : ℕ) (r : Option (ℕ × ℕ)) → 1 ≤ m → 16 ≤ n → Takes s a (43 * m * (n + 1)) → TakesFirst m n new a t r →
+    CostsWithin s t (owed m n None old) (owed_after m n r new) × Takes s t (64 * m * m * (n + 1) * (n + 1))
+looked_first m n old new s a t r some long look first = (
+  (omega (arith, look.0, first.0.0), omega (arith, look.1, first.0.1)),
+  (omega (arith, look.0, first.1.0), omega (arith, look.1, first.1.1, square_pays m n some long)),
+)
+
+-- it showed that there is none
+pub none_shown : (e : WrittenExpression) (w : List ℕ) (last : Option ℕ) (o : Occurrences) (s t : ℕ) → 1 ≤ length e.nodes → (last ≡ None) × (SomeFound (expression_tree e) w 0 → ⊥) → IsLook (length e.nodes) (length w) last s t →
+    AnswersNext e w last o o s t None
+none_shown e w last o s t some (is, none) look =
+    let m = length e.nodes in
+    let n = length w in
+    let cost : Takes s t (43 * m * (n + 1)) = elim look [ inl l ↦ l.2 | inr same ↦ (omega (arith, same), omega (arith, same)) ] in
+    let pays : 43 * m * (n + 1) ≤ 64 * m * m * (n + 1) * (n + 1) = one_pays m n some in
+    rw is (record {
+      next = answer_found (expression_tree e) w 0 None (omega arith) (tt, λ i k low inside is. none (i, k, low, inside, is), tt);
+      occurs = tt;
+      serves = ((refl, λ text es sought room. room), tt);
+      cost = (cost.0, omega (arith, cost.1));
+      once = (cost.0, omega (arith, cost.1, pays));
+      counts = tt;
+      passes = λ early. tt;
+    })
+
+-- the first search came after it
+pub after_look : (e : WrittenExpression) (w : List ℕ) (last : Option ℕ) (old new : Occurrences) (r : Option (ℕ × ℕ)) (s a t : ℕ) → 1 ≤ length e.nodes → IsLook (length e.nodes) (length w) last s a →
+    (last ≡ None → TakesFirst (length e.nodes) (length w) new a t r) → AnswersNext e w last old new a t r → AnswersNext e w last old new s t r
+after_look e w last old new r s a t some (inr same) first answers = rw (← same) answers
+after_look e w last old new r s a t some (inl look) first answers =
+    let paid = looked_first (length e.nodes) (length w) old new s a t r some look.1 look.2 (first look.0) in
+    record {
+      next = answers.next;
+      occurs = answers.occurs;
+      serves = answers.serves;
+      cost = rw look.0 paid.0;
+      once = paid.1;
+      counts = IfSome_then r answers.counts (λ f h. least_since s a t (f.1 - f.0) look.2.0 h);
+      passes = λ early. IfSome_then r (answers.passes early) (λ f h. least_since s a t (bytes_passed last f) look.2.0 h);
+    }
 
 -- what a search by passes answers
 pub shows : (e : WrittenExpression) (w : List ℕ) (last : Option ℕ) (old mid new : Occurrences) (r : Option (ℕ × ℕ)) (s t : ℕ) → 1 ≤ length e.nodes → ServesFrom e w last old → IsReady e w old mid → IsReady e w mid new →

@@ -15,7 +15,7 @@ pub use Rattle.sedtext.proofs.MatchingLemmas.{found-iff, not_found-iff, report-i
 pub use Rattle.sedtext.proofs.PartLemmas.{report_lies}
 pub use Rattle.sedtext.proofs.RunLemmas.{run_forward, run_longest}
 pub use Rattle.sedtext.specs.Bytes.{FirstFrom, MemberAt}
-pub use Rattle.sedtext.specs.Following.{CanEndEarly, LiesOn, LooksPast, OccursAfter, next_span}
+pub use Rattle.sedtext.specs.Following.{CanEndEarly, LiesOn, LooksPast, OccursAfter, bytes_passed, next_span}
 pub use Rattle.sedtext.specs.Links.{AreAlternatives, ChainLeads, IsChain, LinkLeads}
 pub use Rattle.sedtext.specs.Hints.{Narrowed}
 pub use Rattle.sedtext.specs.Sieve.{NoneBefore, PassesSieve}
@@ -38,7 +38,7 @@ pub use Rattle.sedpass.specs.declared.search.Seeking.{Seeking}
 pub use Rattle.sedpass.specs.declared.table.Table.{Table}
 pub use Rattle.sedmatch.specs.Candidates.{NoMatchBefore}
 pub use Rattle.sedmatch.specs.Direct.{FormSpans, IsDirect, SpannedAs, bytes_looked_at}
-pub use Rattle.sedmatch.specs.Occurrences.{ServesOn, AnswersNext, HasOwn, HasTable, IsReady, IsReverseAny, RoomAt, RoomFor, ServesFrom, owed, owed_after, owed_direct, owed_search}
+pub use Rattle.sedmatch.specs.Occurrences.{ServesOn, AnswersNext, HasOwn, HasTable, IsLook, IsReady, IsReverseAny, RoomAt, RoomFor, ServesFrom, TakesFirst, owed, owed_after, owed_direct, owed_search}
 pub use Rattle.sedmatch.specs.Passes.{AnswersMatch, IsDesk, KeepsDesk}
 pub use Rattle.sedmatch.specs.Stretches.{ComesFirst, FirstOf, Follow, StretchSpans, behind_first}
 pub use Rattle.sedmatch.specs.declared.direct.DirectForm.{DirectForm}

@@ -1,6 +1,6 @@
 -- What the searches for all occurrences in one text keep, and what they may cost. `Occurrences::new` and `begin` give it, and callers
 -- hand it on from call to call, so that nobody has to read it.
-use Rattle.std.specs.Prelude.{◌≡◌, ℕ, ◌+◌, ◌-◌, ◌*◌, ◌≤◌, false, if◌then◌else◌, List, length, slice_get, Option, Some, None, IfSome, IsTrue}
+use Rattle.std.specs.Prelude.{◌≡◌, ℕ, ◌+◌, ◌-◌, ◌*◌, ◌≤◌, ◌⊎◌, false, if◌then◌else◌, List, length, slice_get, Option, Some, None, IfSome, IsTrue}
 use Rattle.sedre.specs.Steps.{Takes, TakesAtLeast, CostsWithin}
 use Rattle.sedre.specs.Tree.{WrittenExpression, expression_tree}
 use Rattle.sedtext.specs.Following.{CanEndEarly, OccursAfter, bytes_passed, next_span}
@@ -75,6 +75,14 @@ owed m n (Some q) o = if o.is_fresh then 372 * m * (n + 1) + owed_direct n (Some
 abbrev pub owed_after : ℕ → ℕ → Option (ℕ × ℕ) → Occurrences → ℕ
 owed_after m n None o = 0
 owed_after m n (Some f) o = owed m n (Some f.1) o
+
+-- a pass over a text that isn't short, before its first search, or none
+abbrev pub IsLook : ℕ → ℕ → Option ℕ → ℕ → ℕ → Type 0
+IsLook m n last before after = ((last ≡ None) × (16 ≤ n) × Takes before after (43 * m * (n + 1))) ⊎ (after ≡ before)
+
+-- what that search takes, by itself and of what all searches in the text may, so that such a pass is paid for too
+abbrev pub TakesFirst : ℕ → ℕ → Occurrences → ℕ → ℕ → Option (ℕ × ℕ) → Type 0
+TakesFirst m n new before after r = CostsWithin before after (309 * m * (n + 1)) (owed_after m n r new) × Takes before after (193 * m * (n + 1))
 
 -- what one call answers: the next occurrence after the last one; what is kept serves on, and pays for the steps
 pub record AnswersNext (e : WrittenExpression) (w : List ℕ) (last : Option ℕ) (old new : Occurrences) (before after : ℕ) (r : Option (ℕ × ℕ)) : Type 0 where

@@ -8,7 +8,7 @@ ghost use Rattle.sedtext.specs.Matching.{leftmost_longest};
 ghost use Rattle.sedpass.specs.Search.{MaySearch, Searched, owed_after_search, owed_behind};
 ghost use Rattle.sedpass.specs.Table.{IsForwardOne, SameShape};
 ghost use Rattle.sedpass.specs.declared.table.Table.{Table};
-ghost use Rattle.sedmatch.specs.Occurrences.{HasTable, IsReady, RoomAt, RoomFor, ServesFrom, AnswersNext, owed_search};
+ghost use Rattle.sedmatch.specs.Occurrences.{HasTable, IsReady, RoomAt, RoomFor, ServesFrom, AnswersNext, TakesFirst, owed_search};
 
 use crate::Span;
 use crate::passes::{REVERSE_ANY, has_blocks};
@@ -162,6 +162,8 @@ fn next_with(
         CostsWithin steps.old steps.new (owed_search m n last seeking.old) (owed_after_search (owed_behind m n seeking.new) result) }
     ensures once { let m = length prepared.now.nodes in let n = length text.now in
         Takes steps.old steps.new (64 * m * m * (n + 1) * (n + 1)) }
+    ensures first { let m = length prepared.now.nodes in let n = length text.now in
+        last ≡ None → Takes steps.old steps.new (193 * m * (n + 1)) }
     ensures counts { IfSome result (λ f. TakesAtLeast steps.old steps.new (f.1 - unwrap_or last 0)) }
 {
     let subject = Subject { prepared, text };
@@ -194,6 +196,7 @@ pub fn next_by(
     ensures forward_one { IsForwardOne prepared.now forward_one.new }
     ensures forward_one_shape { SameShape forward_one.old forward_one.new }
     ensures answered { AnswersNext prepared.now text.now last occurrences.old occurrences.new steps.old steps.new result }
+    ensures first { last ≡ None → TakesFirst (length prepared.now.nodes) (length text.now) occurrences.new steps.old steps.new result }
 {
     occurrences.make_ready(prepared, text);
     let seeking = &mut occurrences.seeking;

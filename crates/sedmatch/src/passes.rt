@@ -50,12 +50,28 @@ const FEW_WITH_LITERAL: usize = 64;
 /// How many tables an expression has: four in [`Tables`], and `reverse_any` for all occurrences in a text.
 const TABLES: usize = 5;
 
+/// How many bytes note for a node where passes begin: eight for each of four kinds of place, in three tables of passes from one start.
+const NOTES_OF_NODE: usize = 3 * 4 * 8;
+
 /// How many bytes a state takes in all tables of an expression of so many nodes, at most.
-pub fn size_of_state(nodes: usize) -> usize
+fn size_of_state(nodes: usize) -> usize
     ensures { 0 < result }
 {
     let cells = 16 * nodes.saturating_add(1).min(64);
     (cells + nodes / 4 + 64).saturating_mul(TABLES)
+}
+
+/// How many bytes all tables of an expression of so many nodes take, with so many states each, at most.
+pub fn size_of_tables(nodes: usize, states: usize) -> usize {
+    let notes = nodes.saturating_mul(NOTES_OF_NODE);
+    size_of_state(nodes)
+        .saturating_mul(states)
+        .saturating_add(notes)
+}
+
+/// How many states each table has for so many bytes.
+fn states_in(bytes: usize, nodes: usize) -> usize {
+    bytes.saturating_sub(nodes.saturating_mul(NOTES_OF_NODE)) / size_of_state(nodes)
 }
 
 /// An expression that is searched by passes, whose chain this is, with its own tables if there is room for them.
@@ -76,7 +92,7 @@ pub fn new_passes(
     let analysis = Analysis { hints, ..analysis };
     // Passes that count, as those of `(a{0,23}){23}`, come to about as many states as there are nodes.
     let most = room.states.clamp(2, nodes.clamp(OWN_STATES, 65535));
-    let states = most.min(room.bytes / size_of_state(nodes));
+    let states = most.min(states_in(room.bytes, nodes));
     let few = match &analysis.hints.required {
         None => FEW_STATES,
         Some(_) => FEW_WITH_LITERAL,
@@ -91,7 +107,7 @@ pub fn new_passes(
 }
 
 /// Whether any match begins at a place or later, by these tables.
-fn matches_with(
+pub fn matches_with(
     prepared: &Prepared,
     text: &Text,
     tables: &mut Tables,

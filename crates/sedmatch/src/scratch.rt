@@ -34,16 +34,16 @@ pub struct Scratch {
 }
 
 impl Model for Scratch {
-    ghost use Rattle.std.specs.Prelude.{◌≤◌, vec_capacity};
     ghost use Rattle.sedtext.specs.SearchRoom.{SearchRoom};
 
     ghost Value = { SearchRoom };
 
     ghost use Rattle.sedmatch.specs.Passes.{IsDesk};
+    ghost use Rattle.sedpass.specs.Prepared.{HasNodeRoom};
 
     ghost view = { λ s. record { text = s.desk.max_text; nodes = s.desk.max_nodes } };
 
-    ghost invariant = { λ s. IsDesk s.desk × (s.desk.max_nodes ≤ vec_capacity s.analysis.facts) };
+    ghost invariant = { λ s. IsDesk s.desk × HasNodeRoom s.desk.max_nodes s.analysis };
 }
 
 impl Scratch {

@@ -1,5 +1,5 @@
 //! An expression that is sought many times.
-ghost use Rattle.std.specs.Prelude.{◌≡◌, ℕ, ◌+◌, ◌-◌, ◌*◌, ◌<◌, ◌≤◌, ◌↔◌, length, IfOk, IfSome, IsTrue, Some, is_some};
+ghost use Rattle.std.specs.Prelude.{◌≡◌, ℕ, ◌+◌, ◌-◌, ◌*◌, ◌<◌, ◌≤◌, ◌↔◌, length, IfOk, IfSome, IsTrue, None, Some, is_some};
 ghost use Rattle.sedre.specs.Tree.{WrittenExpression, expression_tree};
 ghost use Rattle.sedre.specs.Steps.{Takes, TakesAtLeast, CostsWithin};
 ghost use Rattle.sedtext.specs.Following.{CanEndEarly, EndsWithin, LiesOn, OccursAfter, LooksPast, bytes_passed, next_span};
@@ -9,22 +9,24 @@ ghost use Rattle.sedtext.specs.Groups.{group_depth, span_of};
 ghost use Rattle.sedtext.specs.SearchRoom.{FitInto};
 ghost use Rattle.sedtext.specs.Spans.{SomeFound, Matches};
 ghost use Rattle.sedmatch.specs.Candidates.{NoMatchBefore};
-ghost use Rattle.sedpass.specs.Decide.{spans_in};
+ghost use Rattle.sedpass.specs.Decide.{AreTables, spans_in};
 ghost use Rattle.sedpass.specs.Search.{owed_after_search};
 ghost use Rattle.sedpass.specs.Walks.{EntersGroups};
 ghost use Rattle.sedmatch.specs.Direct.{IsDirect};
-ghost use Rattle.sedmatch.specs.Occurrences.{IsReverseAny, ServesFrom, ServesOn, AnswersNext, owed, owed_after, owed_direct};
+ghost use Rattle.sedmatch.specs.Occurrences.{IsLook, IsReverseAny, ServesFrom, ServesOn, AnswersNext, owed, owed_after, owed_direct};
 ghost use Rattle.sedmatch.specs.Passes.{ArePasses, IsDeskFor, KeepsDesk};
 
 use crate::Span;
 use crate::direct::{DirectForm, direct_form_of, direct_matches, direct_span};
 use crate::occurrences::{Occurrences, is_null_at, next_by};
 use crate::passes::{
-    Passes, REVERSE_ANY, groups_by, matches_by, new_passes, size_of_state, whole_alone,
+    Passes, REVERSE_ANY, groups_by, matches_by, matches_with, new_passes, size_of_tables,
+    whole_alone,
 };
 use crate::scratch::{Desk, Scratch};
 use crate::stretches::find_first;
 use crate::table_room::TableRoom;
+use sedpass::groups::Tables;
 use sedpass::nodes::Prepared;
 use sedpass::table::Table;
 use sedre::{Expr, Steps};
@@ -34,6 +36,9 @@ use sedtext::hints::Begins;
 use sedtext::links::chain_of;
 use std::alloc::{AllocError, Global};
 use std::marker::Model;
+
+/// Of fewer bytes a text is searched at once: that a pass over it is paid for is proved by their number.
+const LONG_TEXT: usize = 16;
 
 /// How an expression is searched.
 #[derive(Drop)]
@@ -91,6 +96,28 @@ fn next_direct(
     }
 }
 
+/// Whether one pass showed that there is no occurrence, before the first one is sought: where nothing is known of how matches begin,
+/// the search would try each place of a text without one.
+fn has_none(
+    prepared: &Prepared,
+    text: &Text,
+    tables: &mut Tables,
+    last: Option<usize>,
+    steps: &mut Steps,
+) -> bool
+    requires tables { AreTables prepared.now tables.old }
+    ensures tables { AreTables prepared.now tables.new }
+    ensures none { IsTrue result → (last ≡ None) × (SomeFound (expression_tree prepared.now) text.now 0 → ⊥) }
+    ensures cost { IsLook (length prepared.now.nodes) (length text.now) last steps.old steps.new }
+{
+    let hints = prepared.hints();
+    last.is_none()
+        && text.len() >= LONG_TEXT
+        && hints.required.is_none()
+        && matches!(hints.begins, Begins::Anyhow)
+        && !matches_with(prepared, text, tables, 0, steps)
+}
+
 /// The next occurrence by passes.
 fn next_by_passes(
     expr: &Expr,
@@ -111,6 +138,9 @@ fn next_by_passes(
 {
     let prepared = &Prepared::of(expr, &passes.analysis);
     if let Some(own) = &mut passes.own {
+        if has_none(prepared, text, own, last, steps) {
+            return None;
+        }
         let forward_one = &mut own.forward_one;
         return next_by(prepared, text, forward_one, occurrences, last, steps);
     }
@@ -157,7 +187,7 @@ impl TableMatcher {
         match &self.method {
             SearchMethod::Direct(_) => 0,
             SearchMethod::Passes(passes) => match &passes.own {
-                Some(own) => size_of_state(self.expr.nodes()).saturating_mul(own.forward_any.room),
+                Some(own) => size_of_tables(self.expr.nodes(), own.forward_any.room),
                 None => 0,
             },
         }

@@ -1,7 +1,9 @@
 -- What is found out of each node once, and what it means for passes.
+use Rattle.std.proofs.lemmas.List.{get_or_append_left}
+use Rattle.sedpass.proofs.Words.{◌∙◌, AreParents, IsPart, cases_eq, mirror_node, seen-node, slice_get_within, slice_index_or, sym}
 use Rattle.sedpass.proofs.Words.{rules, ◌≡◌, ℕ, zero, suc, ◌+◌, ◌<◌, ◌≤◌, ◌⊎◌, ◌↔◌, Bool, true, false, ◌&&◌, List, [], ◌∷◌, ◌++◌, length, Some, IsTrue, refl, ap, inl, inr, arith, bit_and, bit_or, ◌||◌, slice_get, eqb, option_eq, bit_at_and, bit_at_or, bit_at-lt, cases_lt, same_Some, none-some, size, IsArena, IsExpr, IsPart, FollowsParts, mirror, seen, Node, Seq, Alt, Group, Star, Opt, tree_at-node, tree_at-mirror, seen-length, Matches, no_copy, IsPlace, Matches-forward, node_at, Facts, PlaceKind, either-iff, both-iff, Tree, byte_of, sequence, either_of, grouped, WrittenExpression, tree_of, tree_at, size_positive, nullable, null_in, null_at, is_one_set, IsFacts, AreFacts, IsShort, length_of, at_begin, at_edge, IsNodeRange, AreNull}
 use Rattle.sedpass.proofs.LengthLemmas.{sum_parts, same_parts}
-use Rattle.sedpass.proofs.RowLemmas.{not_true, range_of, mirror_range}
+use Rattle.sedpass.proofs.RowLemmas.{part_mirror, not_true, range_of, mirror_range}
 use Rattle.sedpass.proofs.GroupSetLemmas.{two_bits}
 
 -- null strings
@@ -95,3 +97,24 @@ pub facts_more : (nodes : List Node) (arena : IsArena nodes) (shown : List Facts
     IsFacts (tree_of (tree_at nodes) node) (length shown) next → AreFacts nodes (shown ++ next ∷ [])
 facts_more nodes arena shown node next facts there here x fact is =
     elim (last_shown shown next fact x is) [ inl old ↦ facts x fact old | inr new ↦ rw (new.0, new.1, tree_at-node nodes (length shown) node arena there) here ]
+
+noted_part : (e : WrittenExpression) (p x : ℕ) (node : Node) → slice_get e.nodes p ≡ Some node → IsPart node x → (mirrored : Bool) (other : Node) → slice_get (seen mirrored e).nodes p ≡ Some other → IsPart other x
+noted_part e p x node is part false other at = let same : other ≡ node = search (rules, same_Some) in rw same part
+noted_part e p x node is part true other at = let mirror = seen-node true e p node is in let same : other ≡ mirror_node node = search (rules, same_Some) in rw same ((part_mirror node x).0 part)
+
+-- the node that is noted for a part has it, mirrored or not
+pub parent_is : (e : WrittenExpression) (parents : List ℕ) (x noted : ℕ) → IsArena e.nodes → AreParents e.nodes parents (length e.nodes) → x + 1 < length e.nodes → noted ≡ slice_index_or parents x 0 →
+    (noted < length e.nodes) × (x < noted) × ((mirrored : Bool) (node : Node) → slice_get (seen mirrored e).nodes noted ≡ Some node → IsPart node x)
+parent_is e parents x noted arena notes inside is =
+    let p = arena.each x inside in
+    let low : p.0 < length e.nodes = slice_get_within e.nodes p.0 p.1 p.2 in
+    let same : noted ≡ p.0 = is ∙ notes p.0 x p.1 low p.2 p.3 in
+    rw same (low, arena.below p.0 x p.1 p.2 p.3, λ mirrored node at. noted_part e p.0 x p.1 p.2 p.3 mirrored node at)
+
+-- a node was noted for its parts
+pub parents_more : (nodes : List Node) (arena : IsArena nodes) (old after : List ℕ) (x : ℕ) (node : Node) → length old ≡ x → slice_get nodes x ≡ Some node → ((c : ℕ) → IsPart node c → slice_index_or after c 0 ≡ x) →
+    ((c : ℕ) → (IsPart node c → ⊥) → slice_index_or after c 0 ≡ slice_index_or (old ++ 0 ∷ []) c 0) → AreParents nodes old x → AreParents nodes after (x + 1)
+parents_more nodes arena old after x node all is told others notes q c other lt is' part = elim (cases_eq q x) [
+  | inl e ↦ let same : other ≡ node = search (rules, same_Some) in told c (rw (← same) part) ∙ sym e
+  | inr ne ↦ others c (λ mine. ne (arena.once q x c other node is' is part mine)) ∙ get_or_append_left old (0 ∷ []) 0 c (omega (arith, all, lt, ne, arena.below q c other is' part)) ∙ notes q c other (omega (arith, lt, ne)) is' part
+]

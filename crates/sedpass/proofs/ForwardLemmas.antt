@@ -82,6 +82,13 @@ goes_on p t u w start byte code edge mid next way pass is edges names arrive =
     (names_map (length p.nodes) u _ (Arrives p t.way w start (mid.place + 1)) code (λ b leads. arrives_next p t.way w start mid.place byte edge _ b pass.after is inside edges pass.arrived leads) names))
     (subst (λ (x : Way). EndsBelow p x w start (mid.place + 1) mid.end) (sym way) pass.last)
 
+-- by a cell of the table as it is, where the text's edge doesn't come
+pub goes_further : (p : WrittenExpression) (t : Table) (w : List ℕ) (start to byte code : ℕ) (mid next : Passed) → mid.place < to → to < length w → PassIs p t w start mid → slice_get w mid.place ≡ Some byte →
+    NamesState (length p.nodes) t (LeadsOn (nodes_of t.way p) t.way (state_of (length p.nodes) t (mid.offset / 2 ^ t.layout.shift)) byte false) code →
+    (start ≤ mid.place + 1 → mid.place + 1 ≤ length w → NamesState (length p.nodes) t (Arrives p t.way w start (mid.place + 1)) code → EndsBelow p t.way w start (mid.place + 1) mid.end → PassIs p t w start next) → PassIs p t w start next
+goes_further p t w start to byte code mid next low inside pass is names arrive =
+    goes_on p t t w start byte code false mid next refl pass is ((λ h. absurd (true≢false (sym h))), (λ e. absurd (omega (arith, e, low, inside)))) names arrive
+
 -- The beginning of a pass.
 
 pub names_first : (p : WrittenExpression) (t u : Table) (w : List ℕ) (from : ℕ) (kind : PlaceKind) (code : ℕ) → u.way ≡ t.way → t.way.mirrored ≡ false → from ≤ length w → (IsTrue kind.begin ↔ (from ≡ 0)) → (IsTrue kind.end ↔ (from ≡ length w)) →

@@ -1,3 +1,4 @@
+pub mod ActLemmas
 pub mod ClassLemmas
 pub mod DecideLemmas
 pub mod FactLemmas

@@ -1,22 +1,7 @@
 -- How the marks at a place follow from what the leaves took, and what a row shows.
-use Rattle.sedpass.proofs.Words.{rules, ◌≡◌, ◌≢◌, ℕ, ◌+◌, ◌<◌, ◌≤◌, ◌⊎◌, ◌↔◌, Bool, List, length, Option, Some, None, IsTrue, refl, sym, ◌∙◌, inl, inr, true≢false, true, false, ◌&&◌, ◌||◌, arith, slice_get, slice_index_or, slice_set, eqb, reverse, slice_get_within, get_or-set_same, get_or-set_other, and_parts, and_from, cases_eq, eqb-true, eq-eqb, lt-ltb, IsArena, IsPart, WrittenExpression, tree_at, mirror_node, seen, seen-node, old_node, Node, NodeId, Set, Seq, Alt, Group, Star, Opt, Starts, enter_parts, takes_any, AgreeBelow, KeepsRows, row_of, HasSpan, IsStart, one_start, SomeSpan, BeginsWith, Marked, PartFrom, Enters, at_root, with_whole, after_left, again, CanEnd, Matches-forward, CopiesLead-append, CopiesLead-last, open_at, close_at, takes_some, FromNode, Enters-from, Enters-part, Enters-inside, Enters-root, BeginsWith-part, both-iff, either-iff, same_Some, EndsPastIn, ReachesEnd, MeetsAt, Took, SameBytes, InTree, is_tree, part_of, IsNodeRange, AreNull, ended_by, AreWide, bits, ShowTook, RowOfPlace, LeafAt, EndKept, length-set}
-use Rattle.sedpass.proofs.LeaveLemmas.{ends_at, reaches_mirror, Opposite}
+use Rattle.sedpass.proofs.Words.{rules, ◌≡◌, ◌≢◌, ℕ, ◌+◌, ◌<◌, ◌≤◌, ◌⊎◌, ◌↔◌, Bool, List, length, Option, Some, None, IsTrue, refl, sym, ◌∙◌, inl, inr, true≢false, true, false, ◌&&◌, ◌||◌, arith, slice_get, slice_index_or, reverse, slice_get_within, and_parts, cases_eq, lt-ltb, IsArena, IsPart, WrittenExpression, tree_at, mirror_node, seen, seen-node, old_node, Node, NodeId, Set, Seq, Alt, Group, Star, Opt, Starts, AgreeBelow, KeepsRows, row_of, HasSpan, IsStart, one_start, SomeSpan, BeginsWith, Enters, at_root, with_whole, after_left, again, CanEnd, Matches-forward, CopiesLead-append, CopiesLead-last, open_at, close_at, takes_some, FromNode, Enters-from, Enters-part, Enters-root, BeginsWith-part, both-iff, either-iff, ReachesEnd, MeetsAt, Took, SameBytes, InTree, is_tree, part_of, IsNodeRange, ended_by, AreWide, bits, ShowTook, RowOfPlace}
+use Rattle.sedpass.proofs.LeaveLemmas.{reaches_mirror, Opposite}
 use Rattle.sedpass.proofs.MeetingLemmas.{meets_whole}
-
--- what is shown of the nodes from y on alone, and a row of them
-abbrev pub ShowFrom : ℕ → (ℕ → Bool) → (ℕ → Type 0) → Type 0
-ShowFrom y bits P = (c : ℕ) → IsTrue (bits c) ↔ ((y ≤ c) × P c)
-
-abbrev pub RowFrom : List Node → List ℕ → ℕ → Starts → Bool → (p y : ℕ) → (entered ended : ℕ → Bool) → Type 0
-RowFrom nodes w r s keeps p y entered ended = ShowFrom y entered (LeafAt nodes w r s p) × ShowFrom y ended (EndKept nodes w r s keeps p)
-
--- c is r, or a node in r and a part of one from y on
-abbrev pub TreeFrom : List Node → ℕ → ℕ → ℕ → Type 0
-TreeFrom nodes r y c = InTree nodes r c × PartFrom nodes r y c
-
--- c is a node in r below n
-abbrev pub TreeBelow : List Node → ℕ → ℕ → ℕ → Type 0
-TreeBelow nodes r n c = InTree nodes r c × (c < n)
 
 -- no leaf is entered at the place
 abbrev pub NoneEntered : List Node → List ℕ → ℕ → Starts → ℕ → Type 0
@@ -56,7 +41,7 @@ module _ (nodes : List Node) (w : List ℕ) (r : ℕ) (s : Starts) (arena : IsAr
 
   -- upwards: the mark of a node that ends with a byte, by those of its parts
   module _ (took : List Bool → Bool) (null ended : ℕ → Bool) (x j : ℕ) (le : x ≤ r) where
-    ended_is : (node : Node) → slice_get nodes x ≡ Some node → ((m : List Bool) → node ≡ Set m → IsTrue (took m) ↔ Took nodes w r s j x m) →
+    pub ended_is : (node : Node) → slice_get nodes x ≡ Some node → ((m : List Bool) → node ≡ Set m → IsTrue (took m) ↔ Took nodes w r s j x m) →
         ((c : ℕ) → IsPart node c → IsTrue (null c) ↔ HasSpan nodes w c j j) → ((c : ℕ) → IsPart node c → IsTrue (ended c) ↔ CanEnd nodes w r s c j) → IsTrue (ended_by took null ended node) ↔ CanEnd nodes w r s x j
     ended_is (Set m) is takes nulls ends = (
       λ h. let here = (takes m refl).0 h in let taken = takes_some (slice_get w here.0) m here.3 in (here.0, omega arith, here.2, close_at nodes w x (Set m) arena is here.0 j (taken.0, taken.1, taken.2, sym here.1)),
@@ -93,10 +78,10 @@ module _ (nodes : List Node) (w : List ℕ) (r : ℕ) (s : Starts) (arena : IsAr
   -- downwards: the mark of a part that is entered, by that of its node
   module _ (x p : ℕ) (le : x ≤ r) (here : Bool) (enters : IsTrue here ↔ Enters nodes w r s x p) where
     -- a part that is entered with its node alone
-    with_node : (c : ℕ) (node : Node) → slice_get nodes x ≡ Some node → BeginsWith node c → (FromNode nodes w r s x c p node → Enters nodes w r s x p) → IsTrue here ↔ Enters nodes w r s c p
+    pub with_node : (c : ℕ) (node : Node) → slice_get nodes x ≡ Some node → BeginsWith node c → (FromNode nodes w r s x c p node → Enters nodes w r s x p) → IsTrue here ↔ Enters nodes w r s c p
     with_node c node is begins alone = search (rules, with_whole, Enters-part, BeginsWith-part)
 
-    right_part : (a b : NodeId) → slice_get nodes x ≡ Some (Seq a b) → (null ended : Bool) → (IsTrue null ↔ HasSpan nodes w a.index p p) → (IsTrue ended ↔ CanEnd nodes w r s a.index p) →
+    pub right_part : (a b : NodeId) → slice_get nodes x ≡ Some (Seq a b) → (null ended : Bool) → (IsTrue null ↔ HasSpan nodes w a.index p p) → (IsTrue ended ↔ CanEnd nodes w r s a.index p) →
         IsTrue (ended || (here && null)) ↔ Enters nodes w r s b.index p
     right_part a b is null ended nulls ends =
         let truth = either-iff _ _ _ _ ends (both-iff _ _ _ _ enters nulls) in (
@@ -105,7 +90,7 @@ module _ (nodes : List Node) (w : List ℕ) (r : ℕ) (s : Starts) (arena : IsAr
               search (rules, truth.1, with_whole x a.index from.0 (Seq a b) is refl from.1, Matches-forward (tree_at nodes a.index) w from.0 p from.2),
         )
 
-    copy_part : (a : NodeId) (first : Bool) → slice_get nodes x ≡ Some (Star a first) → (ended : Bool) → (IsTrue ended ↔ CanEnd nodes w r s a.index p) → IsTrue (here || ended) ↔ Enters nodes w r s a.index p
+    pub copy_part : (a : NodeId) (first : Bool) → slice_get nodes x ≡ Some (Star a first) → (ended : Bool) → (IsTrue ended ↔ CanEnd nodes w r s a.index p) → IsTrue (here || ended) ↔ Enters nodes w r s a.index p
     copy_part a first is ended ends =
         let truth = either-iff _ _ _ _ enters ends in (
           λ h. elim (truth.0 h) [ inl begins ↦ with_whole x a.index p (Star a first) is refl begins | inr end ↦ let more = one_copy x p a first le is end in again x a.index more.0 p a first is refl more.2 more.3 ],
@@ -117,7 +102,7 @@ pub dead : (nodes : List Node) (w : List ℕ) (r p i k : ℕ) (s : Starts) → I
 dead nodes w r p i k s arena inside none start low high at = let met = meets_whole nodes w r p s (one_start k) arena inside in search (rules, met.1, none)
 
 -- what the scans keep
-InTree-inside : (nodes : List Node) → IsArena nodes → (r x : ℕ) → InTree nodes r x → x ≤ r
+pub InTree-inside : (nodes : List Node) → IsArena nodes → (r x : ℕ) → InTree nodes r x → x ≤ r
 InTree-inside nodes arena r x (is_tree _ e) = omega arith
 InTree-inside nodes arena r x (part_of y _ node is part up) = omega (arith, InTree-inside nodes arena r y up, arena.below y x node is part)
 
@@ -128,117 +113,10 @@ enters_tree nodes w r s x j (with_whole y _ _ node is begins e) = part_of y x no
 enters_tree nodes w r s x j (after_left y _ i _ a b is right e at) = part_of y x (Seq a b) is (inr right) (enters_tree nodes w r s y i e)
 enters_tree nodes w r s x j (again y _ i _ a first is inner e at) = part_of y x (Star a first) is inner (enters_tree nodes w r s y i e)
 
--- a node in r is r, or a part of one above it
-pub tree_shown : (nodes : List Node) → IsArena nodes → (r x : ℕ) → InTree nodes r x → TreeFrom nodes r (x + 1) x
-tree_shown nodes arena r x (is_tree _ e) = (is_tree x e, inl e)
-tree_shown nodes arena r x (part_of y _ node is part up) = search (rules, part_of, arena.below, InTree-inside)
-
-tree_step : (nodes : List Node) (r x : ℕ) (node : Node) → slice_get nodes x ≡ Some node → (c : ℕ) → TreeFrom nodes r x c → TreeFrom nodes r (x + 1) c ⊎ IsPart node c
-tree_step nodes r x node is c shown = search rules
-
-mark_one : (marks after : List Bool) (x : ℕ) (v : Bool) (S R P : ℕ → Type 0) → after ≡ slice_set marks x v → x < length marks → (IsTrue v ↔ P x) → ((c : ℕ) → R c → S c ⊎ (c ≡ x)) →
-    Marked marks S P → Marked after R P
-mark_one marks after x v S R P is inside truth more marked c shown = search rules
-
-module _ (nodes : List Node) (w : List ℕ) (r x p : ℕ) (s : Starts) (node : Node) (arena : IsArena nodes) (inside : r < length nodes) (there : InTree nodes r x) (is : slice_get nodes x ≡ Some node)
-    (null : ℕ → Bool) (nulls : AreNull nodes w p null) where
-  -- one turn of the scan upwards
-  pub up : (took : List Bool → Bool) (v : Bool) (marks after : List Bool) → ((m : List Bool) → node ≡ Set m → IsTrue (took m) ↔ Took nodes w r s p x m) →
-      x < length marks → v ≡ ended_by took null (λ c. slice_index_or marks c false) node → after ≡ slice_set marks x v →
-      Marked marks (TreeBelow nodes r x) (λ c. CanEnd nodes w r s c p) → Marked after (TreeBelow nodes r (x + 1)) (λ c. CanEnd nodes w r s c p)
-  up took v marks after takes_it long value is_after marked =
-      let low = InTree-inside nodes arena r x there in
-      let law = ended_is nodes w r s arena took null (λ c. slice_index_or marks c false) x p low node is takes_it
-      (λ c part. nulls c (omega (arith, arena.below x c node is part))) (λ c part. marked c (part_of x c node is part there, arena.below x c node is part)) in
-      search (rules, mark_one, cases_eq)
-
--- the scan downwards begins at the root
-pub down_root : (nodes : List Node) (w : List ℕ) (r p y : ℕ) (s : Starts) (first : Bool) (marks after : List Bool) → IsArena nodes → r < y → r < length marks → after ≡ slice_set marks r first → (IsTrue first ↔ IsStart s p) →
-    Marked after (TreeFrom nodes r y) (λ c. Enters nodes w r s c p)
-down_root nodes w r p y s first marks after arena all long is_after begins = search (rules, at_root, Enters-root, mark_one)
-
--- one turn of the scan downwards
-module _ (nodes : List Node) (w : List ℕ) (r x p : ℕ) (s : Starts) (arena : IsArena nodes) (inside : r < length nodes) (there : InTree nodes r x)
-    (null ended : ℕ → Bool) (nulls : AreNull nodes w p null) (ends : (c : ℕ) → InTree nodes r c → IsTrue (ended c) ↔ CanEnd nodes w r s c p)
-    (marks : List Bool) (long : length nodes ≤ length marks) (marked : Marked marks (TreeFrom nodes r (x + 1)) (λ c. Enters nodes w r s c p)) where
-  abbrev here_mark : Bool
-  here_mark = slice_index_or marks x false
-
-  here_shown : IsTrue here_mark ↔ Enters nodes w r s x p
-  here_shown = marked x (tree_shown nodes arena r x there)
-
-  low_root : x ≤ r
-  low_root = InTree-inside nodes arena r x there
-
-  one_more_part : (node : Node) (a : ℕ) (v : Bool) (after : List Bool) → slice_get nodes x ≡ Some node → IsPart node a → ((c : ℕ) → IsPart node c → a ≡ c) → after ≡ slice_set marks a v → (IsTrue v ↔ Enters nodes w r s a p) →
-      Marked after (TreeFrom nodes r x) (λ c. Enters nodes w r s c p)
-  one_more_part node a v after is part only is_after truth =
-      mark_one marks after a v _ _ _ is_after (omega (arith, low_root, arena.below x a node is part)) truth (λ c shown. let at = tree_step nodes r x node is c shown in search (rules, only, sym)) marked
-
-  two_more_parts : (node : Node) (a b : ℕ) (u v : Bool) (after : List Bool) → slice_get nodes x ≡ Some node → IsPart node a → IsPart node b → ((c : ℕ) → IsPart node c → (a ≡ c) ⊎ (b ≡ c)) →
-      after ≡ slice_set (slice_set marks a u) b v → (IsTrue u ↔ Enters nodes w r s a p) → (IsTrue v ↔ Enters nodes w r s b p) →
-      Marked after (TreeFrom nodes r x) (λ c. Enters nodes w r s c p)
-  two_more_parts node a b u v after is left right only is_after truth truth' =
-      let first = mark_one marks (slice_set marks a u) a u _ (λ c. TreeFrom nodes r (x + 1) c ⊎ (c ≡ a)) _ refl (omega (arith, low_root, arena.below x a node is left)) truth (λ c shown. shown) marked in
-      mark_one (slice_set marks a u) after b v _ _ _ is_after (omega (arith, length-set marks a u, low_root, arena.below x b node is right)) truth' (λ c shown. let at = tree_step nodes r x node is c shown in let part = only c in search (rules, sym)) first
-
-  pub down : (node : Node) (after : List Bool) → slice_get nodes x ≡ Some node → after ≡ enter_parts here_mark null ended node marks →
-      Marked after (TreeFrom nodes r x) (λ c. Enters nodes w r s c p)
-  down (Seq a b) after is is_after =
-      two_more_parts (Seq a b) a.index b.index here_mark (ended a.index || (here_mark && null a.index)) after is (inl refl) (inr refl) (λ c part. part) is_after
-      (with_node nodes w r s arena x p low_root here_mark here_shown a.index (Seq a b) is refl (λ h. elim h [ inl left ↦ left.1 | inr same ↦ absurd (arena.distinct x (Seq a b) is (sym same.0)) ]))
-      (right_part nodes w r s arena x p low_root here_mark here_shown a b is _ _ (nulls a.index (omega (arith, low_root, arena.below x a.index (Seq a b) is (inl refl)))) (ends a.index (part_of x a.index (Seq a b) is (inl refl) there)))
-  down (Alt a b) after is is_after =
-      let whole = λ (c : ℕ) (part : IsPart (Alt a b) c). with_node nodes w r s arena x p low_root here_mark here_shown c (Alt a b) is part (λ h. h) in
-      two_more_parts (Alt a b) a.index b.index here_mark here_mark after is (inl refl) (inr refl) (λ c part. part) is_after (whole a.index (inl refl)) (whole b.index (inr refl))
-  down (Group k a) after is is_after = search (rules, one_more_part, with_node, low_root, here_shown)
-  down (Star a first) after is is_after = search (rules, one_more_part, copy_part, low_root, here_shown, part_of, ends)
-  down (Opt a first) after is is_after = search (rules, one_more_part, with_node, low_root, here_shown)
-  down other after is is_after = rw is_after (λ c shown. marked c (let at = tree_step nodes r x other is c shown in search rules))
-
 -- The row of a place, bit for bit.
-
-is_set : (node : Node) → IsTrue (takes_any node) → (m : List Bool) × (node ≡ Set m)
-is_set node h = search rules
 
 pub bits_here : (m : ℕ) (marks : List Bool) (x : ℕ) → x < m → bits m marks x ≡ slice_index_or marks x false
 bits_here m marks x less = search (rules, lt-ltb)
-
-pub bits_set : (m : ℕ) (marks after : List Bool) (x : ℕ) (v : Bool) → x < m → x < length marks → after ≡ slice_set marks x v → bits m after x ≡ v
-bits_set m marks after x v less inside is = search (rules, bits_here, get_or-set_same)
-
-pub bits_other : (m : ℕ) (marks after : List Bool) (x : ℕ) (v : Bool) → after ≡ slice_set marks x v → (c : ℕ) → (c ≡ x → ⊥) → bits m after c ≡ bits m marks c
-bits_other m marks after x v is c ne = search (rules, get_or-set_other)
-
--- the bits from y on decide P, by one after another
-show_more : (bits after : ℕ → Bool) (P : ℕ → Type 0) (x : ℕ) (v : Bool) → after x ≡ v → (IsTrue v ↔ P x) → ((c : ℕ) → (c ≡ x → ⊥) → after c ≡ bits c) → ShowFrom (x + 1) bits P → ShowFrom x after P
-show_more bits after P x v is truth others shown c = search rules
-
-module _ (nodes : List Node) (w : List ℕ) (r p : ℕ) (s : Starts) (keeps : Bool) where
-  abbrev Leaf : ℕ → Type 0
-  Leaf c = LeafAt nodes w r s p c
-
-  abbrev Kept : ℕ → Type 0
-  Kept c = EndKept nodes w r s keeps p c
-
-  pub row_none : (y : ℕ) (entered ended : ℕ → Bool) → IsArena nodes → r < y → ((c : ℕ) → entered c ≡ false) → ((c : ℕ) → ended c ≡ false) → RowFrom nodes w r s keeps p y entered ended
-  row_none y entered ended arena past no_leaf no_end = search (rules, up, Enters-inside)
-
-  pub row_step : (x m : ℕ) (node : Node) (here end null : Bool) (leaves ends after after_ends : List Bool) → x < m → x < length leaves → x < length ends → slice_get nodes x ≡ Some node →
-      (IsTrue here ↔ Enters nodes w r s x p) → (IsTrue end ↔ CanEnd nodes w r s x p) → (IsTrue null ↔ HasSpan nodes w x p p) →
-      after ≡ slice_set leaves x (takes_any node && here) → after_ends ≡ slice_set ends x ((keeps || eqb x r) && (end || (eqb x r && (here && null)))) →
-      RowFrom nodes w r s keeps p (x + 1) (bits m leaves) (bits m ends) → RowFrom nodes w r s keeps p x (bits m after) (bits m after_ends)
-  row_step x m node here end null leaves ends after after_ends less long long' is enters ended nulls is_after is_ended row =
-      let leaf : IsTrue (takes_any node && here) ↔ Leaf x = search (rules, and_parts, and_from, is_set, same_Some) in
-      let asked : IsTrue (keeps || eqb x r) ↔ (IsTrue keeps ⊎ (x ≡ r)) = either-iff keeps (eqb x r) (IsTrue keeps) (x ≡ r) (λ h. h, λ h. h) (eqb-true x r, eq-eqb x r) in
-      let law = ends_at nodes w r x p s in
-      let own = both-iff (eqb x r) (here && null) (x ≡ r) (Enters nodes w r s x p × HasSpan nodes w x p p) (eqb-true x r, eq-eqb x r) (both-iff here null (Enters nodes w r s x p) (HasSpan nodes w x p p) enters nulls) in
-      let truth = either-iff end (eqb x r && (here && null)) (CanEnd nodes w r s x p) ((x ≡ r) × (Enters nodes w r s x p × HasSpan nodes w x p p)) ended own in
-      let kept = both-iff (keeps || eqb x r) (end || (eqb x r && (here && null))) (IsTrue keeps ⊎ (x ≡ r)) (EndsPastIn nodes w r s x p) asked (λ h. law.1 (truth.0 h), λ h. truth.1 (law.0 h)) in
-      search (rules, show_more, bits_set, bits_other, leaf, kept)
-
-  pub row_done : (low : ℕ) (entered ended : ℕ → Bool) → ((c : ℕ) → InTree nodes r c → low ≤ c) → RowFrom nodes w r s keeps p low entered ended → RowOfPlace nodes w r s keeps p entered ended
-  row_done low entered ended all row = search (rules, enters_tree)
 
 -- the root ends where a match does
 pub row_root : (nodes : List Node) (w : List ℕ) (r p : ℕ) (s : Starts) (keeps : Bool) (entered ended : ℕ → Bool) → IsArena nodes → RowOfPlace nodes w r s keeps p entered ended → IsTrue (ended r) ↔ SomeSpan nodes w r s p
@@ -268,7 +146,7 @@ range_of nodes x low node is small down up c = (
 
 -- The same of a mirrored expression.
 
-part_mirror : (node : Node) (c : ℕ) → IsPart node c ↔ IsPart (mirror_node node) c
+pub part_mirror : (node : Node) (c : ℕ) → IsPart node c ↔ IsPart (mirror_node node) c
 part_mirror node c = search rules
 
 in_mirror : (e : WrittenExpression) (r c : ℕ) → InTree e.nodes r c → InTree (seen true e).nodes r c
@@ -310,7 +188,7 @@ took_bits nodes w r p s keeps m leaves before byte long bytes row c members insi
 
 -- none did before the first start
 pub first_bits : (nodes : List Node) (w : List ℕ) (r : ℕ) (s : Starts) (leaves : List Bool) → ShowTook nodes w r s s.first None leaves
-first_bits nodes w r s leaves c members inside is = search (rules, and_parts, up, Enters-from)
+first_bits nodes w r s leaves c members inside is = search (rules, and_parts, Enters-from)
 
 -- Rows of marks.
 
@@ -325,13 +203,3 @@ still_wide P m state old new keeps wide = (wide.0, omega (arith, wide.1, keeps.l
 pub copied_rows : (m n to last_to : ℕ) (mid new : List (List Bool)) (leaf last : List Bool) → n ≡ m → to ≢ last_to → AgreeBelow n (row_of mid to) leaf → KeepsRows (λ q. q ≢ last_to) mid new → AgreeBelow n (row_of new last_to) last →
     (bits m (row_of new to) ≡ bits m leaf) × (bits m (row_of new last_to) ≡ bits m last)
 copied_rows m n to last_to mid new leaf last count apart one keeps two = search rules
-
--- the rows but the first and two more
-abbrev pub Others : ℕ → ℕ → ℕ → Type 0
-Others leaves ends q = (1 ≤ q) × (q ≢ leaves) × (q ≢ ends)
-
--- marks of three rows were written
-pub rows_written : (leaves ends x : ℕ) (leaf kept : Bool) (old mid one two : List (List Bool)) → 1 ≤ leaves → leaves < ends → KeepsRows (λ q. q ≢ 0) old mid → KeepsRows (λ q. q ≢ leaves) mid one → row_of one leaves ≡ slice_set (row_of mid leaves) x leaf →
-    KeepsRows (λ q. q ≢ ends) one two → row_of two ends ≡ slice_set (row_of one ends) x kept →
-    KeepsRows (Others leaves ends) old two × (row_of two 0 ≡ row_of mid 0) × (row_of two leaves ≡ slice_set (row_of old leaves) x leaf) × (row_of two ends ≡ slice_set (row_of old ends) x kept)
-rows_written leaves ends x leaf kept old mid one two some apart a b leaf_is c kept_is = search rules

@@ -1,10 +1,10 @@
 -- What proofs here take from other crates, the definitions and the types of the code, in one place.
-pub use Rattle.std.proofs.Common.{Bool, Global, IfSome, IsTrue, List, None, Option, Some, Vec, [], add-one, ap, arith, bit_and, bit_or, cond, eqb, false, inl, inr, is_some, length, length-append, max, min, mul-le-mul_left, nat_eq, not, refl, replicate, reverse, rules, slice_get, slice_index_or, slice_set, subst, suc, sym, true, true≢false, vec_capacity, w16, zero, ℕ, ⊎_elim, ◌%◌, ◌&&◌, ◌*◌, ◌++◌, ◌+◌, ◌-◌, ◌/◌, ◌<◌, ◌^◌, ◌||◌, ◌↔◌, ◌∙◌, ◌∷◌, ◌≡◌, ◌≢◌, ◌≤◌, ◌⊎◌}
+pub use Rattle.std.proofs.Common.{Bool, Global, IfSome, IsTrue, List, None, Option, Some, Vec, [], add-one, ap, arith, bit_and, bit_or, cond, eqb, false, inl, inr, is_some, length, length-append, max, min, mul-le-mul_left, nat_eq, not, refl, replicate, reverse, rules, slice_get, slice_index_or, slice_set, subst, suc, sym, true, true≢false, vec_capacity, w16, zero, ℕ, ⊎_elim, ◌%◌, ◌&&◌, ◌*◌, ◌++◌, ◌+◌, ◌-◌, ◌/◌, ◌<◌, ◌^◌, ◌||◌, ◌↔◌, ◌∙◌, ◌∷◌, ◌≡◌, ◌≢◌, ◌≤◌, ◌⊎◌, nat_le, nat_lt}
 pub use Rattle.std.proofs.Math.Bool.{and-false, beq}
 pub use Rattle.std.proofs.Math.Dec.{leb, ltb}
 pub use Rattle.std.proofs.Math.Nat.{div-mul-le_self, lt-div-mul-add, mod-eq_of_lt, mul-div-le, mul-le-mul_right, mul-sub, pow-le-pow_right}
 pub use Rattle.std.proofs.Math.Pow.{pow_mono}
-pub use Rattle.std.proofs.lemmas.Bool.{and_from, and_parts, both_ways, cases_Bool, cases_eq, cases_lt, eq-eqb, eqb-true, lt-ltb, ltb-true, ne_eqb, not-false, or_cases}
+pub use Rattle.std.proofs.lemmas.Bool.{and_from, and_parts, both_ways, cases_Bool, cases_eq, cases_lt, eq-eqb, eqb-true, le-leb, leb-true, lt-ltb, ltb-true, ne_eqb, not-false, or_cases}
 pub use Rattle.std.proofs.lemmas.Bool.Decides.{eqb_tells}
 pub use Rattle.std.proofs.lemmas.Grind.{common_steps}
 pub use Rattle.std.proofs.lemmas.List.{ext_get_or, get_or-replicate, get_or-set_other, get_or-set_same, get_or_default, get_or_past, length-replicate, length-reverse, length-set, nil_from_length, reverse-append}
@@ -44,8 +44,7 @@ pub use Rattle.sedtext.specs.Following.{LooksPast}
 pub use Rattle.sedtext.specs.Groups.{SpansOfGroups, deeper, forget, group_depth, no_groups}
 pub use Rattle.sedtext.specs.Matching.{byte_is_in, groups_after, leftmost_longest}
 pub use Rattle.sedtext.specs.Nodes.{IsRepetitionOf, parts_of}
-pub use Rattle.sedtext.specs.PartMarks.{enter_parts}
-pub use Rattle.sedtext.specs.Places.{Ascending, IsPlace, takes_any}
+pub use Rattle.sedtext.specs.Places.{Ascending, IsPlace}
 pub use Rattle.sedtext.specs.Reach.{BeginsWith, CanEnd, Enters, HasSpan, IsLongestFrom, IsStart, Marked, PartFrom, SomeSpan, Starts, after_left, again, at_root, one_start, starts_to, with_whole}
 pub use Rattle.sedtext.specs.Spans.{CopiesLead, Matches, NotFound, SomeFound, no_copy, one_more}
 pub use Rattle.sedtext.specs.Words.{AgreeBelow, KeepsRows, row_of}
@@ -53,9 +52,9 @@ pub use Rattle.sedpass.specs.Classes.{IsFiner, IsNumbering}
 pub use Rattle.sedpass.specs.Decide.{AreTables, EndsRegion, HasBlank, HasDesk, HasNoKnownLength, HasSpace, IsAtEnd, IsCopyFrom, IsTaskReady, IsTurn, KeepsGroupDesk, KeepsGroupRoom, LooksAt, NodeMatches, NodeTurned, NoneSettled, Works, entered_at, flags_of, known_groups, match_cost, nodes_in, region_cost, spans_in, subject_text, task_cost, tasks_after, tasks_cost, then_cost, weights}
 pub use Rattle.sedpass.specs.Forwards.{Arrives, EndsBelow, IsPassEnd, LastBelow, PassIs, is_over, starts_of}
 pub use Rattle.sedpass.specs.Kept.{AllMarked, ComesDown, EdgesFrom, Follows, IsEdge, IsKept, IsLive, IsRegion, KeepsRegion, KeptAt, Meet, PassesDownTo, RowKept, SameKept, SameSpace, due_place, ends_shown, owed_region, starts_shown}
-pub use Rattle.sedpass.specs.Prepared.{AreFacts, IsFacts, IsShort, holds, is_one_set, length_of, null_at, null_in, nullable, repeated_set, reported, same_of, sum_of}
+pub use Rattle.sedpass.specs.Prepared.{AreFacts, AreParents, IsFacts, IsShort, holds, is_one_set, length_of, null_at, null_in, nullable, repeated_set, reported, same_of, sum_of}
 pub use Rattle.sedpass.specs.Regions.{CanLeave, CeasesAt, EndsPastIn, EndsWith, IsLastIn, IsLastPart, IsRunOf, IsSetAt, MeetsAt, ReachesEnd, all_of, at_end, before_copies, before_right, in_group, last_of, repeated, with_end}
-pub use Rattle.sedpass.specs.Rows.{AreNull, AreWide, EndKept, InTree, IsApart, IsNodeRange, LeafAt, RowOfPlace, SameBytes, ShowTook, Took, at_begin, at_edge, bits, ended_by, ends_row, is_tree, leaves_row, nodes_of, part_of, root_of}
+pub use Rattle.sedpass.specs.Rows.{AddsMarks, AreNull, AreWide, EndKept, EndsAfter, EndsUpTo, EntersDownTo, InTree, IsApart, IsNodeRange, LeafAt, RowOfPlace, SameBytes, ShowTook, StartsAfter, StartsWith, TakenBy, Took, at_begin, at_edge, bits, ended_by, ends_row, entered_by, is_tree, leaves_row, has_mark, nodes_of, part_of, root_of, takes_at}
 pub use Rattle.sedpass.specs.Search.{LooksFrom, Searched, owed_after_search, owed_kept, owed_seeking, search_cost}
 pub use Rattle.sedpass.specs.Table.{AddsStates, BeginsIn, Codes, FlagsShow, HasNewRow, HasRoom, HasRows, IsColumn, IsForwardOne, IsLayout, IsMade, IsNext, IsOffset, IsRoomy, IsTable, LeadsBy, LeadsOn, MayBegin, NamesState, PassState, SameRoom, SameShape, beginning_at, beginning_of, cell_of, code_of, column_at, kind_number, state_of}
 pub use Rattle.sedpass.specs.Walks.{EntersGroups, GroupIsIn, GroupState, IsFirstState, NoneDue, WalkEnters, drop_groups, has_group, is_due, settle}

@@ -1,8 +1,9 @@
 -- Private to the proofs: no contract that `sedmatch` makes public cites what is here.
 -- What is found out once of an expression: facts of each node, as its groups and how long its spans are.
-use Rattle.std.specs.Prelude.{◌≡◌, ℕ, ◌+◌, ◌-◌, ◌*◌, ◌≤◌, Bool, true, false, ◌&&◌, ◌||◌, eqb, List, length, slice_get, cond, Option, Some, None, IfSome, nat_lt}
+use Rattle.std.specs.Prelude.{◌≡◌, ℕ, ◌+◌, ◌-◌, ◌*◌, ◌<◌, ◌≤◌, Bool, true, false, ◌&&◌, ◌||◌, eqb, List, length, slice_get, slice_index_or, cond, Option, Some, None, IfSome, nat_lt, vec_capacity}
 use Rattle.std.specs.Int.{bit_at, from_bool}
 use Rattle.sedre.specs.Tree.{Tree, byte_of, text_begin, text_end, sequence, either_of, grouped, any_copies, WrittenExpression, expression_tree, tree_at, null_string, one_or_none, size}
+use Rattle.sedre.specs.Arena.{IsPart}
 use Rattle.sedre.specs.declared.types.Node.{Node}
 use Rattle.sedtext.specs.Hints.{AreHints}
 use Rattle.sedpass.specs.Classes.{AreClasses}
@@ -87,9 +88,19 @@ AreFacts nodes facts = (x : ℕ) (here : Facts) → slice_get facts x ≡ Some h
 abbrev pub IsShort : Option ℕ → Type 0
 IsShort long = IfSome long (λ n. n ≤ 65536)
 
+-- of the first n nodes each is noted for its parts
+abbrev pub AreParents : List Node → List ℕ → ℕ → Type 0
+AreParents nodes parents n = (x c : ℕ) (node : Node) → x < n → slice_get nodes x ≡ Some node → IsPart node c → slice_index_or parents c 0 ≡ x
+
+-- there is room for what is found out of so many nodes
+abbrev pub HasNodeRoom : ℕ → Analysis → Type 0
+HasNodeRoom count f = (count ≤ vec_capacity f.facts) × (count ≤ vec_capacity f.parents)
+
 -- what was found out of the expression is right
 pub record IsAnalysis (e : WrittenExpression) (f : Analysis) : Type 0 where
   pub all : length f.facts.items ≡ length e.nodes
   pub facts : AreFacts e.nodes f.facts.items
+  pub parents_all : length f.parents.items ≡ length e.nodes
+  pub parents : AreParents e.nodes f.parents.items (length e.nodes)
   pub classes : AreClasses e.nodes f.classes.of f.classes.count
   pub hints : AreHints (expression_tree e) f.hints

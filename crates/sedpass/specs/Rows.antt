@@ -1,6 +1,6 @@
 -- Private to the proofs: no contract that `sedmatch` makes public cites what is here.
 -- What a row shows of a place, how the marks at a place follow from what the leaves took, and when one row leads to another.
-use Rattle.std.specs.Prelude.{◌≡◌, ◌≢◌, ℕ, ◌+◌, ◌-◌, ◌*◌, ◌≤◌, ◌<◌, ◌⊎◌, ◌↔◌, Bool, true, false, ◌&&◌, ◌||◌, List, length, slice_get, slice_index_or, Option, Some, IsTrue, nat_lt}
+use Rattle.std.specs.Prelude.{◌≡◌, ◌≢◌, ℕ, ◌+◌, ◌-◌, ◌*◌, ◌≤◌, ◌<◌, ◌⊎◌, ◌↔◌, Bool, true, false, ◌&&◌, ◌||◌, if◌then◌else◌, eqb, List, length, slice_get, slice_index_or, Option, Some, IsTrue, nat_lt, nat_le}
 use Rattle.sedre.specs.Arena.{IsPart}
 use Rattle.sedre.specs.Tree.{WrittenExpression}
 use Rattle.sedre.specs.Mirror.{seen}
@@ -85,6 +85,53 @@ ended_by took null ended (Group k a) = ended a.index
 ended_by took null ended (Star a first) = ended a.index
 ended_by took null ended (Opt a first) = ended a.index
 ended_by took null ended other = false
+
+-- whether the part c of a node begins at a place: `here` says whether the node begins there
+abbrev pub entered_by : Bool → (ℕ → Bool) → (ℕ → Bool) → Node → ℕ → Bool
+entered_by here null ended (Seq a b) c = if eqb c a.index then here else ended a.index || (here && null a.index)
+entered_by here null ended (Star a first) c = here || ended a.index
+entered_by here null ended other c = here
+
+-- the mark of the number c
+abbrev pub has_mark : List Bool → ℕ → Bool
+has_mark marks c = slice_index_or marks c false
+
+-- the marks after are those before, and those of P
+abbrev pub AddsMarks : List Bool → List Bool → (ℕ → Type 0) → Type 0
+AddsMarks before after P = (c : ℕ) → IsTrue (has_mark after c) ↔ (IsTrue (has_mark before c) ⊎ P c)
+
+-- the parts of a node that begin where it does
+abbrev pub StartsWith : (ℕ → Bool) → Node → ℕ → Type 0
+StartsWith null node c = IsPart node c × IsTrue (entered_by true null (λ n. false) node c)
+
+-- those that begin where its part y ends, and whether it ends there itself
+abbrev pub StartsAfter : (ℕ → Bool) → Node → ℕ → ℕ → Type 0
+StartsAfter null node y c = IsPart node c × IsTrue (entered_by false null (λ n. eqb n y) node c)
+
+abbrev pub EndsAfter : (ℕ → Bool) → Node → ℕ → Type 0
+EndsAfter null node y = IsTrue (ended_by (λ members. false) null (λ n. eqb n y) node)
+
+-- whether the byte that came is one of these, if the leaf x was entered
+abbrev pub takes_at : List Bool → Option ℕ → ℕ → List Bool → Bool
+takes_at leaves byte x members = has_mark leaves x && byte_is_in byte members
+
+-- the node is a leaf whose set has the byte
+abbrev pub TakenBy : Option ℕ → Node → Type 0
+TakenBy byte node = (members : List Bool) × (node ≡ Set members) × IsTrue (byte_is_in byte members)
+
+-- Nodes in r are marked only if the byte or their parts say so; and if the byte says so, or their parts below y do, they are.
+pub record EndsUpTo (nodes : List Node) (r : ℕ) (leaves : List Bool) (byte : Option ℕ) (null : ℕ → Bool) (ended : List Bool) (y : ℕ) : Type 0 where
+  pub inside : (x : ℕ) → x < length nodes → IsTrue (has_mark ended x) → InTree nodes r x
+  pub just : (x : ℕ) (node : Node) → slice_get nodes x ≡ Some node → IsTrue (has_mark ended x) → IsTrue (ended_by (takes_at leaves byte x) null (has_mark ended) node)
+  pub closed : (x : ℕ) (node : Node) → InTree nodes r x → slice_get nodes x ≡ Some node → IsTrue (ended_by (takes_at leaves byte x) null (λ c. nat_lt c y && has_mark ended c) node) → IsTrue (has_mark ended x)
+
+-- Parts in r are marked only if their nodes say so; and if nodes from y on do, or parts that ended below z, they are.
+pub record EntersDownTo (nodes : List Node) (r : ℕ) (first : Bool) (null : ℕ → Bool) (ended entered : List Bool) (y z : ℕ) : Type 0 where
+  pub inside : (c : ℕ) → c < length nodes → IsTrue (has_mark entered c) → InTree nodes r c
+  pub root : has_mark entered r ≡ first
+  pub just : (x c : ℕ) (node : Node) → InTree nodes r x → slice_get nodes x ≡ Some node → IsPart node c → IsTrue (has_mark entered c) → IsTrue (entered_by (has_mark entered x) null (has_mark ended) node c)
+  pub closed : (x c : ℕ) (node : Node) → InTree nodes r x → slice_get nodes x ≡ Some node → IsPart node c →
+      IsTrue (entered_by (nat_le y x && has_mark entered x) null (λ n. nat_lt n z && has_mark ended n) node c) → IsTrue (has_mark entered c)
 
 -- the node is a leaf that is entered at the place
 abbrev pub LeafAt : List Node → List ℕ → ℕ → Starts → ℕ → ℕ → Type 0

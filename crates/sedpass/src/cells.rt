@@ -59,11 +59,12 @@ pub fn flags_of(code: u32) -> StateFlags
     }
 }
 
-/// Whether no flag of the state with this code is set.
+/// Whether this is the code of a state of which no flag is set.
 pub fn is_plain(code: u32) -> bool
-    ensures { IsTrue result → (flags : StateFlags) (offset : ℕ) → offset < 536870912 → code ≡ code_of flags offset → (flags.ends ≡ false) × (flags.dead ≡ false) }
+    ensures some { IsTrue result → 0 < code }
+    ensures plain { IsTrue result → (flags : StateFlags) (offset : ℕ) → offset < 536870912 → code ≡ code_of flags offset → (flags.ends ≡ false) × (flags.dead ≡ false) }
 {
-    code < 2 * PLACES
+    code / PLACES == 1
 }
 
 impl Layout {

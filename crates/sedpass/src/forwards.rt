@@ -53,18 +53,9 @@ impl Table {
             EndsBelow prepared.now self.now.way text.now start place end →
             PassIs prepared.now self.now text.now start result }
     {
-        let (offset, flags) = (offset_of(code), flags_of(code));
-        // Most states show nothing, so this comes first.
-        if is_plain(code) {
-            return Passed {
-                offset,
-                place,
-                end,
-                over: false,
-            };
-        }
+        let flags = flags_of(code);
         Passed {
-            offset,
+            offset: offset_of(code),
             place,
             end: flags.ends.then_some(place).or(end),
             over: is_over(self.way.all_starts, flags),
@@ -94,14 +85,23 @@ impl Table {
         ensures counts { TakesAtLeast steps.old steps.new (2 * (result.place - from.place)) }
     {
         let mut at = from;
-        while !at.over && at.place < to {
+        while at.place < to {
             let byte = text.byte(at.place, steps);
             let cell = self.known(prepared, at.offset, byte, false);
-            if cell == 0 {
-                steps.add(at.place - from.place + 1);
-                return at;
+            if is_plain(cell) {
+                // Most states show nothing.
+                at.offset = offset_of(cell);
+                at.place += 1;
+            } else {
+                if cell == 0 {
+                    steps.add(at.place - from.place + 1);
+                    return at;
+                }
+                at = self.arrive(prepared, text, cell, at.place + 1, at.end);
+                if at.over {
+                    break;
+                }
             }
-            at = self.arrive(prepared, text, cell, at.place + 1, at.end);
         }
         // A look at a cell for each byte; in the loop it would take as long as the byte's.
         steps.add(at.place - from.place);

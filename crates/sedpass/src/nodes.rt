@@ -1,6 +1,6 @@
 //! An expression made ready for passes: what is found out of each node once, and the classes of bytes.
-ghost use Rattle.std.specs.Prelude.{◌≡◌, ℕ, List, Bool, false, cond, ◌+◌, ◌<◌, ◌≤◌, ◌↔◌, length, vec_capacity, Some, None, slice_get, IfOk, IfSome, IsTrue};
-ghost use Rattle.sedre.specs.Arena.{IsArena, IsExpr};
+ghost use Rattle.std.specs.Prelude.{◌≡◌, ℕ, List, Bool, false, cond, ◌+◌, ◌<◌, ◌≤◌, ◌↔◌, length, vec_capacity, Some, None, slice_get, slice_index_or, IfOk, IfSome, IsTrue};
+ghost use Rattle.sedre.specs.Arena.{IsArena, IsExpr, IsPart};
 ghost use Rattle.sedre.specs.declared.types.Node.{Node};
 ghost use Rattle.sedre.specs.Tree.{expression_tree, tree_at, tree_of, Tree, any_copies, one_or_none, size};
 ghost use Rattle.sedre.specs.Mirror.{node_seen, seen};
@@ -8,7 +8,7 @@ ghost use Rattle.sedre.specs.Packed.{PartsBelow};
 ghost use Rattle.sedre.specs.Steps.{Takes, TakesExactly, TakesAtLeast};
 ghost use Rattle.sedtext.specs.Hints.{AreHints};
 ghost use Rattle.sedpass.specs.Classes.{AreClasses};
-ghost use Rattle.sedpass.specs.Prepared.{IsAnalysis, holds, IsFacts, AreFacts, IsShort, is_one_set, null_at, null_in, sum_of, same_of};
+ghost use Rattle.sedpass.specs.Prepared.{HasNodeRoom, IsAnalysis, holds, IsFacts, AreFacts, IsShort, is_one_set, null_at, null_in, sum_of, same_of};
 ghost use Rattle.sedpass.specs.Regions.{IsRunOf, IsSetAt};
 ghost use Rattle.sedpass.specs.Rows.{IsNodeRange, root_of};
 
@@ -174,6 +174,24 @@ pub fn facts_of(node: &Node, facts: &Vec<Facts>) -> Facts
     }
 }
 
+/// Notes for the parts of the node x that they are its parts.
+fn note_parent(parents: &mut Vec<usize>, node: &Node, x: usize)
+    requires { PartsBelow (length parents.old.items) node.now }
+    ensures parts { (c : ℕ) → IsPart node.now c → slice_index_or parents.new.items c 0 ≡ x }
+    ensures others { (c : ℕ) → (IsPart node.now c → ⊥) → slice_index_or parents.new.items c 0 ≡ slice_index_or parents.old.items c 0 }
+    ensures length { length parents.new.items ≡ length parents.old.items }
+    ensures capacity { vec_capacity parents.new ≡ vec_capacity parents.old }
+{
+    match *node {
+        Node::Seq(a, b) | Node::Alt(a, b) => {
+            parents[a.index()] = x;
+            parents[b.index()] = x;
+        }
+        Node::Group(_, a) | Node::Star(a, _) | Node::Opt(a, _) => parents[a.index()] = x,
+        _ => {}
+    }
+}
+
 /// A node, mirrored or as it is.
 fn node_seen(node: Node, mirrored: bool) -> Node
     ensures { result ≡ node_seen mirrored node }
@@ -194,6 +212,8 @@ fn node_seen(node: Node, mirrored: bool) -> Node
 pub struct Analysis {
     /// What is known of each node.
     pub facts: Vec<Facts>,
+    /// For each node but the last that of which it is a part.
+    pub parents: Vec<usize>,
     /// Classes of bytes: those of one class are in the same sets.
     pub classes: Classes,
     /// What is known of its matches.
@@ -203,10 +223,11 @@ pub struct Analysis {
 impl Analysis {
     /// Room for what is found out of an expression of at most `nodes` nodes. Fails only where a request for memory was refused.
     pub fn with_room(alloc: Global, nodes: usize) -> Result<Analysis, AllocError>
-        ensures { IfOk result (λ f. nodes ≤ vec_capacity f.facts) }
+        ensures { IfOk result (HasNodeRoom nodes) }
     {
         Ok(Analysis {
             facts: Vec::with_capacity(alloc, nodes)?,
+            parents: Vec::with_capacity(alloc, nodes)?,
             classes: classes_of(&[]),
             hints: Hints::none(),
         })
@@ -215,18 +236,21 @@ impl Analysis {
     /// Finds out what passes need, by a look at each node. Of its matches nothing is known then.
     #[tactic(auto, using(sedtext::proofs::NodeLemmas::parts_below), unfolding(sedre::specs::Steps::TakesAtLeast, sedre::specs::Steps::IsCounted))]
     pub fn fit(&mut self, expr: &Expr, steps: &mut Steps)
-        requires room { length expr.now.nodes ≤ vec_capacity self.old.facts }
+        requires room { HasNodeRoom (length expr.now.nodes) self.old }
         ensures analysis { IsAnalysis expr.now self.new }
-        ensures facts_room { vec_capacity self.new.facts ≡ vec_capacity self.old.facts }
+        ensures room { (count : ℕ) → HasNodeRoom count self.old → HasNodeRoom count self.new }
         ensures cost { Takes steps.old steps.new (length expr.now.nodes) }
         ensures counts { TakesAtLeast steps.old steps.new (length expr.now.nodes) }
     {
         let _groups = expr.groups();
         self.facts.clear();
+        self.parents.clear();
         for x in 0..expr.nodes() {
             let node = expr.look(expr.id(x), steps);
             let next = facts_of(&node, &self.facts);
             self.facts.push_reserved(next);
+            self.parents.push_reserved(0);
+            note_parent(&mut self.parents, &node, x);
         }
         self.classes = classes_of(expr.sets());
         self.hints = Hints::none();
@@ -333,6 +357,16 @@ impl<'a> Prepared<'a> {
         ensures few { length self.now.nodes ≤ 65536 }
     {
         self.facts(x).low
+    }
+
+    /// The node of which a node is a part. The last one is a part of none.
+    pub fn parent(&self, x: usize) -> usize
+        requires { x + 1 < length self.now.nodes }
+        ensures inside { result < length self.now.nodes }
+        ensures above { x < result }
+        ensures part { (mirrored : Bool) (node : Node) → slice_get (seen mirrored self.now).nodes result ≡ Some node → IsPart node x }
+    {
+        self.analysis.parents[x]
     }
 
     /// Whether a node matches the null string at a place of a kind. Counts one look.

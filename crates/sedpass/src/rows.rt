@@ -1,19 +1,19 @@
 //! The one act of the matcher: from the row of a place and the byte after it to the row of the next place.
 //!
 //! The row of a place shows which leaves are entered there, in a match from one of the pass's starts, and which nodes
-//! ended there. The leaves entered decide, with the byte, the next row. Rows of marks contain what acts work on: the first two what
-//! is found out of a place, and then two for each state, so that a row is made where it is kept.
-ghost use Rattle.std.specs.Prelude.{◌≡◌, ◌≢◌, ℕ, List, false, ◌+◌, ◌-◌, ◌*◌, ◌<◌, ◌≤◌, ◌↔◌, ◌&&◌, length, slice_index_or, IsTrue};
-ghost use Rattle.sedre.specs.Tree.{tree_at, size};
-ghost use Rattle.sedre.specs.Packed.{PartsBelow};
+//! ended there. The leaves entered decide, with the byte, the next row: upwards from those that take it, and downwards from what begins
+//! there, over the marks that are set alone. A node's parts have lower numbers, so that one loop each way meets all of them. Rows of
+//! marks contain what acts work on: the first two what is found out of a place, and then two for each state, so that a row is made
+//! where it is kept.
+ghost use Rattle.std.specs.Prelude.{◌≡◌, ◌≢◌, ℕ, Bool, List, Option, false, ◌+◌, ◌-◌, ◌*◌, ◌<◌, ◌≤◌, ◌↔◌, ◌⊎◌, ◌||◌, ◌&&◌, length, IsTrue, Some, slice_get};
 ghost use Rattle.sedre.specs.Steps.{Takes, TakesAtLeast};
-ghost use Rattle.sedtext.specs.Matching.{byte_is_in};
-ghost use Rattle.sedtext.specs.PartMarks.{enter_parts};
-ghost use Rattle.sedtext.specs.Places.{takes_any};
 ghost use Rattle.sedtext.specs.Reach.{IsStart, CanEnd, Marked, Starts};
 ghost use Rattle.sedtext.specs.Words.{KeepsRows, row_of};
 ghost use Rattle.sedpass.specs.Prepared.{null_in};
-ghost use Rattle.sedpass.specs.Rows.{nodes_of, at_begin, at_edge, bits, RowOfPlace, InTree, AreNull, AreWide, ShowTook, IsApart, leaves_row, ends_row, ended_by};
+ghost use Rattle.sedpass.specs.Regions.{IsSetAt};
+ghost use Rattle.sedpass.specs.Rows.{nodes_of, at_begin, at_edge, bits, has_mark, RowOfPlace, InTree, AddsMarks, AreNull, AreWide, EndsAfter, EndsUpTo, EntersDownTo, ShowTook, StartsAfter, StartsWith, TakenBy, IsApart, leaves_row, ends_row};
+ghost use Rattle.sedre.specs.Arena.{IsPart};
+ghost use Rattle.sedre.specs.declared.types.Node.{Node};
 
 use crate::nodes::{PlaceKind, Prepared};
 use sedre::{Node, Steps};
@@ -64,126 +64,169 @@ pub fn ends_row(state: usize) -> usize
     2 * state + 3
 }
 
-/// Whether the node x ends here after at least one byte: a leaf, if it was entered in the state and took the byte that came.
-fn ends_here(
-    act: Act,
-    node: &Node,
-    x: usize,
-    byte: Option<u8>,
-    state: usize,
-    rows: &Rows,
-    steps: &mut Steps,
-) -> bool
-    requires parts { PartsBelow (length act.prepared.now.nodes) node.now }
-    requires wide { AreWide (length act.prepared.now.nodes) state rows.now }
-    requires inside { x < length act.prepared.now.nodes }
-    ensures mark { result ≡ ended_by (λ members. slice_index_or (row_of rows.now (leaves_row state)) x false && byte_is_in byte members) (null_in act.entry.prepared.now.nodes act.entry.kind)
-        (λ c. slice_index_or (row_of rows.now 1) c false) node.now }
-    ensures cost { Takes steps.old steps.new 3 }
+/// Whether the node is a leaf that takes the byte.
+fn is_taken_by(node: &Node, byte: Option<u8>) -> bool
+    ensures { IsTrue result ↔ TakenBy byte node.now }
 {
     match node {
-        Node::Set(set) => rows.get(leaves_row(state), x, steps) && takes_byte(set, byte),
-        Node::Seq(a, b) => {
-            rows.get(ENDED, b.index(), steps)
-                || (rows.get(ENDED, a.index(), steps)
-                    && act.prepared.null_at(b.index(), act.kind, steps))
-        }
-        Node::Alt(a, b) => rows.get(ENDED, a.index(), steps) || rows.get(ENDED, b.index(), steps),
-        Node::Group(_, a) | Node::Star(a, _) | Node::Opt(a, _) => rows.get(ENDED, a.index(), steps),
+        Node::Set(set) => takes_byte(set, byte),
         _ => false,
     }
 }
 
-/// Marks where the parts of a node begin, given whether it begins here itself.
-fn enter(act: Act, node: &Node, here: bool, rows: &mut Rows, steps: &mut Steps)
-    requires parts { PartsBelow (length act.prepared.now.nodes) node.now }
+/// The leaves that were entered in a state and take the byte that came have ended.
+fn take(act: Act, byte: Option<u8>, state: usize, rows: &mut Rows, steps: &mut Steps)
+    requires root { act.root < length act.prepared.now.nodes }
+    requires wide { AreWide (length act.prepared.now.nodes) state rows.old }
+    ensures keeps { KeepsRows (λ q. q ≢ 1) rows.old rows.new }
+    ensures ended { (null : ℕ → Bool) → EndsUpTo (nodes_of act.entry.way act.entry.prepared.now) act.entry.root (row_of rows.old (leaves_row state)) byte null (row_of rows.new 1) 0 }
+    ensures cost { Takes steps.old steps.new (4 * length act.entry.prepared.now.nodes) }
+    ensures counts { TakesAtLeast steps.old steps.new (length act.entry.prepared.now.nodes) }
+{
+    let nodes = act.prepared.nodes();
+    rows.clear(ENDED, nodes, steps);
+    let (leaves, low, end) = (leaves_row(state), act.prepared.low(act.root), act.root + 1);
+    let mut x = rows.next_set(leaves, low, end, steps);
+    while x < end {
+        let node = act.prepared.look(x, act.way.mirrored, steps);
+        rows.set(ENDED, x, is_taken_by(&node, byte), steps);
+        x = rows.next_set(leaves, x + 1, end, steps);
+    }
+}
+
+/// What follows where the node y has ended, which isn't the root: whether its parent has ended too, and which part of that begins here.
+fn follow(act: Act, y: usize, rows: &mut Rows, steps: &mut Steps)
+    requires root { act.root < length act.prepared.now.nodes }
+    requires there { y < act.root }
     requires wide { AreWide (length act.prepared.now.nodes) 0 rows.old }
-    ensures keeps { KeepsRows (λ q. q ≢ 0) rows.old rows.new }
-    ensures marks { row_of rows.new 0 ≡ enter_parts here (null_in act.entry.prepared.now.nodes act.entry.kind) (λ c. slice_index_or (row_of rows.old 1) c false) node.now (row_of rows.old 0) }
+    ensures keeps { KeepsRows (λ q. 2 ≤ q) rows.old rows.new }
+    ensures followed { let null = null_in act.entry.prepared.now.nodes act.entry.kind in
+        (p : ℕ) × (node : Node) × (slice_get (nodes_of act.entry.way act.entry.prepared.now) p ≡ Some node) × IsPart node y ×
+        AddsMarks (row_of rows.old 1) (row_of rows.new 1) (λ c. (c ≡ p) × EndsAfter null node y) × AddsMarks (row_of rows.old 0) (row_of rows.new 0) (StartsAfter null node y) }
     ensures cost { Takes steps.old steps.new 4 }
 {
-    match node {
+    let parent = act.prepared.parent(y);
+    match act.prepared.look(parent, act.way.mirrored, steps) {
+        Node::Seq(a, b) if a.index() == y => {
+            let b = b.index();
+            rows.set(ENTERED, b, true, steps);
+            if act.prepared.null_at(b, act.kind, steps) {
+                rows.set(ENDED, parent, true, steps);
+            }
+        }
+        Node::Star(_, _) => {
+            rows.set(ENTERED, y, true, steps);
+            rows.set(ENDED, parent, true, steps);
+        }
+        _ => rows.set(ENDED, parent, true, steps),
+    }
+}
+
+/// From the leaves up: which nodes end here after at least one byte, and which parts begin here since those before them end. `byte` is
+/// the one that came, if one did; the state is that of the place before it.
+pub fn ascend(act: Act, byte: Option<u8>, state: usize, rows: &mut Rows, steps: &mut Steps)
+    requires root { act.root < length act.prepared.now.nodes }
+    requires wide { AreWide (length act.prepared.now.nodes) state rows.old }
+    ensures keeps { KeepsRows (λ q. 2 ≤ q) rows.old rows.new }
+    ensures ended { let nodes = nodes_of act.entry.way act.entry.prepared.now in
+        (w : List ℕ) (s : Starts) (place : ℕ) → AreNull nodes w place (null_in act.entry.prepared.now.nodes act.entry.kind) →
+        ShowTook nodes w act.entry.root s place byte (row_of rows.old (leaves_row state)) →
+        Marked (row_of rows.new 1) (InTree nodes act.entry.root) (λ c. CanEnd nodes w act.entry.root s c place) }
+    ensures inside { (c : ℕ) → c < length act.entry.prepared.now.nodes → IsTrue (has_mark (row_of rows.new 1) c) → InTree (nodes_of act.entry.way act.entry.prepared.now) act.entry.root c }
+    ensures entered { EntersDownTo (nodes_of act.entry.way act.entry.prepared.now) act.entry.root false (null_in act.entry.prepared.now.nodes act.entry.kind)
+        (row_of rows.new 1) (row_of rows.new 0) (act.entry.root + 1) (act.entry.root + 1) }
+    ensures cost { Takes steps.old steps.new (10 * length act.entry.prepared.now.nodes - 4) }
+    ensures counts { TakesAtLeast steps.old steps.new (2 * length act.entry.prepared.now.nodes) }
+{
+    take(act, byte, state, rows, steps);
+    rows.clear(ENTERED, act.prepared.nodes(), steps);
+    let low = act.prepared.low(act.root);
+    let mut y = rows.next_set(ENDED, low, act.root, steps);
+    while y < act.root {
+        follow(act, y, rows, steps);
+        y = rows.next_set(ENDED, y + 1, act.root, steps);
+    }
+}
+
+/// Marks which parts of the node x begin here with it, in the row of the leaves the node itself if it is one.
+fn enter(act: Act, x: usize, leaves: usize, rows: &mut Rows, steps: &mut Steps)
+    requires inside { x < length act.prepared.now.nodes }
+    requires leaves { 2 ≤ leaves }
+    requires there { leaves < length rows.old }
+    requires wide { AreWide (length act.prepared.now.nodes) 0 rows.old }
+    ensures keeps { KeepsRows (λ q. (q ≢ 0) × (q ≢ leaves)) rows.old rows.new }
+    ensures leaf { AddsMarks (row_of rows.old leaves) (row_of rows.new leaves) (λ c. (c ≡ x) × IsSetAt (nodes_of act.entry.way act.entry.prepared.now) c) }
+    ensures parts { (node : Node) × (slice_get (nodes_of act.entry.way act.entry.prepared.now) x ≡ Some node) ×
+        AddsMarks (row_of rows.old 0) (row_of rows.new 0) (StartsWith (null_in act.entry.prepared.now.nodes act.entry.kind) node) }
+    ensures cost { Takes steps.old steps.new 4 }
+{
+    match act.prepared.look(x, act.way.mirrored, steps) {
+        Node::Set(_) => rows.set(leaves, x, true, steps),
         Node::Seq(a, b) => {
-            let (a, b) = (a.index(), b.index());
-            rows.set(ENTERED, a, here, steps);
-            let next = rows.get(ENDED, a, steps)
-                || (here && act.prepared.null_at(a, act.kind, steps));
-            rows.set(ENTERED, b, next, steps);
+            let a = a.index();
+            rows.set(ENTERED, a, true, steps);
+            if act.prepared.null_at(a, act.kind, steps) {
+                rows.set(ENTERED, b.index(), true, steps);
+            }
         }
         Node::Alt(a, b) => {
-            rows.set(ENTERED, a.index(), here, steps);
-            rows.set(ENTERED, b.index(), here, steps);
+            rows.set(ENTERED, a.index(), true, steps);
+            rows.set(ENTERED, b.index(), true, steps);
         }
-        Node::Group(_, a) | Node::Opt(a, _) => rows.set(ENTERED, a.index(), here, steps),
-        Node::Star(a, _) => {
-            let a = a.index();
-            let next = here || rows.get(ENDED, a, steps);
-            rows.set(ENTERED, a, next, steps);
+        Node::Group(_, a) | Node::Star(a, _) | Node::Opt(a, _) => {
+            rows.set(ENTERED, a.index(), true, steps)
         }
         _ => {}
     }
 }
 
-/// Whether the leaf is entered.
-fn leaf_bit(node: &Node, here: bool) -> bool
-    ensures { result ≡ (takes_any node.now && here) }
-{
-    matches!(node, Node::Set(_)) && here
-}
-
-/// From the lowest node up: which nodes end here after at least one byte. `byte` is the one that came, if one did; the state
-/// is that of the place before it.
-pub fn ascend(act: Act, byte: Option<u8>, state: usize, rows: &mut Rows, steps: &mut Steps)
+/// The row of the nodes that end in a state: all that do where passes are mirrored, and the root as the null string too, where it begins.
+fn close(act: Act, first: bool, ends: usize, rows: &mut Rows, steps: &mut Steps)
     requires root { act.root < length act.prepared.now.nodes }
-    requires wide { AreWide (length act.prepared.now.nodes) state rows.old }
-    ensures keeps { KeepsRows (λ q. q ≢ 1) rows.old rows.new }
-    ensures ended { let nodes = nodes_of act.entry.way act.entry.prepared.now in
-        (w : List ℕ) (s : Starts) (place : ℕ) → AreNull nodes w place (null_in act.entry.prepared.now.nodes act.entry.kind) →
-        ShowTook nodes w act.entry.root s place byte (row_of rows.old (leaves_row state)) →
-        Marked (row_of rows.new 1) (InTree nodes act.entry.root) (λ c. CanEnd nodes w act.entry.root s c place) }
-    ensures cost { Takes steps.old steps.new (5 * length act.entry.prepared.now.nodes) }
-    ensures counts { TakesAtLeast steps.old steps.new (2 * size (tree_at act.entry.prepared.now.nodes act.entry.root)) }
+    requires ends { 2 ≤ ends }
+    requires there { ends < length rows.old }
+    requires wide { AreWide (length act.prepared.now.nodes) 0 rows.old }
+    ensures keeps { KeepsRows (λ q. q ≢ ends) rows.old rows.new }
+    ensures others { (c : ℕ) → c < length act.entry.prepared.now.nodes → (c ≡ act.entry.root → ⊥) → has_mark (row_of rows.new ends) c ≡ (act.entry.way.mirrored && has_mark (row_of rows.old 1) c) }
+    ensures own { has_mark (row_of rows.new ends) act.entry.root ≡ (has_mark (row_of rows.old 1) act.entry.root || (first && null_in act.entry.prepared.now.nodes act.entry.kind act.entry.root)) }
+    ensures cost { Takes steps.old steps.new (length act.entry.prepared.now.nodes + 3) }
+    ensures counts { TakesAtLeast steps.old steps.new (length act.entry.prepared.now.nodes) }
 {
-    let low = act.prepared.low(act.root);
-    for x in low..act.root + 1 {
-        let node = act.prepared.look(x, act.way.mirrored, steps);
-        let here = ends_here(act, &node, x, byte, state, rows, steps);
-        rows.set(ENDED, x, here, steps);
+    let nodes = act.prepared.nodes();
+    if act.way.mirrored {
+        rows.copy_row(ends, ENDED, nodes, steps);
+    } else {
+        rows.clear(ends, nodes, steps);
     }
+    let end = rows.get(ENDED, act.root, steps)
+        || (first && act.prepared.null_at(act.root, act.kind, steps));
+    rows.set(ends, act.root, end, steps);
 }
 
 /// From the root down: the row of this place, as that of the state. `first` says whether the root begins here.
 pub fn descend(act: Act, first: bool, state: usize, rows: &mut Rows, steps: &mut Steps)
     requires root { act.root < length act.prepared.now.nodes }
     requires wide { AreWide (length act.prepared.now.nodes) state rows.old }
+    requires inside { (c : ℕ) → c < length act.prepared.now.nodes → IsTrue (has_mark (row_of rows.old 1) c) → InTree (nodes_of act.way act.prepared.now) act.root c }
+    requires entered { EntersDownTo (nodes_of act.way act.prepared.now) act.root false (null_in act.prepared.now.nodes act.kind) (row_of rows.old 1) (row_of rows.old 0) (act.root + 1) (act.root + 1) }
     ensures keeps { KeepsRows (IsApart 1 state) rows.old rows.new }
     ensures row { let nodes = nodes_of act.entry.way act.entry.prepared.now in
         let m = length act.entry.prepared.now.nodes in
         (w : List ℕ) (s : Starts) (place : ℕ) → AreNull nodes w place (null_in act.entry.prepared.now.nodes act.entry.kind) →
         Marked (row_of rows.old 1) (InTree nodes act.entry.root) (λ c. CanEnd nodes w act.entry.root s c place) → (IsTrue first ↔ IsStart s place) →
         RowOfPlace nodes w act.entry.root s act.entry.way.mirrored place (bits m (row_of rows.new (leaves_row state))) (bits m (row_of rows.new (ends_row state))) }
-    ensures cost { Takes steps.old steps.new (12 * length act.entry.prepared.now.nodes + 1) }
-    ensures counts { let m = length act.entry.prepared.now.nodes in
-        TakesAtLeast steps.old steps.new (2 * m + 6 * size (tree_at act.entry.prepared.now.nodes act.entry.root)) }
+    ensures cost { Takes steps.old steps.new (7 * length act.entry.prepared.now.nodes + 5) }
+    ensures counts { TakesAtLeast steps.old steps.new (2 * length act.entry.prepared.now.nodes) }
 {
-    let nodes = act.prepared.nodes();
-    let low = act.prepared.low(act.root);
     let (leaves, ends) = (leaves_row(state), ends_row(state));
-    rows.clear(leaves, nodes, steps);
-    rows.clear(ends, nodes, steps);
+    close(act, first, ends, rows, steps);
+    rows.clear(leaves, act.prepared.nodes(), steps);
     rows.set(ENTERED, act.root, first, steps);
-    for x in (low..act.root + 1).rev() {
-        let here = rows.get(ENTERED, x, steps);
-        let end = rows.get(ENDED, x, steps);
-        let null = act.prepared.null_at(x, act.kind, steps);
-        let node = act.prepared.look(x, act.way.mirrored, steps);
-        enter(act, &node, here, rows, steps);
-        let leaf = leaf_bit(&node, here);
-        rows.set(leaves, x, leaf, steps);
-        // after at least one byte; the root as the null string too, where it is entered
-        let own = x == act.root;
-        let kept = (act.way.mirrored | own) & (end | (own & (here & null)));
-        rows.set(ends, x, kept, steps);
+    let low = act.prepared.low(act.root);
+    let mut x = rows.last_set(ENTERED, low, act.root + 1, steps);
+    while x > low {
+        enter(act, x - 1, leaves, rows, steps);
+        x = rows.last_set(ENTERED, low, x - 1, steps);
     }
 }
 

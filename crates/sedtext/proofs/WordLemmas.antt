@@ -25,6 +25,11 @@ module _ (marks others : List Bool) (count x word two low : ℕ)
   meet_later none before c up met =
       let k = c - 64 * x in grind (arith, before c, bit_at_and word two k, bit_at-zero k, lowest k, mine k, theirs k)
 
+-- marks that are bits of a word which aren't set
+pub marks_none : (marks : List Bool) (count x word from least : ℕ) → ((k : ℕ) → k < 64 → 64 * x + k < count → IsTrue (slice_index_or marks (64 * x + k) false) ↔ (bit_at word k ≡ 1)) →
+    ((i : ℕ) → from ≤ i → i < least → bit_at word i ≡ 0) → least ≤ 64 → (c : ℕ) → 64 * x + from ≤ c → c < 64 * x + least → c < count → slice_index_or marks c false ≡ false
+marks_none marks count x word from least mine none few c low high under = let k = c - 64 * x in grind (arith, mine k, none k)
+
 -- one bit is written
 pub bit_put : (words : List ℕ) (c x b old word : ℕ) (v : Bool) → c ≡ 64 * x + b → x < length words → b < 64 → old ≡ slice_index_or words x 0 → eqb (bit_at word b) 1 ≡ v →
     ((i : ℕ) → i < 64 → i ≢ b → bit_at word i ≡ bit_at old i) →
@@ -89,7 +94,7 @@ unfolding row_at is_set
 row_kept words after width marks q low same = table-is _ marks _ (length-table _ marks) (λ i lt. grind (arith, table-get, same (i / 64)))
 
 -- words of one row are not those of another
-row_apart : (width q p k c : ℕ) → k < width → c ≤ width → q ≢ p → (width * q + k < width * p) ⊎ (width * p + c ≤ width * q + k)
+pub row_apart : (width q p k c : ℕ) → k < width → c ≤ width → q ≢ p → (width * q + k < width * p) ⊎ (width * p + c ≤ width * q + k)
 row_apart width q p k c lt low apart = grind (arith, cases_lt q p, mul-le-mul_left {m = q + 1} {n = p} width, mul-le-mul_left {m = p + 1} {n = q} width)
 
 -- what is known of the words of a row, for rows that contracts see as a list

@@ -8,7 +8,6 @@ pub mod Bytes
 pub mod SearchRoom
 pub mod Words
 pub mod Nodes
-pub mod PartMarks
 pub mod Reach
 pub mod Places
 pub mod Runs

@@ -1,8 +1,9 @@
 //! Marks, and rows of them: one for each of several states.
-ghost use Rattle.std.specs.Prelude.{◌≡◌, ◌≢◌, ℕ, Bool, List, ◌+◌, ◌*◌, ◌^◌, ◌<◌, ◌≤◌, length, slice_index_or, slice_set, replicate, IfOk, IsTrue, ◌↔◌, false, eqb};
+ghost use Rattle.std.specs.Prelude.{◌≡◌, ◌≢◌, ℕ, Bool, List, ◌+◌, ◌-◌, ◌*◌, ◌^◌, ◌<◌, ◌≤◌, length, min, slice_index_or, slice_set, replicate, IfOk, IsTrue, ◌↔◌, false, eqb};
+ghost use Rattle.sedtext.specs.Places.{Ascending};
 ghost use Rattle.std.specs.Int.{bit_at};
 ghost use Rattle.sedtext.specs.Words.{AgreeBelow, KeepsRows, rows_of, row_of};
-ghost use Rattle.sedre.specs.Steps.{TakesExactly};
+ghost use Rattle.sedre.specs.Steps.{CostsWithin, TakesExactly};
 
 use sedre::Steps;
 use std::alloc::{AllocError, Global};
@@ -193,6 +194,81 @@ impl Rows {
         true
     }
 
+    /// Copies the first `count` marks of a row into another, a word at a time; those after them in the row may change too.
+    /// Counts a look for each of the `count`.
+    pub fn copy_row(&mut self, row: usize, other_row: usize, count: usize, steps: &mut Steps)
+        requires row { row < length self.old }
+        requires other_row { other_row < length self.old }
+        requires inside { count ≤ length (row_of self.old row) }
+        requires there { count ≤ length (row_of self.old other_row) }
+        requires apart { row ≢ other_row }
+        ensures keeps { KeepsRows (λ q. q ≢ row) self.old self.new }
+        ensures same { AgreeBelow count (row_of self.new row) (row_of self.old other_row) }
+        ensures cost { TakesExactly steps.old steps.new count }
+    {
+        steps.add(count);
+        let (to, from) = (self.width * row, self.width * other_row);
+        let words = &mut self.words;
+        for x in 0..count.div_ceil(64) {
+            let word = words[from + x];
+            words[to + x] = word;
+        }
+    }
+
+    /// The first mark of a row that is set, from one on; `to` where none before it is. Counts a look for each that it passes.
+    pub fn next_set(&self, row: usize, from: usize, to: usize, steps: &mut Steps) -> usize
+        requires row { row < length self.now }
+        requires order { from ≤ to }
+        requires inside { to ≤ length (row_of self.now row) }
+        requires short { to ≤ 65536 }
+        ensures order { Ascending from result to }
+        ensures clear { (c : ℕ) → from ≤ c → c < result → slice_index_or (row_of self.now row) c false ≡ false }
+        ensures set { result < to → IsTrue (slice_index_or (row_of self.now row) result false) }
+        ensures cost { CostsWithin steps.old steps.new (min (result + 1) to) from }
+    {
+        let at = self.width * row;
+        let mut x = from;
+        while x < to {
+            let next = x / 64 * 64 + lowest_from(self.words[at + x / 64], x % 64);
+            if next < x / 64 * 64 + 64 {
+                let found = next.min(to);
+                steps.add(to.min(found + 1) - from);
+                return found;
+            }
+            x = next;
+        }
+        steps.add(to - from);
+        to
+    }
+
+    /// The place after the last mark of a row that is set, of those from `from` on and below `to`; `from` where none is. Counts a look
+    /// for each that it passes.
+    pub fn last_set(&self, row: usize, from: usize, to: usize, steps: &mut Steps) -> usize
+        requires row { row < length self.now }
+        requires order { from ≤ to }
+        requires inside { to ≤ length (row_of self.now row) }
+        requires short { to ≤ 65536 }
+        ensures order { Ascending from result to }
+        ensures clear { (c : ℕ) → result ≤ c → c < to → slice_index_or (row_of self.now row) c false ≡ false }
+        ensures set { from < result → IsTrue (slice_index_or (row_of self.now row) (result - 1) false) }
+        ensures cost { CostsWithin steps.old steps.new (to + 1) result }
+    {
+        let at = self.width * row;
+        let mut x = to;
+        while x > from {
+            let base = (x - 1) / 64 * 64;
+            let end = base + highest_below(self.words[at + (x - 1) / 64], x - base);
+            if end > base {
+                let found = from.max(end);
+                steps.add(to + 1 - found);
+                return found;
+            }
+            x = base;
+        }
+        steps.add(to + 1 - from);
+        from
+    }
+
     /// Whether none of the first `count` marks of a row is set, a word at a time. Counts a look for each of the `count`.
     pub fn is_clear(&self, row: usize, count: usize, steps: &mut Steps) -> bool
         requires row { row < length self.now }
@@ -279,5 +355,35 @@ fn lowest(word: u64, count: usize) -> u64
         word & ((1u64 << count) - 1)
     } else {
         word
+    }
+}
+
+/// The place of the lowest bit that is set, from the k-th on; 64 where none is.
+fn lowest_from(word: u64, k: usize) -> usize
+    requires { k < 64 }
+    ensures order { Ascending k result 64 }
+    ensures clear { (i : ℕ) → k ≤ i → i < result → bit_at word i ≡ 0 }
+    ensures set { result < 64 → bit_at word result ≡ 1 }
+{
+    let high = word & !((1u64 << k) - 1);
+    if high == 0 {
+        64
+    } else {
+        high.trailing_zeros() as usize
+    }
+}
+
+/// The place after the highest bit that is set, of those below the k-th; 0 where none is.
+fn highest_below(word: u64, k: usize) -> usize
+    requires { k ≤ 64 }
+    ensures within { result ≤ k }
+    ensures clear { (i : ℕ) → result ≤ i → i < k → bit_at word i ≡ 0 }
+    ensures set { 0 < result → bit_at word (result - 1) ≡ 1 }
+{
+    let low = lowest(word, k);
+    if low == 0 {
+        0
+    } else {
+        low.ilog2() as usize + 1
     }
 }

@@ -1,5 +1,5 @@
 use Rattle.sedmatch.proofs.Words.{◌∙◌, Some, inl, inr, refl, sym, true≢false}
-use Rattle.sedmatch.proofs.OccurrenceLemmas.{own_is, own_set, set_there, shows, still_ready}
+use Rattle.sedmatch.proofs.OccurrenceLemmas.{first_due, own_is, own_set, set_there, shows, still_ready}
 use Rattle.sedmatch.proofs.RoomLemmas.{unused}
 use Rattle.sedmatch.proofs.occurrences.next_by.Goals as goal
 
@@ -28,3 +28,15 @@ returns-clause-answered c =
     shows _ _ _ _ mid _ _ _ _ c.requires.forward_one.table.expr.arena.nonempty c.requires.serves first.ready
     (still_ready p c.args.text.now mid _ refl tables.space (unused p mid.shared) (own_set p mid.own.items mid.number table (tables.reverse_any_shape.0 ∙ (first.ready.room.own c.in-Some.reverse is).0, serves.kept.region.table)) first.ready.room
     (record { own = λ h. (table, there, serves); shared = λ h. absurd (true≢false (sym c.if-not-occurrences.false ∙ h)) })) first.same first.owed first.used done.next done.occurs done.cost done.once done.counts
+
+pub returns-then-not-occurrences-clause-first : goal.returns-then-not-occurrences-clause-first
+returns-then-not-occurrences-clause-first c =
+    let done = c.next_with.ensures in
+    let begun = c.make_ready.ensures in
+    first_due _ _ c.args.last c.args.occurrences.now c.make_ready.new.self _ _ _ _ c.requires.forward_one.table.expr.arena.nonempty c.requires.serves.fresh begun.owed begun.used done.cost done.first
+
+pub returns-clause-first : goal.returns-clause-first
+returns-clause-first c =
+    let done = c.next_with-2.ensures in
+    let begun = c.make_ready.ensures in
+    first_due _ _ c.args.last c.args.occurrences.now c.make_ready.new.self _ _ _ _ c.requires.forward_one.table.expr.arena.nonempty c.requires.serves.fresh begun.owed begun.used done.cost done.first

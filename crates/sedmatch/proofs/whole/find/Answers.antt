@@ -1,5 +1,7 @@
 use Rattle.sedmatch.proofs.Words.{◌≡◌, refl, ℕ, ◌+◌, ◌-◌, ◌*◌, ◌≤◌, None, length, rules, sym, arith, mul-le-mul_left, mul-le-mul_right, StepsWithin, Takes, expression_tree, least_less, least_since, least_up, found-iff, not_found-iff, report-iff, report_lies, space_then, enters_later, square, group_depth}
 use Rattle.sedmatch.proofs.RoomLemmas.{desk_still, unused, used}
+use Rattle.sedmatch.specs.Passes.{IsDesk}
+use Rattle.sedmatch.proofs.whole.find.Goals.{After-next_kept}
 use Rattle.sedmatch.proofs.whole.find.Goals as goal
 
 -- what a look at each of m nodes costs, and the search for the first match from p on in a text of n bytes
@@ -22,8 +24,10 @@ module _ (m n p s t u : ℕ) (ready : Takes s t m) (sought : Takes t u (142 * m 
         omega (arith, most, long),
       )
 
-pub shared_groups-groups-requires-clause-desk : goal.shared_groups-groups-requires-clause-desk
-shared_groups-groups-requires-clause-desk c =
+-- the desk after the search
+searched_desk : (c : After-next_kept) → let d = c.scratch.inside.desk in let new = c.next_kept.new in
+    IsDesk (record d { room = record d.room { kept = new.kept }; reverse_any = new.reverse_any; shared = record d.shared { forward_one = new.forward_one } })
+searched_desk c =
     let d = c.scratch.inside.desk in
     let p = c.of.result in
     let new = c.next_kept.new in
@@ -32,7 +36,16 @@ shared_groups-groups-requires-clause-desk c =
     let desk = desk_still p d (record d { room = record d.room { kept = new.kept }; reverse_any = new.reverse_any; shared = record d.shared { forward_one = new.forward_one } }) c.scratch.invariant.0 refl refl
     (space_then _ _ _ c.begin.ensures.space shapes.space) c.scratch.invariant.0.space.none (omega arith) (used p d.reverse_any c.fit-3.new.self new.reverse_any c.fit-3.ensures.room shapes.reverse_any_shape next.next.kept.region.table)
     (unused p d.shared.forward_any) (unused p d.shared.reverse_one) (used p d.shared.forward_one c.fit-2.new.self new.forward_one c.fit-2.ensures.room shapes.forward_one_shape shapes.forward_one.table) (unused p d.shared.forward_part) in
-    (desk.0, search rules, rw c.of.ensures.is (search rules))
+    desk.0
+
+pub shared_groups-groups-requires-clause-desk : goal.shared_groups-groups-requires-clause-desk
+shared_groups-groups-requires-clause-desk c = (searched_desk (goal.at.shared_groups-groups-requires-clause-desk c).After-next_kept, search rules, rw c.of.ensures.is (search rules))
+
+pub invariant_of-scratch : goal.invariant_of-scratch
+invariant_of-scratch c = (searched_desk (goal.at.invariant_of-scratch c).After-next_kept, c.fit.ensures.room c.scratch.inside.desk.max_nodes c.scratch.invariant.1)
+
+pub invariant_of-scratch-2 : goal.invariant_of-scratch-2
+invariant_of-scratch-2 c = let desk = c.shared_groups-groups.ensures.desk in (desk.0, rw desk.2 (c.fit.ensures.room c.scratch.inside.desk.max_nodes c.scratch.invariant.1))
 
 pub returns-in_err-span : goal.returns-in_err-span
 returns-in_err-span c =

@@ -1,29 +1,89 @@
-use Rattle.sedpass.proofs.Words.{◌≢◌, ap, ◌∙◌, arith, ◌&&◌, slice_index_or, false, Some, TakesAtLeast, IsCounted, byte_is_in, row_of, leaves_row}
+use Rattle.sedpass.proofs.Words.{arith, IsCounted, IsTrue, KeepsRows, TakesAtLeast, false, is_tree, leaves_row, length, has_mark, nodes_of, null_in, refl, row_of, seen-arena, seen-length, ◌+◌, ◌≡◌, ◌≢◌, ◌≤◌}
+use Rattle.sedpass.proofs.ActLemmas.{end_last, end_skip, enters_none, follow_step, none_first, parent_inside, up_all, up_skip, up_step}
 use Rattle.sedpass.proofs.FactLemmas.{inside_seen}
-use Rattle.sedpass.proofs.RowLemmas.{keeps_then, still_wide, up}
+use Rattle.sedpass.proofs.RowLemmas.{keeps_then, still_wide}
 use Rattle.sedpass.proofs.rows.ascend.Goals as goal
 
-pub loop-x-preserved : goal.loop-x-preserved
+pub next_set-y-requires-clause-order : goal.next_set-y-requires-clause-order
+next_set-y-requires-clause-order c = let r = c.args.act.root in ((c.low-low.ensures.range c.args.act.way.mirrored r).1 (is_tree r refl)).0
+
+pub loop-y-init : goal.loop-y-init
 unfolding TakesAtLeast IsCounted
-loop-x-preserved c =
+loop-y-init c =
     let act = c.args.act in
-    let x = c.loop-x.x in
-    let is = c.look-node.ensures.node in
-    let there = (c.low-low.ensures.range act.way.mirrored x).0 (omega arith, omega arith) in
-    let old = c.loop-x.invariant in
-    let wide = old.wide in
-    let kept = old.keeps.same (leaves_row c.args.state) (λ q. omega (arith, q)) in
+    let r = act.root in
+    let e = act.prepared.now in
+    let nodes = nodes_of act.way e in
+    let null = null_in e.nodes act.kind in
+    let arena = seen-arena act.way.mirrored e c.nodes.ensures.expr.arena in
+    let inside = inside_seen act.way.mirrored e r c.requires.root in
+    let low = c.low-low.result in
+    let y = c.next_set-y.result in
+    let new = c.clear.new.self in
+    let leaves = row_of c.args.rows.now (leaves_row c.args.state) in
+    let ended = row_of new 1 in
+    let keeps : KeepsRows (λ q. 2 ≤ q) c.args.rows.now new = keeps_then (λ q. q ≢ 1) (λ q. q ≢ 0) (λ q. 2 ≤ q) _ _ _ (λ q high. (λ n. omega (arith, n, high), λ n. omega (arith, n, high))) c.take.ensures.keeps c.clear.ensures.keeps in
+    let kept : ended ≡ row_of c.take.new.rows 1 = c.clear.ensures.keeps.same 1 (λ n. omega (arith, n)) in
+    let up = rw (← kept) at (c.take.ensures.ended null) in
+    let none = none_first nodes r arena leaves c.args.byte null ended low y (omega (arith, c.next_set-y.ensures.order, inside)) (c.low-low.ensures.range act.way.mirrored) c.next_set-y.ensures.clear up in
     record {
-      cost = (omega (arith, old.cost.0), omega (arith, old.cost.1));
+      order = c.next_set-y.ensures.order;
+      wide = still_wide (λ q. 2 ≤ q) (length e.nodes) c.args.state _ _ keeps c.requires.wide;
+      keeps = keeps;
+      set = c.next_set-y.ensures.set;
+      ended = up_skip nodes r arena leaves c.args.byte null ended 0 y none up;
+      entered = end_skip nodes r arena false null ended (row_of new 0) (r + 1) 0 y none
+          (enters_none nodes r arena null ended (row_of new 0) (λ n lt. c.clear.ensures.clear n (omega (arith, lt, seen-length act.way.mirrored e))) inside);
+      cost = (omega arith, omega arith);
       counts = omega arith;
-      wide = still_wide (λ q. q ≢ 1) _ c.args.state _ _ c.set.ensures.keeps wide;
-      keeps = keeps_then (λ q. q ≢ 1) (λ q. q ≢ 1) (λ q. q ≢ 1) _ _ _ (λ q ne. (ne, ne)) old.keeps c.set.ensures.keeps;
-      ended = λ w s place nulls took.
-          up _ w act.root x place s _ c.look-node.ensures.arena (inside_seen act.way.mirrored act.prepared.now act.root c.requires.root) there is _ nulls
-          (λ m. slice_index_or (row_of c.loop-x.rows (leaves_row c.args.state)) x false && byte_is_in c.args.byte m) _ _ _ (λ m same. rw kept (took x m there (is ∙ ap (λ n. Some n) same)))
-          (omega (arith, wide.2 1 (omega (arith, wide.1)))) c.ends_here-here.ensures.mark c.set.ensures.marks (old.ended w s place nulls took);
+    }
+
+pub loop-y-preserved : goal.loop-y-preserved
+unfolding TakesAtLeast IsCounted
+loop-y-preserved c =
+    let act = c.args.act in
+    let r = act.root in
+    let e = act.prepared.now in
+    let nodes = nodes_of act.way e in
+    let null = null_in e.nodes act.kind in
+    let arena = seen-arena act.way.mirrored e c.nodes.ensures.expr.arena in
+    let y = c.loop-y.y in
+    let next = c.next_set-y-in-loop-y.result in
+    let old = c.loop-y.invariant in
+    let new = c.follow.new.rows in
+    let leaves = row_of c.args.rows.now (leaves_row c.args.state) in
+    let ended = row_of new 1 in
+    let here : IsTrue (has_mark (row_of c.loop-y.rows 1) y) = old.set c.loop-y-test.true in
+    let lt = inside_seen act.way.mirrored act.prepared.now y (omega (arith, c.loop-y-test.true, c.requires.root)) in
+    let f = c.follow.ensures.followed in
+    let up = up_step nodes r arena leaves c.args.byte null (row_of c.loop-y.rows 1) ended y f.0 f.1 f.2 f.3 (λ e. omega (arith, e, c.loop-y-test.true)) lt here f.4 old.ended in
+    let there = parent_inside nodes r y f.0 f.1 arena (old.ended.inside y lt here) (λ e. omega (arith, e, c.loop-y-test.true)) f.2 f.3 in
+    let none = c.next_set-y-in-loop-y.ensures.clear in
+    record {
+      order = (omega arith, omega arith);
+      wide = still_wide (λ q. 2 ≤ q) (length e.nodes) c.args.state _ _ c.follow.ensures.keeps old.wide;
+      keeps = keeps_then (λ q. 2 ≤ q) (λ q. 2 ≤ q) (λ q. 2 ≤ q) _ _ _ (λ q high. (high, high)) old.keeps c.follow.ensures.keeps;
+      set = c.next_set-y-in-loop-y.ensures.set;
+      ended = up_skip nodes r arena leaves c.args.byte null ended (y + 1) next none up;
+      entered = end_skip nodes r arena false null ended (row_of new 0) (r + 1) (y + 1) next none
+          (follow_step nodes r arena null (row_of c.loop-y.rows 1) ended (row_of c.loop-y.rows 0) (row_of new 0) y f.0 f.1 f.2 f.3 here there f.4 f.5 old.entered);
+      cost = (omega arith, omega arith);
+      counts = omega arith;
     }
 
 pub returns-clause-ended : goal.returns-clause-ended
-returns-clause-ended c w s place nulls took n there =
-    c.loop-x.invariant.ended w s place nulls took n (there, omega (arith, ((c.low-low.ensures.range c.args.act.way.mirrored n).1 there).1))
+returns-clause-ended c w s place nulls took =
+    let act = c.args.act in
+    let r = act.root in
+    let e = act.prepared.now in
+    let at : c.loop-y.y ≡ r = omega (arith, c.loop-y.invariant.order, c.loop-y-test.false) in
+    up_all (nodes_of act.way e) w r place s (seen-arena act.way.mirrored e c.nodes.ensures.expr.arena) (inside_seen act.way.mirrored e r c.requires.root) (row_of c.args.rows.now (leaves_row c.args.state)) c.args.byte
+    (null_in e.nodes act.kind) nulls took (row_of c.loop-y.rows 1) (rw at at c.loop-y.invariant.ended)
+
+pub returns-clause-entered : goal.returns-clause-entered
+returns-clause-entered c =
+    let act = c.args.act in
+    let r = act.root in
+    let e = act.prepared.now in
+    let at : c.loop-y.y ≡ r = omega (arith, c.loop-y.invariant.order, c.loop-y-test.false) in
+    end_last (nodes_of act.way e) r (seen-arena act.way.mirrored e c.nodes.ensures.expr.arena) false (null_in e.nodes act.kind) (row_of c.loop-y.rows 1) (row_of c.loop-y.rows 0) (r + 1) (rw at at c.loop-y.invariant.entered)

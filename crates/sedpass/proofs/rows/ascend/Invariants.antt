@@ -1,14 +1,17 @@
-use Rattle.sedpass.proofs.Words.{◌≢◌, ℕ, ◌-◌, ◌*◌, List, length, CostsWithin, TakesAtLeast, KeepsRows, row_of, Marked, CanEnd, Starts, null_in, nodes_of, leaves_row, AreNull, AreWide, ShowTook}
-use Rattle.sedpass.proofs.RowLemmas.{TreeBelow}
+use Rattle.sedpass.proofs.Words.{AreWide, Ascending, CostsWithin, EndsUpTo, EntersDownTo, IsTrue, KeepsRows, TakesAtLeast, false, leaves_row, length, has_mark, min, nodes_of, null_in, row_of, ◌*◌, ◌+◌, ◌-◌, ◌<◌, ◌≤◌}
 use Rattle.sedpass.proofs.rows.ascend.Given as goal
 
-abbrev pub invariant-loop-x : goal.invariant-loop-x
-invariant-loop-x l = record {
-  cost : CostsWithin l.initial.steps l.steps (5 * l.x) (5 * l.low);
-  counts : TakesAtLeast l.initial.steps l.steps (2 * (l.x - l.low));
+abbrev pub invariant-loop-y : goal.invariant-loop-y
+invariant-loop-y l = record {
+  order : Ascending l.low l.y l.act.root;
   wide : AreWide (length l.act.prepared.now.nodes) l.state l.rows;
-  keeps : KeepsRows (λ q. q ≢ 1) l.initial.rows l.rows;
-  ended : (w : List ℕ) (s : Starts) (place : ℕ) → AreNull (nodes_of l.act.way l.act.prepared.now) w place (null_in l.act.prepared.now.nodes l.act.kind) →
-      ShowTook (nodes_of l.act.way l.act.prepared.now) w l.act.root s place l.byte (row_of l.initial.rows (leaves_row l.state)) →
-      Marked (row_of l.rows 1) (TreeBelow (nodes_of l.act.way l.act.prepared.now) l.act.root l.x) (λ c. CanEnd (nodes_of l.act.way l.act.prepared.now) w l.act.root s c place);
+  keeps : KeepsRows (λ q. 2 ≤ q) l.fn.rows l.rows;
+  set : l.y < l.act.root → IsTrue (has_mark (row_of l.rows 1) l.y);
+  ended : EndsUpTo (nodes_of l.act.way l.act.prepared.now) l.act.root (row_of l.fn.rows (leaves_row l.state)) l.fn.byte (null_in l.act.prepared.now.nodes l.act.kind) (row_of l.rows 1) l.y;
+  entered : EntersDownTo (nodes_of l.act.way l.act.prepared.now) l.act.root false (null_in l.act.prepared.now.nodes l.act.kind) (row_of l.rows 1) (row_of l.rows 0) (l.act.root + 1) l.y;
+  cost : CostsWithin l.fn.steps l.steps (5 * length l.act.prepared.now.nodes + min (l.y + 1) l.act.root + 4 * l.y) (5 * l.low);
+  counts : TakesAtLeast l.fn.steps l.steps (2 * length l.act.prepared.now.nodes);
 }
+
+abbrev pub decreases-loop-y : goal.decreases-loop-y
+decreases-loop-y l = l.act.root - l.y

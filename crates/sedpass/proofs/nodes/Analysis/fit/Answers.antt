@@ -1,5 +1,5 @@
 use Rattle.sedpass.proofs.Words.{expression_tree, rules, length-append, TakesAtLeast, IsCounted}
-use Rattle.sedpass.proofs.FactLemmas.{facts_more}
+use Rattle.sedpass.proofs.FactLemmas.{facts_more, parents_more}
 use Rattle.sedpass.proofs.nodes.Analysis.fit.Goals as goal
 
 pub loop-x-preserved : goal.loop-x-preserved
@@ -10,8 +10,11 @@ loop-x-preserved c =
     let next = c.facts_of-next.result in
     let old = c.loop-x.invariant in
     let items = c.push_reserved.ensures.items in
-    let here = rw (c.id.ensures, ← old.all) at c.look-node.ensures.node in
+    let node = rw c.id.ensures at c.look-node.ensures.node in
+    let here = rw (← old.all) at node in
     let facts = facts_more e.nodes c.look-node.ensures.arena shown _ next old.facts here (c.facts_of-next.ensures e.nodes e.groups c.groups-groups.ensures.expr old.facts here) in
+    let added = c.push_reserved-in-loop-x.ensures.items in
+    let parents = parents_more e.nodes c.look-node.ensures.arena c.loop-x.self.parents.items _ c.loop-x.x _ old.noted node c.note_parent.ensures.parts (rw added at c.note_parent.ensures.others) old.parents in
     rw items (search (rules, length-append))
 
 pub returns-clause-analysis : goal.returns-clause-analysis

@@ -1,4 +1,4 @@
-use Rattle.sedpass.proofs.Words.{◌≡◌, length, vec_capacity, Takes, TakesAtLeast, AreFacts}
+use Rattle.sedpass.proofs.Words.{◌≡◌, length, vec_capacity, Takes, TakesAtLeast, AreFacts, AreParents}
 use Rattle.sedpass.proofs.nodes.Analysis.fit.Given as goal
 
 abbrev pub invariant-loop-x : goal.invariant-loop-x
@@ -8,4 +8,7 @@ invariant-loop-x l = record {
   all : length l.self.facts.items ≡ l.x;
   facts : AreFacts l.expr.nodes l.self.facts.items;
   room : vec_capacity l.self.facts ≡ vec_capacity l.initial.self.facts;
+  noted : length l.self.parents.items ≡ l.x;
+  parents : AreParents l.expr.nodes l.self.parents.items l.x;
+  parents_room : vec_capacity l.self.parents ≡ vec_capacity l.initial.self.parents;
 }

@@ -1,6 +1,35 @@
-use Rattle.sedpass.proofs.Words.{ℕ, rules, arith, false, refl, sym, true≢false, TakesAtLeast, IsCounted, PassIs}
-use Rattle.sedpass.proofs.ForwardLemmas.{goes_on}
+use Rattle.sedpass.proofs.Words.{ℕ, ◌+◌, ◌<◌, ◌≡◌, rules, arith, code_of, false, sym, TakesAtLeast, IsCounted, PassIs, StateFlags}
+use Rattle.sedpass.proofs.TableLemmas.{names_offset}
+use Rattle.sedpass.proofs.ForwardLemmas.{arrive_plain, goes_further}
 use Rattle.sedpass.proofs.table.Table.follow.Goals as goal
+use Rattle.sedpass.proofs.table.Table.follow.Goals.{else-loop-at-test, then-loop-at-test+else-is_plain+else-cell-eq0+then-at}
+
+shows_nothing : (f : StateFlags) → f.ends ≡ false → f.dead ≡ false → record { ends = false; dead = false } ≡ f
+shows_nothing f ends dead i = record { ends = sym ends i; dead = sym dead i }
+
+pub loop-at-preserved-then-is_plain : goal.loop-at-preserved-then-is_plain
+unfolding TakesAtLeast IsCounted
+loop-at-preserved-then-is_plain c =
+    let p = c.args.prepared.now in
+    let t = c.args.self.now in
+    let w = c.args.text.now in
+    let at = c.loop-at.at in
+    let cell = c.known-cell.result in
+    let old = c.loop-at.invariant in
+    let one = c.byte-byte.ensures in
+    let names = c.known-cell.ensures (c.is_plain.ensures.some c.if-is_plain.true) in
+    let plain = c.is_plain.ensures.plain c.if-is_plain.true in
+    let none : (f : StateFlags) (u : ℕ) → u < 536870912 → cell ≡ code_of f u → record { ends = false; dead = false } ≡ f = λ f u small is. let two = plain f u small is in shows_nothing f two.0 two.1 in
+    record {
+      offset = names_offset p t c.requires.table _ _ _ names c.offset_of.ensures;
+      after = omega (arith, old.after);
+      within = omega (arith, c.loop-at-test.true);
+      over = old.over;
+      passes = λ start pass. rw old.over (goes_further p t w start c.args.to c.byte-byte.result cell at (record { offset = c.offset_of.result; place = at.place + 1; end = at.end; over = false }) c.loop-at-test.true c.requires.to
+          (old.passes start pass) one.byte names (λ after within named last. arrive_plain p t w start (at.place + 1) cell c.offset_of.result at.end (record { ends = false; dead = false }) c.requires.table after within c.offset_of.ensures none named last plain));
+      cost = (omega (arith, one.cost, old.cost), omega (arith, one.cost, old.cost));
+      counts = omega (arith, one.cost, old.counts);
+    }
 
 pub loop-at-preserved : goal.loop-at-preserved
 unfolding TakesAtLeast IsCounted
@@ -9,6 +38,15 @@ loop-at-preserved c =
     let next = c.arrive-at.ensures in
     let one = c.byte-byte.ensures in
     let passes : (start : ℕ) → PassIs c.args.prepared.now c.args.self.now c.args.text.now start c.args.from → PassIs c.args.prepared.now c.args.self.now c.args.text.now start c.arrive-at.result =
-    λ start pass. goes_on c.args.prepared.now c.args.self.now c.args.self.now c.args.text.now start c.byte-byte.result c.known-cell.result false c.loop-at.at c.arrive-at.result refl (old.passes start pass) one.byte
-    ((λ h. absurd (true≢false (sym h))), (λ e. absurd (omega (arith, e, c.if-at-to.true, c.requires.to)))) (c.known-cell.ensures (omega (arith, c.if-cell-eq0.false))) (next.passes start) in
+    λ start pass. goes_further c.args.prepared.now c.args.self.now c.args.text.now start c.args.to c.byte-byte.result c.known-cell.result c.loop-at.at c.arrive-at.result c.loop-at-test.true c.requires.to (old.passes start pass) one.byte
+    (c.known-cell.ensures (omega (arith, c.if-cell-eq0.false))) (next.passes start) in
     search (rules, old, next, one, passes)
+
+pub returns-clause-passes : goal.returns-clause-passes
+returns-clause-passes c start pass =
+    let before = c.loop-at.invariant.passes start pass in
+    elim c.loop-at-test.branch [
+      | else-loop-at-test w ↦ rw w.at-is before
+      | then-loop-at-test+else-is_plain+else-cell-eq0+then-at w ↦ rw w.at-is (goes_further c.args.prepared.now c.args.self.now c.args.text.now start c.args.to w.byte-byte.result w.known-cell.result c.loop-at.at w.arrive-at.result
+          w.loop-at-test.true c.requires.to before w.byte-byte.ensures.byte (w.known-cell.ensures (omega (arith, w.if-cell-eq0.false))) (w.arrive-at.ensures.passes start))
+    ]

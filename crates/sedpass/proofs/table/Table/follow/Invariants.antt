@@ -1,4 +1,4 @@
-use Rattle.sedpass.proofs.Words.{ℕ, ◌-◌, ◌<◌, ◌≤◌, IsTrue, IsOffset, PassIs, CostsWithin, TakesAtLeast}
+use Rattle.sedpass.proofs.Words.{ℕ, ◌≡◌, ◌-◌, ◌≤◌, false, IsOffset, PassIs, CostsWithin, TakesAtLeast}
 use Rattle.sedpass.proofs.table.Table.follow.Given as goal
 
 abbrev pub invariant-loop-at : goal.invariant-loop-at
@@ -6,7 +6,7 @@ invariant-loop-at l = record {
   offset : IsOffset l.self l.at.offset;
   after : l.fn.from.place ≤ l.at.place;
   within : l.at.place ≤ l.to;
-  moved : IsTrue l.at.over → l.fn.from.place < l.at.place;
+  over : l.at.over ≡ false;
   passes : (start : ℕ) → PassIs l.prepared l.self l.text start l.fn.from → PassIs l.prepared l.self l.text start l.at;
   cost : CostsWithin l.initial.steps l.steps l.at.place l.fn.from.place;
   counts : TakesAtLeast l.initial.steps l.steps (l.at.place - l.fn.from.place);

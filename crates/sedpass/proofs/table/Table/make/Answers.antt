@@ -1,4 +1,4 @@
-use Rattle.sedpass.proofs.Words.{◌≢◌, ◌+◌, ◌∙◌, sym, arith, true≢false, KeepsRows, seen-length, IsApart, nodes_of}
+use Rattle.sedpass.proofs.Words.{◌≤◌, ◌+◌, ◌∙◌, sym, arith, true≢false, KeepsRows, seen-length, IsApart, nodes_of}
 use Rattle.sedpass.proofs.FactLemmas.{null_shows}
 use Rattle.sedpass.proofs.RowLemmas.{first_bits, keeps_then, took_bits}
 use Rattle.sedpass.proofs.TableLemmas.{adds_rows, names_map, table_rows}
@@ -7,7 +7,7 @@ use Rattle.sedpass.proofs.table.Table.make.Goals as goal
 
 -- the rows of no state change
 keeps : (c : After-descend) → KeepsRows (IsApart 2 c.make_room.new.self.count) c.make_room.new.self.rows c.descend.new.rows
-keeps c = keeps_then (λ q. q ≢ 1) (IsApart 1 c.make_room.new.self.count) (IsApart 2 c.make_room.new.self.count) _ _ _ (λ q far. (λ e. omega (arith, e, far.0), (omega (arith, far.0), far.1, far.2))) c.ascend.ensures.keeps c.descend.ensures.keeps
+keeps c = keeps_then (λ q. 2 ≤ q) (IsApart 1 c.make_room.new.self.count) (IsApart 2 c.make_room.new.self.count) _ _ _ (λ q far. (far.0, (omega (arith, far.0), far.1, far.2))) c.ascend.ensures.keeps c.descend.ensures.keeps
 
 pub intern-requires-clause-table : goal.intern-requires-clause-table
 intern-requires-clause-table c = table_rows c.args.act.prepared.now c.make_room.new.self c.descend.new.rows (keeps (goal.at.intern-requires-clause-table c).After-descend) c.make_room.ensures.table
