@@ -11,6 +11,8 @@ use std::alloc::{AllocError, Global};
 
 /// A matcher for each expression of the script, in its order. What one finds out at a line serves at all later lines. Each gets an
 /// equal share of the room for tables that is left.
+// In place it would take as much of the stack again as all other parts that are made there.
+#[inline(never)]
 pub(crate) fn matchers_of(
     alloc: Global,
     script: &Script,
@@ -57,6 +59,8 @@ fn most_nodes(matchers: &[TableMatcher], limit: usize) -> usize
 }
 
 /// Room for searches of these matchers: little where the script has no regular expression, since none is sought then.
+// In place it would take as much of the stack again.
+#[inline(never)]
 pub(crate) fn room_to_search(
     alloc: Global,
     script: &Script,

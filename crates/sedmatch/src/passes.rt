@@ -50,8 +50,9 @@ const FEW_WITH_LITERAL: usize = 64;
 /// How many tables an expression has: four in [`Tables`], and `reverse_any` for all occurrences in a text.
 const TABLES: usize = 5;
 
-/// How many bytes note for a node where passes begin: eight for each of four kinds of place, in three tables of passes from one start.
-const NOTES_OF_NODE: usize = 3 * 4 * 8;
+/// How many bytes note for a node where passes begin, eight for each of four kinds of place in three tables of passes from one start, and
+/// which leaves take bytes of a class, a bit for each of at most 128 in two tables of all starts (half as many again where rows are short).
+const NOTES_OF_NODE: usize = 3 * 4 * 8 + 2 * 24;
 
 /// How many bytes a state takes in all tables of an expression of so many nodes, at most.
 fn size_of_state(nodes: usize) -> usize

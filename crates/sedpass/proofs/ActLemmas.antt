@@ -1,5 +1,5 @@
 -- How the marks of a place are found by those that are set: upwards from the leaves that took the byte, and downwards from what begins.
-use Rattle.sedpass.proofs.Words.{AddsMarks, Alt, AreNull, Bool, CanEnd, EndKept, EndsAfter, EndsUpTo, Enters, Enters-root, EntersDownTo, Group, HasSpan, InTree, IsArena, IsNodeRange, IsPart, IsSetAt, IsStart, IsTrue, LeafAt, List, Marked, Node, NodeId, Opt, Option, RowOfPlace, Seq, Set, ShowTook, Some, Star, Starts, StartsAfter, StartsWith, TakenBy, and_from, and_parts, ap, arith, at_root, bits, both-iff, byte_is_in, cases_eq, cases_lt, either-iff, ended_by, entered_by, eq-eqb, eqb, eqb-true, false, get_or-set_other, get_or-set_same, has_mark, inl, inr, is_tree, le-leb, leb-true, length, length-set, lt-ltb, ltb-true, nat_le, nat_lt, ne_eqb, node_at, part_of, refl, rules, same_Some, slice_get, slice_get_within, slice_set, suc, sym, takes_at, true, true≢false, zero, ℕ, ◌&&◌, ◌+◌, ◌<◌, ◌||◌, ◌↔◌, ◌∙◌, ◌≡◌, ◌≤◌, ◌⊎◌}
+use Rattle.sedpass.proofs.Words.{AddsMarks, Alt, AreNull, AreTakers, Bool, CanEnd, EndKept, EndsAfter, EndsUpTo, Enters, Enters-root, EntersDownTo, Group, HasSpan, InTree, IsArena, IsNodeRange, IsPart, IsSetAt, IsStart, IsTrue, LeafAt, List, Marked, Node, NodeId, Opt, Option, RowOfPlace, Seq, Set, ShowTook, Some, Star, Starts, StartsAfter, StartsWith, TakenBy, and_from, and_parts, ap, arith, at_root, bits, both-iff, byte_is_in, cases_eq, cases_lt, either-iff, ended_by, entered_by, eq-eqb, eqb, eqb-true, false, get_or-set_other, get_or-set_same, has_mark, inl, inr, is_tree, le-leb, leb-true, length, length-set, lt-ltb, ltb-true, nat_le, nat_lt, ne_eqb, node_at, part_of, refl, rules, same_Some, slice_get, slice_get_within, slice_set, suc, sym, takes_at, true, true≢false, zero, ℕ, ◌&&◌, ◌+◌, ◌<◌, ◌||◌, ◌↔◌, ◌∙◌, ◌≡◌, ◌≤◌, ◌⊎◌}
 use Rattle.sedpass.proofs.LeaveLemmas.{ends_at}
 use Rattle.sedpass.proofs.RowLemmas.{InTree-inside, copy_part, ended_is, enters_tree, right_part, with_node}
 
@@ -30,7 +30,7 @@ unset : (b : Bool) → (IsTrue b → ⊥) → b ≡ false
 unset true none = absurd (none refl)
 unset false none = refl
 
-same_truth : (a b : Bool) → (IsTrue a → IsTrue b) → (IsTrue b → IsTrue a) → a ≡ b
+pub same_truth : (a b : Bool) → (IsTrue a → IsTrue b) → (IsTrue b → IsTrue a) → a ≡ b
 same_truth true b up down = sym (up refl)
 same_truth false b up down = sym (unset b (λ h. true≢false (sym (down h))))
 
@@ -122,7 +122,7 @@ module _ (nodes : List Node) (r : ℕ) (arena : IsArena nodes) (leaves : List Bo
 
 -- the nodes of the tree
 module _ (nodes : List Node) (w : List ℕ) (r p : ℕ) (s : Starts) (arena : IsArena nodes) (inside : r < length nodes) (leaves : List Bool) (byte : Option ℕ) (null : ℕ → Bool)
-    (nulls : AreNull nodes w p null) (takes : ShowTook nodes w r s p byte leaves) (ended : List Bool) (up : EndsUpTo nodes r leaves byte null ended r) where
+    (nulls : AreNull nodes w p null) (takes : ShowTook nodes w r s p byte (has_mark leaves)) (ended : List Bool) (up : EndsUpTo nodes r leaves byte null ended r) where
   -- the marks are those of the nodes that end there
   up_below : (n x : ℕ) → x < n → InTree nodes r x → IsTrue (has_mark ended x) ↔ CanEnd nodes w r s x p
   up_below zero x lt there = absurd (omega (arith, lt))
@@ -143,7 +143,7 @@ module _ (nodes : List Node) (w : List ℕ) (r p : ℕ) (s : Starts) (arena : Is
 
 -- what a node says of where its parts begin
 module _ (nodes : List Node) (w : List ℕ) (r x p : ℕ) (s : Starts) (arena : IsArena nodes) (le : x ≤ r) (here : Bool) (enters : IsTrue here ↔ Enters nodes w r s x p) (null ended : ℕ → Bool) where
-  entered_is : (node : Node) → slice_get nodes x ≡ Some node → ((c : ℕ) → IsPart node c → IsTrue (null c) ↔ HasSpan nodes w c p p) → ((c : ℕ) → IsPart node c → IsTrue (ended c) ↔ CanEnd nodes w r s c p) →
+  pub entered_is : (node : Node) → slice_get nodes x ≡ Some node → ((c : ℕ) → IsPart node c → IsTrue (null c) ↔ HasSpan nodes w c p p) → ((c : ℕ) → IsPart node c → IsTrue (ended c) ↔ CanEnd nodes w r s c p) →
       (c : ℕ) → IsPart node c → IsTrue (entered_by here null ended node c) ↔ Enters nodes w r s c p
   entered_is (Seq a b) is nulls ends c (inl at) =
       let left = with_node nodes w r s arena x p le here enters a.index (Seq a b) is refl (λ h. elim h [ inl f ↦ f.1 | inr same ↦ absurd (arena.distinct x (Seq a b) is (sym same.0)) ]) in
@@ -181,7 +181,7 @@ none_entered null (Star a first) c h = true≢false (sym h)
 none_entered null other c h = true≢false (sym h)
 
 -- what a node says of its part is said by its beginning, or by what ended
-entered_split : (here : Bool) (null f : ℕ → Bool) (node : Node) (c : ℕ) → IsTrue (entered_by here null f node c) → IsTrue (entered_by false null f node c) ⊎ (IsTrue here × IsTrue (entered_by true null (λ n. false) node c))
+pub entered_split : (here : Bool) (null f : ℕ → Bool) (node : Node) (c : ℕ) → IsTrue (entered_by here null f node c) → IsTrue (entered_by false null f node c) ⊎ (IsTrue here × IsTrue (entered_by true null (λ n. false) node c))
 entered_split here null f node c h = search rules
 
 module _ (nodes : List Node) (r : ℕ) (arena : IsArena nodes) (first : Bool) (null : ℕ → Bool) (ended : List Bool) (z : ℕ) where
@@ -411,33 +411,53 @@ taken_all nodes low r leaves byte ended null range has = record {
       let at = (range c).1 there in has.done c set.0 at.0 (omega (arith, at.1)) (is ∙ ap (λ n. Some n) set.1) set.2;
 }
 
--- Of the leaves from x on those are marked that were entered.
-pub record HasLeaves (nodes : List Node) (entered leaves : List Bool) (x : ℕ) : Type 0 where
-  pub leaf : (c : ℕ) → c < length nodes → IsTrue (has_mark leaves c) ↔ ((x ≤ c) × IsTrue (has_mark entered c) × IsSetAt nodes c)
+-- those leaves have ended that were entered and take the byte, of the whole expression
+pub taken_both : (nodes : List Node) (low r : ℕ) (leaves takers ended : List Bool) (byte : ℕ) → low ≡ 0 → length nodes ≡ r + 1 → AreTakers nodes byte takers →
+    ((c : ℕ) → c < length nodes → has_mark ended c ≡ (has_mark leaves c && has_mark takers c)) → HasTaken nodes low r leaves (Some byte) ended (r + 1)
+taken_both nodes low r leaves takers ended byte none whole are both = record {
+  just = λ c lt h.
+      let marks = and_parts (has_mark leaves c) (has_mark takers c) (sym (both c lt) ∙ h) in
+      let node = node_at nodes c lt in
+      let set = (are c node.0 node.1).0 marks.1 in
+      (omega (arith, none), omega (arith, lt, whole), (set.0, node.1 ∙ ap (λ n. Some n) set.1, and_from (has_mark leaves c) (byte_is_in (Some byte) set.0) marks.0 set.2));
+  done = λ c members at under is h.
+      let parts = and_parts (has_mark leaves c) (byte_is_in (Some byte) members) h in
+      both c (omega (arith, under, whole)) ∙ and_from (has_mark leaves c) (has_mark takers c) parts.0 ((are c (Set members) is).1 (members, refl, parts.1));
+}
 
-module _ (nodes : List Node) where
-  pub leaves_none : (entered leaves : List Bool) (x : ℕ) → ((c : ℕ) → c < length nodes → IsTrue (has_mark entered c) → c < x) → ((c : ℕ) → c < length nodes → has_mark leaves c ≡ false) → HasLeaves nodes entered leaves x
-  leaves_none entered leaves x below clear = record { leaf = λ c lt. (λ h. absurd (true≢false (sym h ∙ clear c lt)), λ h. absurd (omega (arith, below c lt h.1, h.0))) }
+-- Besides the marks of a base, of the leaves from x on those are marked that were entered.
+pub record HasLeaves (nodes : List Node) (base entered leaves : List Bool) (x : ℕ) : Type 0 where
+  pub leaf : (c : ℕ) → c < length nodes → IsTrue (has_mark leaves c) ↔ (IsTrue (has_mark base c) ⊎ ((x ≤ c) × IsTrue (has_mark entered c) × IsSetAt nodes c))
+
+module _ (nodes : List Node) (base : List Bool) where
+  pub leaves_none : (entered : List Bool) (x : ℕ) → ((c : ℕ) → c < length nodes → IsTrue (has_mark entered c) → c < x) → HasLeaves nodes base entered base x
+  leaves_none entered x below = record { leaf = λ c lt. (λ h. inl h, λ h. elim h [ inl old ↦ old | inr new ↦ absurd (omega (arith, below c lt new.1, new.0)) ]) }
 
   -- no node from y up to x is entered
-  pub leaves_skip : (entered leaves : List Bool) (y x : ℕ) → y ≤ x → ((c : ℕ) → y ≤ c → c < x → has_mark entered c ≡ false) → HasLeaves nodes entered leaves x → HasLeaves nodes entered leaves y
+  pub leaves_skip : (entered leaves : List Bool) (y x : ℕ) → y ≤ x → ((c : ℕ) → y ≤ c → c < x → has_mark entered c ≡ false) → HasLeaves nodes base entered leaves x → HasLeaves nodes base entered leaves y
   leaves_skip entered leaves y x le none has = record {
     leaf = λ c lt. (
-      λ h. let at = (has.leaf c lt).0 h in (omega (arith, le, at.0), at.1, at.2),
-      λ h. elim (cases_lt c x) [ inl under ↦ absurd (true≢false (sym h.1 ∙ none c h.0 under)) | inr past ↦ (has.leaf c lt).1 (past, h.1, h.2) ],
+      λ h. elim ((has.leaf c lt).0 h) [ inl old ↦ inl old | inr at ↦ inr (omega (arith, le, at.0), at.1, at.2) ],
+      λ h. elim h [
+        | inl old ↦ (has.leaf c lt).1 (inl old)
+        | inr at ↦ elim (cases_lt c x) [ inl under ↦ absurd (true≢false (sym at.1 ∙ none c at.0 under)) | inr past ↦ (has.leaf c lt).1 (inr (past, at.1, at.2)) ]
+      ],
     );
   }
 
   -- the node x is entered, and marked if it is a leaf
-  pub leaves_step : (entered leaves after_entered after : List Bool) (x : ℕ) → IsTrue (has_mark entered x) → ((c : ℕ) → x ≤ c → has_mark after_entered c ≡ has_mark entered c) →
-      ((c : ℕ) → IsTrue (has_mark after c) ↔ (IsTrue (has_mark leaves c) ⊎ ((c ≡ x) × IsSetAt nodes c))) → HasLeaves nodes entered leaves (x + 1) → HasLeaves nodes after_entered after x
+  pub leaves_step : (entered leaves after_entered after : List Bool) (x : ℕ) → IsTrue (has_mark entered x) → ((c : ℕ) → x ≤ c → has_mark after_entered c ≡ has_mark entered c) → AddsMarks leaves after (λ c. (c ≡ x) × IsSetAt nodes c) →
+      HasLeaves nodes base entered leaves (x + 1) → HasLeaves nodes base after_entered after x
   leaves_step entered leaves after_entered after x here kept law has = record {
     leaf = λ c lt. (
       λ h. elim ((law c).0 h) [
-        | inl old ↦ let at = (has.leaf c lt).0 old in let le : x ≤ c = omega (arith, at.0) in (le, rw (kept c le) at.1, at.2)
-        | inr new ↦ let le : x ≤ c = omega (arith, new.0) in (le, rw (kept c le, new.0) here, new.1)
+        | inl old ↦ elim ((has.leaf c lt).0 old) [ inl first ↦ inl first | inr at ↦ let le : x ≤ c = omega (arith, at.0) in inr (le, rw (kept c le) at.1, at.2) ]
+        | inr new ↦ let le : x ≤ c = omega (arith, new.0) in inr (le, rw (kept c le, new.0) here, new.1)
       ],
-      λ h. (law c).1 (elim (cases_eq c x) [ inl e ↦ inr (e, h.2) | inr ne ↦ inl ((has.leaf c lt).1 (omega (arith, h.0, ne), rw (← kept c h.0) h.1, h.2)) ]),
+      λ h. (law c).1 (elim h [
+        | inl first ↦ inl ((has.leaf c lt).1 (inl first))
+        | inr at ↦ elim (cases_eq c x) [ inl e ↦ inr (e, at.2) | inr ne ↦ inl ((has.leaf c lt).1 (inr (omega (arith, at.0, ne), rw (← kept c at.0) at.1, at.2))) ]
+      ]),
     );
   }
 
@@ -448,15 +468,12 @@ pub record HasEnds (m r : ℕ) (keeps first : Bool) (null : ℕ → Bool) (ended
 
 -- The row of the place.
 module _ (nodes : List Node) (w : List ℕ) (r p : ℕ) (s : Starts) (arena : IsArena nodes) (inside : r < length nodes) (keeps first : Bool) (null : ℕ → Bool) (nulls : AreNull nodes w p null) (begins : IsTrue first ↔ IsStart s p)
-    (ended entered : List Bool) (ends : Marked ended (InTree nodes r) (λ c. CanEnd nodes w r s c p)) (enters : (c : ℕ) → InTree nodes r c → IsTrue (has_mark entered c) ↔ Enters nodes w r s c p)
-    (ended_in : (c : ℕ) → c < length nodes → IsTrue (has_mark ended c) → InTree nodes r c) (entered_in : (c : ℕ) → c < length nodes → IsTrue (has_mark entered c) → InTree nodes r c)
-    (leaves last : List Bool) (low : ℕ) (all : (c : ℕ) → InTree nodes r c → low ≤ c) (leaf : HasLeaves nodes entered leaves low) (kept : HasEnds (length nodes) r keeps first null ended last) where
+    (ended : List Bool) (ends : Marked ended (InTree nodes r) (λ c. CanEnd nodes w r s c p)) (ended_in : (c : ℕ) → c < length nodes → IsTrue (has_mark ended c) → InTree nodes r c)
+    (leaves last : List Bool) (leaf : (c : ℕ) → c < length nodes → IsTrue (has_mark leaves c) ↔ LeafAt nodes w r s p c) (kept : HasEnds (length nodes) r keeps first null ended last) where
   leaf_shown : (c : ℕ) → IsTrue (bits (length nodes) leaves c) ↔ LeafAt nodes w r s p c
   leaf_shown c = (
-    λ h. let parts : IsTrue (nat_lt c (length nodes)) × IsTrue (has_mark leaves c) = and_parts (nat_lt c (length nodes)) (has_mark leaves c) h in
-        let low = ltb-true c (length nodes) parts.0 in let at = (leaf.leaf c low).0 parts.1 in (at.2.0, at.2.1, (enters c (entered_in c low at.1)).0 at.1),
-    λ h. let there = enters_tree nodes w r s c p h.2 in let low : c < length nodes = omega (arith, inside, InTree-inside nodes arena r c there) in
-        and_from (nat_lt c (length nodes)) (has_mark leaves c) (lt-ltb c (length nodes) low) ((leaf.leaf c low).1 (all c there, (enters c there).1 h.2, (h.0, h.1))),
+    λ h. let parts : IsTrue (nat_lt c (length nodes)) × IsTrue (has_mark leaves c) = and_parts (nat_lt c (length nodes)) (has_mark leaves c) h in (leaf c (ltb-true c (length nodes) parts.0)).0 parts.1,
+    λ h. let low : c < length nodes = slice_get_within nodes c (Set h.0) h.1 in and_from (nat_lt c (length nodes)) (has_mark leaves c) (lt-ltb c (length nodes) low) ((leaf c low).1 h),
   )
 
   root_end : IsTrue (has_mark last r) ↔ EndKept nodes w r s keeps p r

@@ -1,6 +1,6 @@
 -- Passes for the whole expression.
-use Rattle.sedpass.proofs.Words.{rules, inl, inr, ◌≡◌, ℕ, ◌+◌, ◌-◌, ◌*◌, ◌/◌, ◌^◌, ◌<◌, ◌≤◌, ◌⊎◌, ◌↔◌, Bool, true, false, List, length, Option, Some, None, IsTrue, refl, sym, subst, true≢false, arith, mul-le-mul_left, slice_get, is_some, IfSome, mul-sub, common_steps, then_some, option_or, cases_lt, cases_Bool, both_ways, slice_get_within, IsArena, expression_tree, Tree, Node, Starts, TakesAtLeast, LooksPast, HasSpan, IsStart, SomeSpan, IsLongestFrom, Matches, SomeFound, Matches-forward, Matches-within, IsPlace, StateFlags, PlaceKind, WrittenExpression, Way, Table, Passed, seen-arena, seen-length, least_less, least_since, least_both, cases_eq, nodes_of, at_begin, at_edge, root_of, PassState, state_of, FlagsShow, LeadsOn, BeginsIn, NamesState, IsTable, IsForwardOne, SameShape, code_of, starts_of, LastBelow, IsPassEnd, Arrives, EndsBelow, PassIs, is_over}
-use Rattle.sedpass.proofs.RowLemmas.{dead, row_root, row_empty}
+use Rattle.sedpass.proofs.Words.{rules, inl, inr, ◌≡◌, ℕ, ◌+◌, ◌-◌, ◌*◌, ◌/◌, ◌^◌, ◌<◌, ◌≤◌, ◌⊎◌, ◌↔◌, Bool, true, false, List, length, Option, Some, None, IsTrue, refl, sym, subst, true≢false, arith, mul-le-mul_left, slice_get, is_some, IfSome, mul-sub, common_steps, then_some, option_or, cases_lt, cases_Bool, both_ways, slice_get_within, IsArena, expression_tree, Tree, Node, Starts, TakesAtLeast, LooksPast, HasSpan, IsStart, SomeSpan, IsLongestFrom, Matches, SomeFound, Matches-forward, Matches-within, IsPlace, StateFlags, PlaceKind, WrittenExpression, Way, Table, Passed, seen-arena, seen-length, least_less, least_since, least_both, cases_eq, nodes_of, at_begin, at_edge, root_of, PassState, state_of, FlagsShow, LeadsOn, BeginsIn, NamesState, IsTable, IsForwardOne, SameShape, code_of, starts_of, LastBelow, IsPassEnd, Arrives, EndsBelow, PassIs, is_over, ap, byte_is_in, ◌∙◌}
+use Rattle.sedpass.proofs.RowLemmas.{dead, row_root, row_empty, row_took}
 use Rattle.sedpass.proofs.TableLemmas.{names_state, names_flags, names_shown, names_map}
 
 -- The starts of a pass.
@@ -69,7 +69,11 @@ module _ (p : WrittenExpression) (t : Table) (w : List ℕ) (start place code o 
 
 pub arrives_next : (p : WrittenExpression) (way : Way) (w : List ℕ) (start place byte : ℕ) (edge : Bool) (a b : PassState) → start ≤ place → slice_get w place ≡ Some byte → place < length w → (IsTrue edge ↔ (place + 1 ≡ length w)) →
     Arrives p way w start place a → LeadsOn (nodes_of way p) way a byte edge b → Arrives p way w start (place + 1) b
-arrives_next p way w start place byte edge a b after is inside edges here leads = search rules
+arrives_next p way w start place byte edge a b after is inside edges here leads =
+    let starts = starts_of way.all_starts start w in
+    let took = row_took (nodes_of way p) w a.root place starts way.mirrored a.entered a.ended (Some byte) (λ x m at. ap (λ k. byte_is_in k m) is) here.1 in
+    let next : IsTrue way.all_starts ↔ IsStart starts (place + 1) = search rules in
+    (leads.0 ∙ here.0, rw leads.0 (leads.1 w starts place took edges next))
 
 -- a pass goes on, in the table as it was or in one that was added to
 pub goes_on : (p : WrittenExpression) (t u : Table) (w : List ℕ) (start byte code : ℕ) (edge : Bool) (mid next : Passed) → u.way ≡ t.way → PassIs p t w start mid → slice_get w mid.place ≡ Some byte → (IsTrue edge ↔ (mid.place + 1 ≡ length w)) →

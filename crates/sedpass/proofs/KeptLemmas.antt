@@ -1,7 +1,7 @@
 -- What is kept of a pass backwards, and how it comes down by a place.
-use Rattle.sedpass.proofs.Words.{inl, inr, ◌≡◌, ◌≢◌, ℕ, ◌+◌, ◌-◌, ◌*◌, ◌/◌, ◌^◌, ◌<◌, ◌≤◌, ◌↔◌, Bool, true, false, List, length, Some, sym, ◌∙◌, subst, arith, IsTrue, not, reverse, slice_get, slice_index_or, slice_set, rules, with_item, StateFlags, div-mul-le_self, lt-div-mul-add, beq, length-reverse, get_or_default, get_or-set_same, get_or-set_other, seen, Starts, IsStart, one_start, IsPlace, get-reverse, KeepsRows, row_of, Kept, cases_lt, WrittenExpression, Way, Table, PlaceKind, ReachesEnd, MeetsAt, AreWide, leaves_row, ends_row, bits, nodes_of, starts_shown, ends_shown, ComesDown, RowKept, KeptAt, IsLive, IsRegion, PassesDownTo, IsEdge, SameKept, SameSpace, EdgesFrom, IsKept, KeepsRegion, Follows, code_of, Codes, IsNext, PassState, state_of, LeadsOn, BeginsIn, IsTable, SameShape, AddsStates, IsOffset, length-set, mul-le-mul_right}
+use Rattle.sedpass.proofs.Words.{inl, inr, ◌≡◌, ◌≢◌, ℕ, ◌+◌, ◌-◌, ◌*◌, ◌/◌, ◌^◌, ◌<◌, ◌≤◌, ◌↔◌, Bool, true, false, List, length, Some, sym, ◌∙◌, subst, arith, IsTrue, not, reverse, slice_get, slice_index_or, slice_set, rules, with_item, StateFlags, div-mul-le_self, lt-div-mul-add, beq, length-reverse, get_or_default, get_or-set_same, get_or-set_other, seen, Starts, IsStart, one_start, IsPlace, get-reverse, KeepsRows, row_of, Kept, cases_lt, WrittenExpression, Way, Table, PlaceKind, ReachesEnd, MeetsAt, AreWide, leaves_row, ends_row, bits, nodes_of, starts_shown, ends_shown, ComesDown, RowKept, KeptAt, IsLive, IsRegion, PassesDownTo, IsEdge, SameKept, SameSpace, EdgesFrom, IsKept, KeepsRegion, Follows, code_of, Codes, IsNext, PassState, state_of, LeadsOn, BeginsIn, IsTable, SameShape, AddsStates, IsOffset, length-set, mul-le-mul_right, ap, byte_is_in}
 use Rattle.sedpass.proofs.TableLemmas.{names_offset, names_state}
-use Rattle.sedpass.proofs.RowLemmas.{behind_reaches, meet_rows, bits_here}
+use Rattle.sedpass.proofs.RowLemmas.{behind_reaches, meet_rows, bits_here, row_took}
 use Rattle.sedpass.proofs.MeetingLemmas.{set_early}
 use Rattle.sedpass.proofs.LeaveLemmas.{Opposite}
 
@@ -25,7 +25,7 @@ kept_down p w way root end q byte edge a b mirrored before within got last leads
     let next : d + 1 ≡ length w - q = omega arith in
     let read = get-reverse w q d byte (omega arith) got in
     let on = rw (mirrored, at.0) at leads.1 in
-    (leads.0 ∙ at.0, rw (← next) (on (reverse w) (starts_shown way.all_starts (length w) end) d (search (rules, read)) (search (rules, length-reverse w)) (shown_start way.all_starts (length w) end d (omega arith) (omega arith)) at.1))
+    (leads.0 ∙ at.0, rw (← next) (on (reverse w) (starts_shown way.all_starts (length w) end) d (row_took _ (reverse w) _ d _ _ _ _ (Some byte) (search (rules, read)) at.1) (search (rules, length-reverse w)) (shown_start way.all_starts (length w) end d (omega arith) (omega arith))))
 
 -- Going back by one byte.
 
@@ -207,7 +207,9 @@ pub follows_next : (p : WrittenExpression) (w : List ℕ) (t after : Table) (a i
     LeadsOn (nodes_of t.way p) t.way (state_of (length p.nodes) t (offset / 2 ^ t.layout.shift)) byte edge (state_of (length p.nodes) after (next / 2 ^ after.layout.shift)) →
     Follows p w t a i place offset → Follows p w after a i (place + 1) next
 follows_next p w t after a i place byte offset next edge front one shape from got last leads follows =
-    let row = (rw (front, one) at leads.1) w (one_start i) place (search (rules, got)) last (search rules) (rw front at follows.1) in
+    let a = state_of (length p.nodes) t (offset / 2 ^ t.layout.shift) in
+    let took = row_took p.nodes w a.root place (one_start i) false a.entered a.ended (Some byte) (λ x m at. ap (λ k. byte_is_in k m) got) (rw front at follows.1) in
+    let row = (rw (front, one) at leads.1) w (one_start i) place took last (search rules) in
     (leads.0 ∙ follows.0, rw (leads.0, shape.0, front) row)
 
 pub follows_first : (p : WrittenExpression) (w : List ℕ) (t after : Table) (a i offset : ℕ) (kind : PlaceKind) → t.way.mirrored ≡ false → after.way ≡ t.way → (IsTrue kind.begin ↔ (i ≡ 0)) → (IsTrue kind.end ↔ (i ≡ length w)) →

@@ -1,4 +1,5 @@
 pub mod ActLemmas
+pub mod StartLemmas
 pub mod ClassLemmas
 pub mod DecideLemmas
 pub mod FactLemmas

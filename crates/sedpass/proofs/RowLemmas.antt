@@ -1,5 +1,5 @@
 -- How the marks at a place follow from what the leaves took, and what a row shows.
-use Rattle.sedpass.proofs.Words.{rules, ◌≡◌, ◌≢◌, ℕ, ◌+◌, ◌<◌, ◌≤◌, ◌⊎◌, ◌↔◌, Bool, List, length, Option, Some, None, IsTrue, refl, sym, ◌∙◌, inl, inr, true≢false, true, false, ◌&&◌, ◌||◌, arith, slice_get, slice_index_or, reverse, slice_get_within, and_parts, cases_eq, lt-ltb, IsArena, IsPart, WrittenExpression, tree_at, mirror_node, seen, seen-node, old_node, Node, NodeId, Set, Seq, Alt, Group, Star, Opt, Starts, AgreeBelow, KeepsRows, row_of, HasSpan, IsStart, one_start, SomeSpan, BeginsWith, Enters, at_root, with_whole, after_left, again, CanEnd, Matches-forward, CopiesLead-append, CopiesLead-last, open_at, close_at, takes_some, FromNode, Enters-from, Enters-part, Enters-root, BeginsWith-part, both-iff, either-iff, ReachesEnd, MeetsAt, Took, SameBytes, InTree, is_tree, part_of, IsNodeRange, ended_by, AreWide, bits, ShowTook, RowOfPlace}
+use Rattle.sedpass.proofs.Words.{rules, ◌≡◌, ◌≢◌, ℕ, ◌+◌, ◌<◌, ◌≤◌, ◌⊎◌, ◌↔◌, Bool, List, length, Option, Some, IsTrue, refl, sym, ◌∙◌, inl, inr, true≢false, true, false, ◌&&◌, ◌||◌, arith, slice_get, slice_index_or, reverse, slice_get_within, cases_eq, lt-ltb, IsArena, IsPart, WrittenExpression, tree_at, mirror_node, seen, seen-node, old_node, Node, NodeId, Set, Seq, Alt, Group, Star, Opt, Starts, AgreeBelow, KeepsRows, row_of, HasSpan, IsStart, one_start, SomeSpan, BeginsWith, Enters, at_root, with_whole, after_left, again, CanEnd, Matches-forward, CopiesLead-append, CopiesLead-last, open_at, close_at, takes_some, FromNode, Enters-from, Enters-part, Enters-root, BeginsWith-part, both-iff, either-iff, ReachesEnd, MeetsAt, Took, SameBytes, InTree, is_tree, part_of, IsNodeRange, ended_by, AreWide, bits, ShowTook, RowOfPlace, has_mark}
 use Rattle.sedpass.proofs.LeaveLemmas.{reaches_mirror, Opposite}
 use Rattle.sedpass.proofs.MeetingLemmas.{meets_whole}
 
@@ -19,7 +19,7 @@ module _ (nodes : List Node) (w : List ℕ) (r : ℕ) (s : Starts) (arena : IsAr
   up_with x j c node le is part from whole end = search (rules, Enters-part)
 
   -- the left part of a concatenation is entered with it
-  with_seq : (x i : ℕ) (a b : NodeId) → x ≤ r → slice_get nodes x ≡ Some (Seq a b) → Enters nodes w r s a.index i → Enters nodes w r s x i
+  pub with_seq : (x i : ℕ) (a b : NodeId) → x ≤ r → slice_get nodes x ≡ Some (Seq a b) → Enters nodes w r s a.index i → Enters nodes w r s x i
   with_seq x i a b le is e = let from = Enters-part nodes w r s arena x le a.index i (Seq a b) is (inl refl) e in let ne = arena.distinct x (Seq a b) is in search (rules, sym)
 
   -- the right part where the left one ends
@@ -27,7 +27,7 @@ module _ (nodes : List Node) (w : List ℕ) (r : ℕ) (s : Starts) (arena : IsAr
   after_seq x i a b le is e = let from = Enters-part nodes w r s arena x le b.index i (Seq a b) is (inr refl) e in let ne = arena.distinct x (Seq a b) is in search rules
 
   -- a repetition goes on with one more copy
-  one_copy : (x j : ℕ) (a : NodeId) (first : Bool) → x ≤ r → slice_get nodes x ≡ Some (Star a first) → CanEnd nodes w r s a.index j →
+  pub one_copy : (x j : ℕ) (a : NodeId) (first : Bool) → x ≤ r → slice_get nodes x ≡ Some (Star a first) → CanEnd nodes w r s a.index j →
       (i : ℕ) × (i < j) × Enters nodes w r s x i × HasSpan nodes w x i j
   one_copy x j a first le is end =
       let from = Enters-part nodes w r s arena x le a.index end.0 (Star a first) is refl end.2 in
@@ -35,7 +35,7 @@ module _ (nodes : List Node) (w : List ℕ) (r : ℕ) (s : Starts) (arena : IsAr
       (from.0, omega (arith, end.1, Matches-forward (tree_at nodes x) w from.0 end.0 from.2), from.1, close_at nodes w x (Star a first) arena is from.0 j copies)
 
   -- and its last copy ends with it
-  last_copy : (x i j : ℕ) (a : NodeId) (first : Bool) → slice_get nodes x ≡ Some (Star a first) → Enters nodes w r s x i → HasSpan nodes w x i j → (i ≡ j) ⊎ CanEnd nodes w r s a.index j
+  pub last_copy : (x i j : ℕ) (a : NodeId) (first : Bool) → slice_get nodes x ≡ Some (Star a first) → Enters nodes w r s x i → HasSpan nodes w x i j → (i ≡ j) ⊎ CanEnd nodes w r s a.index j
   last_copy x i j a first is e at = let last = CopiesLead-last (HasSpan nodes w a.index) j i (open_at nodes w x (Star a first) arena is i j at) in
       let more = λ (k : ℕ). again x a.index i k a first is refl e in let whole = λ (k : ℕ). close_at nodes w x (Star a first) arena is i k in search rules
 
@@ -182,13 +182,15 @@ pub bits_agree : (m : ℕ) (marks other : List Bool) → AgreeBelow m marks othe
 bits_agree m marks other agree = search rules
 
 -- a row shows, with the byte that came, which leaves took it
-pub took_bits : (nodes : List Node) (w : List ℕ) (r p : ℕ) (s : Starts) (keeps : Bool) (m : ℕ) (leaves : List Bool) (before : ℕ → Bool) (byte : Option ℕ) → length nodes ≡ m → SameBytes nodes (slice_get w p) byte →
-    RowOfPlace nodes w r s keeps p (bits m leaves) before → ShowTook nodes w r s (p + 1) byte leaves
-took_bits nodes w r p s keeps m leaves before byte long bytes row c members inside is = search (rules, slice_get_within, bits_here)
+pub row_took : (nodes : List Node) (w : List ℕ) (r p : ℕ) (s : Starts) (keeps : Bool) (entered before : ℕ → Bool) (byte : Option ℕ) → SameBytes nodes (slice_get w p) byte → RowOfPlace nodes w r s keeps p entered before → ShowTook nodes w r s (p + 1) byte entered
+row_took nodes w r p s keeps entered before byte bytes row c members inside is = search rules
 
--- none did before the first start
-pub first_bits : (nodes : List Node) (w : List ℕ) (r : ℕ) (s : Starts) (leaves : List Bool) → ShowTook nodes w r s s.first None leaves
-first_bits nodes w r s leaves c members inside is = search (rules, and_parts, Enters-from)
+pub took_bits : (nodes : List Node) (w : List ℕ) (r p : ℕ) (s : Starts) (m : ℕ) (leaves : List Bool) (byte : Option ℕ) → length nodes ≡ m → ShowTook nodes w r s p byte (bits m leaves) → ShowTook nodes w r s p byte (has_mark leaves)
+took_bits nodes w r p s m leaves byte long took c members inside is = rw (← bits_here m leaves c (omega (arith, slice_get_within nodes c (Set members) is, long))) (took c members inside is)
+
+-- none has ended at the first start
+pub none_ends : (nodes : List Node) (w : List ℕ) (r c : ℕ) (s : Starts) → CanEnd nodes w r s c s.first → ⊥
+none_ends nodes w r c s end = omega (arith, end.1, Enters-from nodes w r s c end.0 end.2)
 
 -- Rows of marks.
 

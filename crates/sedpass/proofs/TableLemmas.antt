@@ -1,5 +1,8 @@
 -- Tables of states.
-use Rattle.sedpass.proofs.Words.{◌≡◌, ℕ, ◌+◌, ◌*◌, ◌/◌, ◌%◌, ◌^◌, ◌<◌, ◌≤◌, ◌⊎◌, ◌↔◌, Bool, true, false, List, length, Option, Some, IsTrue, refl, sym, ap, ◌∙◌, subst, inl, inr, arith, min, mul-le-mul_left, slice_index_or, slice_set, replicate, rules, vec_capacity, Vec, Global, get_or_past, length-replicate, same_from_place, shl-shr, shl_whole, with_item, pow-le-pow_right, cases_eq, cases_lt, get_or-replicate, get_or-set_same, get_or-set_other, get_or_default, IsExpr, WrittenExpression, seen, old_node, KeepsRows, row_of, StateFlags, PlaceKind, Way, Beginning, Table, IsApart, nodes_of, at_begin, at_edge, leaves_row, ends_row, SameBytes, PassState, HasRows, state_of, FlagsShow, HasNewRow, IsMade, LeadsOn, BeginsIn, NamesState, IsNext, IsOffset, cell_of, LeadsBy, kind_number, beginning_at, beginning_of, MayBegin, HasRoom, IsRoomy, IsTable, SameRoom, SameShape, AddsStates, Codes, code_of, column_at, IsLayout, IsColumn, Layout, Act, length-set}
+use Rattle.sedpass.proofs.Words.{◌≡◌, ℕ, ◌+◌, ◌*◌, ◌/◌, ◌%◌, ◌^◌, ◌<◌, ◌≤◌, ◌⊎◌, ◌↔◌, Bool, true, false, List, length, Option, Some, IsTrue, refl, sym, ap, ◌∙◌, subst, inl, inr, arith, min, mul-le-mul_left, slice_index_or, slice_set, replicate, rules, vec_capacity, Vec, Global, get_or_past, length-replicate, same_from_place, shl-shr, shl_whole, with_item, pow-le-pow_right, cases_eq, cases_lt, get_or-replicate, get_or-set_same, get_or-set_other, get_or_default, IsExpr, WrittenExpression, seen, old_node, KeepsRows, row_of, StateFlags, PlaceKind, Way, Beginning, Table, IsApart, nodes_of, at_begin, at_edge, leaves_row, ends_row, SameBytes, PassState, HasRows, state_of, FlagsShow, HasNewRow, IsMade, LeadsOn, BeginsIn, NamesState, IsNext, IsOffset, cell_of, LeadsBy, kind_number, beginning_at, beginning_of, MayBegin, HasRoom, IsRoomy, IsTable, SameRoom, SameShape, AddsStates, Codes, code_of, column_at, IsLayout, IsColumn, Layout, Act, length-set, HasNotes, start_number, start_row, takers_row, AreTakers, ◌≢◌, Set, Node, slice_get, ◌||◌, ◌&&◌, has_mark, byte_is_in, bits, AgreeBelow, slice_get_within}
+use Rattle.sedpass.specs.Classes.{AreAlike}
+use Rattle.sedpass.specs.Rows.{RowLeadsTo}
+use Rattle.sedpass.proofs.ActLemmas.{same_truth}
 use Rattle.sedpass.proofs.LeaveLemmas.{twice}
 use Rattle.sedpass.proofs.RowLemmas.{bits_clear, bits_here}
 
@@ -9,6 +12,9 @@ shifted q n s lt few small = shl_whole q 16 s 64 (omega arith) (omega arith)
 
 pub few_offset : (q n s : ℕ) → q < n → n ≤ 65535 → s ≤ 8 → q * 2 ^ s < 536870912
 few_offset q n s lt few small = search rules
+
+pub small_offset_at : (p : WrittenExpression) (t : Table) → IsTable p t → (o : ℕ) → IsOffset t o → o < 536870912
+small_offset_at p t table o at = omega (arith, at.1, few_offset (o / 2 ^ t.layout.shift) t.room t.layout.shift (omega (arith, at.0, table.room.count)) table.room.rows.few table.layout.small)
 
 pub cell_inside : (size q k n w len : ℕ) → q < n → k < w → w ≤ size → n * size ≤ len → q * size + k < len
 cell_inside size q k n w len lt small fits is = search rules
@@ -32,9 +38,21 @@ pub seen_bytes : (mirrored : Bool) (e : WrittenExpression) (a b : Option ℕ) �
 seen_bytes false e a b same = same
 seen_bytes true e a b same = search (rules, old_node, twice)
 
+-- leaves that take a byte take those of its class
+pub takers_alike : (way : Way) (e : WrittenExpression) (classes : List ℕ) (byte other : ℕ) (marks : List Bool) → AreAlike e.nodes classes → byte < 256 → other < 256 → slice_index_or classes byte 0 ≡ slice_index_or classes other 0 →
+    AreTakers (nodes_of way e) byte marks → AreTakers (nodes_of way e) other marks
+takers_alike way e classes byte other marks alike low low' same takers c node is =
+    let bytes = seen_bytes way.mirrored e (Some byte) (Some other) (alike byte other low low' same) in (
+      λ h. let set = (takers c node is).0 h in (set.0, set.1, sym (bytes c set.0 (is ∙ ap (λ n. Some n) set.1)) ∙ set.2),
+      λ set. (takers c node is).1 (set.0, set.1, bytes c set.0 (is ∙ ap (λ n. Some n) set.1) ∙ set.2),
+    )
+
+same_set : (members other : List Bool) → Set members ≡ Set other → members ≡ other
+same_set members other same = cc same
+
 -- a state leads on by bytes of one class
 pub leads_same : (e : WrittenExpression) (way : Way) (a b : PassState) (byte other : ℕ) (edge : Bool) → SameBytes e.nodes (Some other) (Some byte) → LeadsOn (nodes_of way e) way a byte edge b → LeadsOn (nodes_of way e) way a other edge b
-leads_same e way a b byte other edge same leads = (leads.0, λ w s p at. leads.1 w s p (λ x m is. at x m is ∙ seen_bytes way.mirrored e (Some other) (Some byte) same x m is))
+leads_same e way a b byte other edge same leads = (leads.0, λ w s p took. leads.1 w s p (λ x m there is. rw (← seen_bytes way.mirrored e (Some other) (Some byte) same x m is) (took x m there is)))
 
 pub few_kinds : (a b : Bool) → kind_number a b < 4
 few_kinds a b = search rules
@@ -65,7 +83,8 @@ module _ (p : WrittenExpression) (t t' : Table) (adds : AddsStates (length p.nod
   names_moved Q o v there n = search rules
 
   leads_more : (q k : ℕ) → q < t.count → (b : PassState) → LeadsBy p t q k b → LeadsBy p t' q k b
-  leads_more q k there b leads byte edge small column = search rules
+  leads_more q k there b leads byte edge small column = subst (λ (x : Way). LeadsOn (nodes_of x p) x (state_of m t' q) byte edge b) (sym adds.shape.0)
+      (subst (λ (a : PassState). LeadsOn (nodes_of t.way p) t.way a byte edge b) (sym (adds.kept epoch q there)) (leads byte edge small (subst (λ (l : Layout). IsColumn l byte edge k) adds.shape.2 column)))
 
   abbrev Begun : Table → Way → ℕ → PlaceKind → Type 0
   Begun u way root kind = MayBegin p way root → (beginning_of u (beginning_at way.all_starts root kind)).epoch ≡ u.epoch →
@@ -77,8 +96,8 @@ module _ (p : WrittenExpression) (t t' : Table) (adds : AddsStates (length p.nod
   -- the table is right, if each state, cell and beginning is that isn't as it was
   pub table_more : IsTable p t → HasRoom m t' → ((q : ℕ) → q < t'.count → (q < t.count) ⊎ ((state_of m t' q).root < m)) →
       ((q k : ℕ) → q < t'.count → k < 2 * t.layout.columns → 0 < cell_of t' q k → ((q < t.count) × (cell_of t' q k ≡ cell_of t q k)) ⊎ NamesState m t' (LeadsBy p t' q k) (cell_of t' q k)) →
-      ((root : ℕ) (kind : PlaceKind) → (beginning_of t' (beginning_at t.way.all_starts root kind) ≡ beginning_of t (beginning_at t.way.all_starts root kind)) ⊎ Begun t' t'.way root kind) → IsTable p t'
-  table_more table room roots cells begins = let narrow = λ (k : ℕ). subst (λ (l : Layout). k < 2 * l.columns) adds.shape.2 in record {
+      ((root : ℕ) (kind : PlaceKind) → (beginning_of t' (beginning_at t.way.all_starts root kind) ≡ beginning_of t (beginning_at t.way.all_starts root kind)) ⊎ Begun t' t'.way root kind) → HasNotes p t' → IsTable p t'
+  table_more table room roots cells begins notes = let narrow = λ (k : ℕ). subst (λ (l : Layout). k < 2 * l.columns) adds.shape.2 in record {
     expr = table.expr;
     room = room;
     layout = subst (λ l. IsLayout p.nodes l) (sym adds.shape.2) table.layout;
@@ -88,16 +107,17 @@ module _ (p : WrittenExpression) (t t' : Table) (adds : AddsStates (length p.nod
       | inr new ↦ new
     ];
     begun = λ root kind. elim (begins root kind) [ inl old ↦ begun_more root kind old (table.begun root kind) | inr new ↦ new ];
+    behind = notes;
   }
 
 -- one element is set
 one_set : {A : Type 0} (d : A) (items : List A) (at : ℕ) (x : A) (i : ℕ) → at < length items → ((i ≡ at) × (slice_index_or (slice_set items at x) i d ≡ x)) ⊎ (slice_index_or (slice_set items at x) i d ≡ slice_index_or items i d)
 one_set d items at x i inside = search (rules, cases_eq i at, get_or-set_same, get_or-set_other)
 
--- what a table names, where other cells and beginnings are noted
-module _ (p : WrittenExpression) (t : Table) (cells : Vec ℕ Global) (beginnings : Vec Beginning Global) (P Q : PassState → Type 0) (v : ℕ) (up : (a : PassState) → P a → Q a) where
+-- what a table names, where other cells and beginnings are noted, and an origin
+module _ (p : WrittenExpression) (t : Table) (cells : Vec ℕ Global) (beginnings : Vec Beginning Global) (origin : ℕ) (P Q : PassState → Type 0) (v : ℕ) (up : (a : PassState) → P a → Q a) where
   abbrev noted : Table
-  noted = record t { cells = cells; beginnings = beginnings }
+  noted = record t { cells = cells; beginnings = beginnings; origin = origin }
 
   names_noted : NamesState (length p.nodes) t P v → NamesState (length p.nodes) noted Q v
   names_noted n = record { to = n.to; there = n.there; flags = n.flags; shown = n.shown; code = n.code; is = up (state_of (length p.nodes) t n.to) n.is }
@@ -106,7 +126,7 @@ module _ (p : WrittenExpression) (t : Table) (cells : Vec ℕ Global) (beginning
   coded old same codes table = let adds = codes.adds in search (rules, names_noted)
 
 pub codes_map : (p : WrittenExpression) (old t : Table) (P Q : PassState → Type 0) (v : ℕ) → ((a : PassState) → P a → Q a) → Codes p old t P v → Codes p old t Q v
-codes_map p old t P Q v up codes = coded p t t.cells t.beginnings P Q v up old (refl, refl, refl, refl, refl) codes codes.table
+codes_map p old t P Q v up codes = coded p t t.cells t.beginnings t.origin P Q v up old (refl, refl, refl, refl, refl) codes codes.table
 
 module _ (p : WrittenExpression) (old t : Table) where
   -- one more cell is filled
@@ -121,16 +141,16 @@ module _ (p : WrittenExpression) (old t : Table) where
       let there = offset_more p old t codes.adds epoch offset from in
       let narrow : k < 2 * t.layout.columns = search rules in
       let inside : offset + k < length t.cells.items = omega (arith, there.1, cell_inside size q k t.count (2 * t.layout.columns) (length t.cells.items) there.0 narrow table.layout.fits has.cells) in
-      let here = names_noted p t cells t.beginnings (IsNext p t offset byte edge) (LeadsBy p t q k) v
+      let here = names_noted p t cells t.beginnings t.origin (IsNext p t offset byte edge) (LeadsBy p t q k) v
       (λ b on o end few at.
       let one = column_apart t.layout.columns (slice_index_or t.layout.classes byte 0) (slice_index_or t.layout.classes o 0) edge end column.0 at.0 (sym column.1 ∙ at.1) in
       leads_same p t.way (state_of (length p.nodes) t q) b byte o end (table.layout.classes o byte few small one.0) (subst (λ x. IsNext p t offset byte x b) (sym one.1) on))
       (names_moved p old t codes.adds epoch (λ w a b. LeadsOn (nodes_of w p) w a byte edge b) offset v from.0 codes.names) in
-      coded p t cells t.beginnings _ _ v (λ a is. is) old (refl, refl, refl, refl, refl) codes (table_more p t _ (search rules) refl table (search (rules, length-set)) (λ x low. inl low)
+      coded p t cells t.beginnings t.origin _ _ v (λ a is. is) old (refl, refl, refl, refl, refl) codes (table_more p t _ (search rules) refl table (search (rules, length-set)) (λ x low. inl low)
       (λ x j less near some. elim (one_set 0 t.cells.items (offset + k) v (x * size + j) inside) [
         | inl e ↦ let at = same_from_place x j q k size (omega arith) (omega arith) (omega (arith, e.0, there.1)) in inr (rw (e.1, at.1, at.0) here)
         | inr other ↦ inl (less, other)
-      ]) (λ root kind. inl refl))
+      ]) (λ root kind. inl refl) table.behind)
 
   -- one more beginning is noted
   pub note_beginning : (root code : ℕ) (kind : PlaceKind) → MayBegin p old.way root → t.epoch < 4294967294 → Codes p old t (BeginsIn (nodes_of old.way p) old.way root kind) code →
@@ -147,25 +167,66 @@ module _ (p : WrittenExpression) (old t : Table) where
       let past : (i : ℕ) → (slice_index_or beginnings.items i none).epoch ≤ t.epoch = λ i. let e = one i in search (rules, has.past) in
       let early : (i : ℕ) → (slice_index_or beginnings.items i none).epoch < 4294967294 = λ i. let e = one i in search (rules, has.early) in
       let long : (x : ℕ) (other : PlaceKind) → x < t.marks → beginning_at t.way.all_starts x other < length beginnings.items = λ x other low. omega (arith, length-set t.beginnings.items at fresh, has.begins x other low) in
-      coded p t t.cells beginnings _ _ code (λ a is. is) old (refl, refl, refl, refl, refl) codes (table_more p t _ (search rules) refl table (search rules) (λ x low. inl low) (λ q k low near some. inl (low, refl))
+      coded p t t.cells beginnings t.origin _ _ code (λ a is. is) old (refl, refl, refl, refl, refl) codes (table_more p t _ (search rules) refl table (search rules) (λ x low. inl low) (λ q k low near some. inl (low, refl))
       (λ x other. elim (one (beginning_at t.way.all_starts x other)) [
         | inl e ↦ inr (λ may' now.
             let same : (x ≡ root) × (other ≡ kind) = let at = e.0 in search (rules, few_kinds) in
-            rw (ap (λ (b : Beginning). b.code) e.1, same.0, same.1) (names_noted p t t.cells beginnings _ (BeginsIn (nodes_of t.way p) t.way root kind) code (λ a. subst (λ (way : Way). BeginsIn (nodes_of way p) way root kind a) (sym codes.adds.shape.0)) codes.names))
+            rw (ap (λ (b : Beginning). b.code) e.1, same.0, same.1) (names_noted p t t.cells beginnings t.origin _ (BeginsIn (nodes_of t.way p) t.way root kind) code (λ a. subst (λ (way : Way). BeginsIn (nodes_of way p) way root kind a) (sym codes.adds.shape.0)) codes.names))
         | inr old ↦ inl old
-      ]))
+      ]) table.behind)
+
+-- another origin changes nothing
+pub with_origin : (p : WrittenExpression) (old t : Table) (P : PassState → Type 0) (v q : ℕ) → Codes p old t P v → Codes p old (record t { origin = q }) P v
+with_origin p old t P v q codes =
+    let table = codes.table in
+    let has = table.room in
+    coded p t t.cells t.beginnings q P P v (λ a is. is) old (refl, refl, refl, refl, refl) codes
+    (table_more p t _ (search rules) refl table (search rules) (λ x low. inl low) (λ x k low near some. inl (low, refl)) (λ root kind. inl refl) table.behind)
+
+-- no state was added
+pub adds_none : (m : ℕ) (t : Table) → AddsStates m t t
+adds_none m t = search rules
+
+-- rows that aren't noted take no room
+pub unnoted : (m : ℕ) (t : Table) (start : List Bool) (takers : ℕ) → HasRoom m t → HasRoom m (record t { has_start = start; has_takers = takers })
+unnoted m t start takers room = record { count = room.count; marks = room.marks; rows = room.rows; cells = room.cells; reserved = room.reserved; index = room.index; begins = room.begins; past = room.past; early = room.early }
 
 -- a table that forgot all its states, in an epoch that no beginning has
 pub emptied : (p : WrittenExpression) (t : Table) (epoch : ℕ) → IsExpr p.nodes p.groups → HasRoom (length p.nodes) t → IsLayout p.nodes t.layout →
-    ((noted : ℕ) → noted ≤ t.epoch → noted < 4294967294 → noted < epoch) → IsTable p (record t { count = 0; epoch = epoch })
-emptied p t epoch expr room layout later =
+    ((noted : ℕ) → noted ≤ t.epoch → noted < 4294967294 → noted < epoch) → HasNotes p t → IsTable p (record t { count = 0; epoch = epoch })
+emptied p t epoch expr room layout later notes =
     let past : (i : ℕ) → (beginning_of t i).epoch < epoch = λ i. later (beginning_of t i).epoch (room.past i) (room.early i) in
     search rules
 
 -- the state to which an act led
-pub leads_on : (act : Act) (a b : PassState) (byte : ℕ) (edge : Bool) → act.root ≡ a.root → at_begin act.way.mirrored act.kind ≡ false → at_edge act.way.mirrored act.kind ≡ edge →
-    IsMade act (Some byte) act.way.all_starts a.entered b → LeadsOn (nodes_of act.way act.prepared.now) act.way a byte edge b
-leads_on act a b byte edge root begin end made = (made.root ∙ root, rw (← root, ← end) (made.comes_next begin a.ended))
+pub leads_on : (act : Act) (a b : PassState) (byte : ℕ) (edge : Bool) → act.root ≡ a.root → at_edge act.way.mirrored act.kind ≡ edge →
+    IsMade act byte a.entered b → LeadsOn (nodes_of act.way act.prepared.now) act.way a byte edge b
+leads_on act a b byte edge root end made = (made.root ∙ root, rw (← root, ← end) made.comes_next)
+
+-- what is marked of a leaf, if those are that take the byte, is whether its set has it
+takes_members : (nodes : List Node) (byte : ℕ) (takers : List Bool) → AreTakers nodes byte takers → (c : ℕ) (members : List Bool) → slice_get nodes c ≡ Some (Set members) → has_mark takers c ≡ byte_is_in (Some byte) members
+takes_members nodes byte takers are c members is = same_truth (has_mark takers c) (byte_is_in (Some byte) members)
+    (λ h. let set = (are c (Set members) is).0 h in rw (same_set members set.0 set.1) set.2) (λ h. (are c (Set members) is).1 (members, refl, h))
+
+-- the same leaves of two rows take the byte
+pub shared_leaves : (nodes : List Node) (m byte : ℕ) (one other takers first second : List Bool) → length nodes ≡ m → AreTakers nodes byte takers → ((c : ℕ) → c < m → has_mark first c ≡ (has_mark one c && has_mark takers c)) →
+    ((c : ℕ) → c < m → has_mark second c ≡ (has_mark other c && has_mark takers c)) → AgreeBelow m first second → (c : ℕ) (members : List Bool) → slice_get nodes c ≡ Some (Set members) →
+    (bits m other c && byte_is_in (Some byte) members) ≡ (bits m one c && byte_is_in (Some byte) members)
+shared_leaves nodes m byte one other takers first second long are here there agree c members is =
+    let lt : c < m = omega (arith, slice_get_within nodes c (Set members) is, long) in
+    rw (bits_here m other c lt, bits_here m one c lt, ← takes_members nodes byte takers are c members is) (sym (there c lt) ∙ sym (agree c lt) ∙ here c lt)
+
+-- what is known of one state is true of another of which the same leaves take the byte
+pub made_shared : (act : Act) (a b : PassState) (byte : ℕ) (edge : Bool) (leaves : ℕ → Bool) → a.root ≡ act.root → at_edge act.way.mirrored act.kind ≡ edge →
+    ((c : ℕ) (members : List Bool) → slice_get (nodes_of act.way act.prepared.now) c ≡ Some (Set members) → (a.entered c && byte_is_in (Some byte) members) ≡ (leaves c && byte_is_in (Some byte) members)) →
+    LeadsOn (nodes_of act.way act.prepared.now) act.way a byte edge b → IsMade act byte leaves b
+made_shared act a b byte edge leaves root end same leads =
+    let on : RowLeadsTo (nodes_of act.way act.prepared.now) act.root act.way.mirrored a.entered (Some byte) (at_edge act.way.mirrored act.kind) act.way.all_starts b.entered b.ended = rw (← root, end) leads.1 in
+    record { root = leads.0 ∙ root; comes_next = λ w s p took. on w s p (λ c members there is. rw (same c members is) (took c members there is)) }
+
+-- of a place where no pass begins: whether it is at the edge
+pub at_one_edge : (mirrored : Bool) (kind : PlaceKind) → at_begin mirrored kind ≡ false → at_edge mirrored kind ≡ (kind.begin || kind.end)
+at_one_edge mirrored kind past = search rules
 
 -- What a code names.
 
@@ -219,6 +280,17 @@ roomy_still m p t t' roomy same table layout small tight = search rules
 pub roomy_fewer : (k m : ℕ) (t : Table) → k ≤ m → IsRoomy m t → IsRoomy k t
 roomy_fewer k m t few roomy layout small tight = search rules
 
+-- a row behind those of the states is that of none
+pub behind_states : (count room q : ℕ) → leaves_row room ≤ q → count < room → IsApart 2 count q
+behind_states count room q behind some = (omega (arith, behind), λ e. omega (arith, behind, e, some), λ e. omega (arith, behind, e, some))
+
+-- a number is one of two, and tells the kind of a place where no pass begins
+pub two_numbers : (kind : PlaceKind) → start_number kind < 2
+two_numbers kind = search rules
+
+pub same_kind : (mirrored : Bool) (kind other : PlaceKind) → at_begin mirrored kind ≡ false → at_begin mirrored other ≡ false → start_number kind ≡ start_number other → kind ≡ other
+same_kind mirrored kind other past past' same = search rules
+
 -- the rows of no state change where one is made
 module _ (p : WrittenExpression) (t : Table) (rows : List (List Bool)) (keeps : KeepsRows (IsApart 2 t.count) t.rows rows) where
   abbrev with_rows : Table
@@ -227,8 +299,39 @@ module _ (p : WrittenExpression) (t : Table) (rows : List (List Bool)) (keeps : 
   same_states : AddsStates (length p.nodes) t with_rows
   same_states = search rules
 
-  pub table_rows : IsTable p t → IsTable p with_rows
-  table_rows table = let old = table.room in table_more p t with_rows same_states refl table (search rules) (λ q low. inl low) (λ q k low near some. inl (low, refl)) (λ root kind. inl refl)
+  pub table_rows : IsTable p t → t.count < t.room → IsTable p with_rows
+  table_rows table some =
+      let old = table.room in
+      let same = λ (q : ℕ) (behind : leaves_row t.room ≤ q). keeps.same q (behind_states t.count t.room q behind some) in
+      table_more p t with_rows same_states refl table (search rules) (λ q low. inl low) (λ q k low near some. inl (low, refl)) (λ root kind. inl refl)
+      (λ kind past h. rw (same (start_row t.room kind) (omega arith)) (table.behind.0 kind past h), λ byte lt low h. rw (same (takers_row t.room (slice_index_or t.layout.classes byte 0)) (omega arith)) (table.behind.1 byte lt low h))
+
+  pub names_rows : (P : PassState → Type 0) (v : ℕ) → NamesState (length p.nodes) t P v → NamesState (length p.nodes) with_rows P v
+  names_rows P v n = names_more p t with_rows same_states refl P v n
 
   pub adds_rows : (new : Table) → AddsStates (length p.nodes) with_rows new → AddsStates (length p.nodes) t new
   adds_rows new adds = record { shape = adds.shape; grows = adds.grows; kept = λ e q low. adds.kept e q low ∙ same_states.kept refl q low; full = adds.full; forgot = adds.forgot }
+
+-- nor where a row behind theirs is made
+module _ (p : WrittenExpression) (t : Table) (rows : List (List Bool)) (z : ℕ) (start : List Bool) (takers : ℕ) (behind : leaves_row t.room ≤ z) (keeps : KeepsRows (λ q. IsApart 2 t.count q × (q ≢ z)) t.rows rows) (few : t.count ≤ t.room) where
+  abbrev with_notes : Table
+  with_notes = record t { rows = rows; has_start = start; has_takers = takers }
+
+  same_row : (q x : ℕ) → q < t.count → (x ≡ leaves_row q) ⊎ (x ≡ ends_row q) → row_of rows x ≡ row_of t.rows x
+  same_row q x low (inl e) = keeps.same x ((omega (arith, e), λ n. omega (arith, e, n, low), λ n. omega (arith, e, n, low)), λ n. omega (arith, e, n, low, few, behind))
+  same_row q x low (inr e) = keeps.same x ((omega (arith, e), λ n. omega (arith, e, n, low), λ n. omega (arith, e, n, low)), λ n. omega (arith, e, n, low, few, behind))
+
+  noted_states : AddsStates (length p.nodes) t with_notes
+  noted_states = let leaves = λ (q : ℕ) (low : q < t.count). same_row q (leaves_row q) low (inl refl) in let ends = λ (q : ℕ) (low : q < t.count). same_row q (ends_row q) low (inr refl) in record {
+    shape = (refl, refl, refl, refl, refl);
+    grows = λ e. (omega arith, omega arith);
+    kept = λ e q low. rw (leaves q low, ends q low) refl;
+    full = λ some. refl;
+    forgot = λ ne. absurd (ne refl);
+  }
+
+  pub table_notes : IsTable p t → HasNotes p with_notes → IsTable p with_notes
+  table_notes table notes = let old = table.room in table_more p t with_notes noted_states refl table (search rules) (λ q low. inl low) (λ q k low near some. inl (low, refl)) (λ root kind. inl refl) notes
+
+  pub adds_notes : (new : Table) → AddsStates (length p.nodes) with_notes new → AddsStates (length p.nodes) t new
+  adds_notes new adds = record { shape = adds.shape; grows = adds.grows; kept = λ e q low. adds.kept e q low ∙ noted_states.kept refl q low; full = adds.full; forgot = adds.forgot }

@@ -1,15 +1,15 @@
 -- Private to the proofs: no contract that `sedmatch` makes public cites what is here.
 -- What a row shows of a place, how the marks at a place follow from what the leaves took, and when one row leads to another.
-use Rattle.std.specs.Prelude.{◌≡◌, ◌≢◌, ℕ, ◌+◌, ◌-◌, ◌*◌, ◌≤◌, ◌<◌, ◌⊎◌, ◌↔◌, Bool, true, false, ◌&&◌, ◌||◌, if◌then◌else◌, eqb, List, length, slice_get, slice_index_or, Option, Some, IsTrue, nat_lt, nat_le}
+use Rattle.std.specs.Prelude.{◌≡◌, ◌≢◌, ℕ, ◌+◌, ◌-◌, ◌*◌, ◌≤◌, ◌<◌, ◌⊎◌, ◌↔◌, Bool, true, false, ◌&&◌, ◌||◌, if◌then◌else◌, eqb, List, length, slice_get, slice_index_or, Option, Some, None, IsTrue, nat_lt, nat_le}
 use Rattle.sedre.specs.Arena.{IsPart}
 use Rattle.sedre.specs.Tree.{WrittenExpression}
 use Rattle.sedre.specs.Mirror.{seen}
 use Rattle.sedre.specs.declared.types.Node.{Node}
 use Rattle.sedre.specs.declared.types.Node.TheVariants.{Set, Seq, Alt, Group, Star, Opt}
-use Rattle.sedtext.specs.Reach.{Starts, HasSpan, IsStart, Enters}
+use Rattle.sedtext.specs.Reach.{Starts, HasSpan, IsStart, Enters, one_start}
 use Rattle.sedtext.specs.Matching.{byte_is_in}
 use Rattle.sedtext.specs.Places.{IsPlace}
-use Rattle.sedtext.specs.Words.{row_of}
+use Rattle.sedtext.specs.Words.{AgreeBelow, row_of}
 use Rattle.sedpass.specs.Regions.{EndsPastIn}
 use Rattle.sedpass.specs.declared.nodes.PlaceKind.{PlaceKind}
 use Rattle.sedpass.specs.declared.rows.Way.{Way}
@@ -71,10 +71,10 @@ IsNodeRange nodes low r = (c : ℕ) → ((low ≤ c) × (c ≤ r)) ↔ InTree no
 abbrev pub AreNull : List Node → List ℕ → ℕ → (ℕ → Bool) → Type 0
 AreNull nodes w p null = (c : ℕ) → c < length nodes → IsTrue (null c) ↔ HasSpan nodes w c p p
 
--- the marks show, with the byte that came, which leaves in r took it
-abbrev pub ShowTook : List Node → List ℕ → ℕ → Starts → ℕ → Option ℕ → List Bool → Type 0
-ShowTook nodes w r s p byte marks = (c : ℕ) (members : List Bool) → InTree nodes r c → slice_get nodes c ≡ Some (Set members) →
-    IsTrue (slice_index_or marks c false && byte_is_in byte members) ↔ Took nodes w r s p c members
+-- which leaves were entered shows, with the byte that came, which in r took it
+abbrev pub ShowTook : List Node → List ℕ → ℕ → Starts → ℕ → Option ℕ → (ℕ → Bool) → Type 0
+ShowTook nodes w r s p byte entered = (c : ℕ) (members : List Bool) → InTree nodes r c → slice_get nodes c ≡ Some (Set members) →
+    IsTrue (entered c && byte_is_in byte members) ↔ Took nodes w r s p c members
 
 -- the mark of a node that ends with a byte
 abbrev pub ended_by : (List Bool → Bool) → (ℕ → Bool) → (ℕ → Bool) → Node → Bool
@@ -119,6 +119,10 @@ takes_at leaves byte x members = has_mark leaves x && byte_is_in byte members
 abbrev pub TakenBy : Option ℕ → Node → Type 0
 TakenBy byte node = (members : List Bool) × (node ≡ Set members) × IsTrue (byte_is_in byte members)
 
+-- the marks show which leaves take the byte
+abbrev pub AreTakers : List Node → ℕ → List Bool → Type 0
+AreTakers nodes byte marks = (c : ℕ) (node : Node) → slice_get nodes c ≡ Some node → IsTrue (has_mark marks c) ↔ TakenBy (Some byte) node
+
 -- Nodes in r are marked only if the byte or their parts say so; and if the byte says so, or their parts below y do, they are.
 pub record EndsUpTo (nodes : List Node) (r : ℕ) (leaves : List Bool) (byte : Option ℕ) (null : ℕ → Bool) (ended : List Bool) (y : ℕ) : Type 0 where
   pub inside : (x : ℕ) → x < length nodes → IsTrue (has_mark ended x) → InTree nodes r x
@@ -146,10 +150,19 @@ pub record RowOfPlace (nodes : List Node) (w : List ℕ) (r : ℕ) (s : Starts) 
   pub leaves : (c : ℕ) → IsTrue (entered c) ↔ LeafAt nodes w r s p c
   pub ends : (c : ℕ) → IsTrue (ended c) ↔ EndKept nodes w r s keeps p c
 
--- from one row this byte leads to the other, at a place that is the text's end or not, and a start or not
-abbrev pub RowLeadsTo : List Node → ℕ → Bool → (ℕ → Bool) → (ℕ → Bool) → Option ℕ → Bool → Bool → (ℕ → Bool) → (ℕ → Bool) → Type 0
-RowLeadsTo nodes r keeps entered ended byte end start after after_ended = (w : List ℕ) (s : Starts) (p : ℕ) → SameBytes nodes (slice_get w p) byte →
-    (IsTrue end ↔ (p + 1 ≡ length w)) → (IsTrue start ↔ IsStart s (p + 1)) → RowOfPlace nodes w r s keeps p entered ended → RowOfPlace nodes w r s keeps (p + 1) after after_ended
+-- the first of the marks show which leaves a match that begins at the place enters there, if the null strings are so
+abbrev pub IsStartRow : List Node → ℕ → (ℕ → Bool) → List Bool → Type 0
+IsStartRow nodes r null marks = (w : List ℕ) (p : ℕ) → AreNull nodes w p null → (c : ℕ) → c < length nodes → IsTrue (has_mark marks c) ↔ LeafAt nodes w r (one_start p) p c
+
+-- the first m of the marks are those of the row of that number, or none where there is none
+abbrev pub IsLaid : ℕ → Option ℕ → List (List Bool) → List Bool → Type 0
+IsLaid m None rows marks = (c : ℕ) → c < m → has_mark marks c ≡ false
+IsLaid m (Some q) rows marks = AgreeBelow m marks (row_of rows q)
+
+-- from the leaves that were entered this byte leads to the row, at a place that is the text's end or not, and a start or not
+abbrev pub RowLeadsTo : List Node → ℕ → Bool → (ℕ → Bool) → Option ℕ → Bool → Bool → (ℕ → Bool) → (ℕ → Bool) → Type 0
+RowLeadsTo nodes r keeps entered byte end start after after_ended = (w : List ℕ) (s : Starts) (p : ℕ) → ShowTook nodes w r s (p + 1) byte entered →
+    (IsTrue end ↔ (p + 1 ≡ length w)) → (IsTrue start ↔ IsStart s (p + 1)) → RowOfPlace nodes w r s keeps (p + 1) after after_ended
 
 -- a pass from a place of the kind begins with the row
 abbrev pub IsFirstRow : List Node → ℕ → Bool → Bool → Bool → (ℕ → Bool) → (ℕ → Bool) → Type 0

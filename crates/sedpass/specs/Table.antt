@@ -1,12 +1,13 @@
 -- Private to the proofs: no contract that `sedmatch` makes public cites what is here.
 -- A table of the passes of one way: its states, its cells, and the codes by which they name states.
-use Rattle.std.specs.Prelude.{◌≡◌, ℕ, ◌+◌, ◌*◌, ◌/◌, ◌^◌, ◌<◌, ◌≤◌, ◌↔◌, Bool, true, false, List, length, slice_index_or, Option, Some, None, IsTrue, vec_capacity}
-use Rattle.std.specs.Int.{from_bool}
+use Rattle.std.specs.Prelude.{◌||◌, ◌≡◌, ℕ, ◌+◌, ◌*◌, ◌/◌, ◌^◌, ◌<◌, ◌≤◌, ◌↔◌, Bool, true, false, eqb, List, length, slice_index_or, Some, IsTrue, vec_capacity}
+use Rattle.std.specs.Int.{bit_at, from_bool}
 use Rattle.sedre.specs.Arena.{IsExpr}
 use Rattle.sedre.specs.declared.types.Node.{Node}
-use Rattle.sedtext.specs.Reach.{Starts}
+use Rattle.sedtext.specs.Reach.{CanEnd, IsStart, Marked, Starts}
 use Rattle.sedtext.specs.Words.{row_of}
-use Rattle.sedpass.specs.Rows.{nodes_of, at_begin, at_edge, bits, leaves_row, ends_row, RowOfPlace, RowLeadsTo, IsFirstRow, root_of}
+use Rattle.sedpass.specs.Rows.{nodes_of, at_begin, at_edge, bits, leaves_row, ends_row, AreNull, InTree, RowOfPlace, RowLeadsTo, IsFirstRow, IsStartRow, AreTakers, root_of}
+use Rattle.sedpass.specs.Prepared.{null_in}
 use Rattle.sedpass.specs.declared.nodes.PlaceKind.{PlaceKind}
 use Rattle.sedre.specs.Tree.{WrittenExpression}
 use Rattle.sedpass.specs.declared.rows.Act.{Act}
@@ -67,19 +68,22 @@ StateAt nodes w s keeps p a = RowOfPlace nodes w a.root s keeps p a.entered a.en
 
 -- this byte leads from the one state to the other, where the text's edge comes after it, or doesn't
 abbrev pub LeadsOn : List Node → Way → PassState → ℕ → Bool → PassState → Type 0
-LeadsOn nodes way a byte edge b = (b.root ≡ a.root) × RowLeadsTo nodes a.root way.mirrored a.entered a.ended (Some byte) edge way.all_starts b.entered b.ended
+LeadsOn nodes way a byte edge b = (b.root ≡ a.root) × RowLeadsTo nodes a.root way.mirrored a.entered (Some byte) edge way.all_starts b.entered b.ended
 
 -- a pass for the root begins in the state, at places of the kind
 abbrev pub BeginsIn : List Node → Way → ℕ → PlaceKind → PassState → Type 0
 BeginsIn nodes way root kind a = (a.root ≡ root) × IsFirstRow nodes root way.mirrored (at_begin way.mirrored kind) (at_edge way.mirrored kind) a.entered a.ended
 
--- The state has the root of an act, and the row to which that leads from the leaves entered before and a byte, if no pass begins at the
--- place; without a byte, that with which a pass begins.
-pub record IsMade (act : Act) (byte : Option ℕ) (first : Bool) (leaves : ℕ → Bool) (a : PassState) : Type 0 where
+-- the rows of the state are those of a place of the act's kind, if the nodes that ended there are marked, and it is a start or not
+abbrev pub MakesRow : Act → Bool → List (List Bool) → ℕ → Type 0
+MakesRow act first rows state = let nodes = nodes_of act.way act.prepared.now in let m = length act.prepared.now.nodes in
+    (w : List ℕ) (s : Starts) (p : ℕ) → AreNull nodes w p (null_in act.prepared.now.nodes act.kind) → Marked (row_of rows 1) (InTree nodes act.root) (λ c. CanEnd nodes w act.root s c p) → (IsTrue first ↔ IsStart s p) →
+    RowOfPlace nodes w act.root s act.way.mirrored p (bits m (row_of rows (leaves_row state))) (bits m (row_of rows (ends_row state)))
+
+-- the state has the root of an act, and the row to which that leads from the leaves entered before and a byte
+pub record IsMade (act : Act) (byte : ℕ) (leaves : ℕ → Bool) (a : PassState) : Type 0 where
   pub root : a.root ≡ act.root
-  pub comes_next : at_begin act.way.mirrored act.kind ≡ false → (ended : ℕ → Bool) →
-      RowLeadsTo (nodes_of act.way act.prepared.now) act.root act.way.mirrored leaves ended byte (at_edge act.way.mirrored act.kind) first a.entered a.ended
-  pub begins : byte ≡ None → IsTrue first → BeginsIn (nodes_of act.way act.prepared.now) act.way act.root act.kind a
+  pub comes_next : RowLeadsTo (nodes_of act.way act.prepared.now) act.root act.way.mirrored leaves (Some byte) (at_edge act.way.mirrored act.kind) act.way.all_starts a.entered a.ended
 
 -- Codes.
 
@@ -134,11 +138,11 @@ MayBegin e way root = (root < length e.nodes) × (IsTrue way.all_starts → root
 
 -- Tables.
 
--- for each state that there is room for: its rows, with so many marks, and its root
+-- for each state that there is room for: its rows, with so many marks, and its root; behind them are rows more
 pub record HasRows (states marks : ℕ) (all_rows : List (List Bool)) (all_roots : List ℕ) : Type 0 where
   pub some : 2 ≤ states
   pub few : states ≤ 65535
-  pub rows : length all_rows ≡ 2 * states + 2
+  pub rows : 2 * states + 4 ≤ length all_rows
   pub long : (q : ℕ) → q < length all_rows → length (row_of all_rows q) ≡ marks
   pub roots : length all_roots ≡ states
 
@@ -159,6 +163,31 @@ pub record HasRoom (m : ℕ) (t : Table) : Type 0 where
 abbrev pub IsRoomy : ℕ → Table → Type 0
 IsRoomy m t = (layout : Layout) → layout.shift ≤ 8 → 2 ^ layout.shift ≤ 4 * (m + 1) → HasRoom m (record t { layout = layout; count = 0 })
 
+-- which of two rows serves places of the kind, of which none is where passes begin: that of places between the edges, or at one
+abbrev pub start_number : PlaceKind → ℕ
+start_number kind = from_bool (kind.begin || kind.end)
+
+abbrev pub start_row : ℕ → PlaceKind → ℕ
+start_row room kind = leaves_row room + start_number kind
+
+-- these show, if that is noted, which leaves a match that begins at such a place enters there
+abbrev pub HasStarts : WrittenExpression → Table → Type 0
+HasStarts e t = (kind : PlaceKind) → at_begin t.way.mirrored kind ≡ false → IsTrue (slice_index_or t.has_start (start_number kind) false) →
+    IsStartRow (nodes_of t.way e) (root_of e) (null_in e.nodes kind) (row_of t.rows (start_row t.room kind))
+
+-- the row of the leaves that take bytes of a class
+abbrev pub takers_row : ℕ → ℕ → ℕ
+takers_row room class = leaves_row room + 2 + class
+
+-- of each class of bytes for which that is noted a row shows which leaves take them
+abbrev pub HasTakers : WrittenExpression → Table → Type 0
+HasTakers e t = (byte : ℕ) → byte < 256 → let class = slice_index_or t.layout.classes byte 0 in
+    class < 128 → IsTrue (eqb (bit_at t.has_takers class) 1) → AreTakers (nodes_of t.way e) byte (row_of t.rows (takers_row t.room class))
+
+-- what the rows behind those of the states show is right
+abbrev pub HasNotes : WrittenExpression → Table → Type 0
+HasNotes e t = HasStarts e t × HasTakers e t
+
 -- what a table says is right for the expression: of each state, each filled cell, and each beginning of this epoch
 pub record IsTable (e : WrittenExpression) (t : Table) : Type 0 where
   pub expr : IsExpr e.nodes e.groups
@@ -168,6 +197,7 @@ pub record IsTable (e : WrittenExpression) (t : Table) : Type 0 where
   pub filled : (q k : ℕ) → q < t.count → k < 2 * t.layout.columns → 0 < cell_of t q k → NamesState (length e.nodes) t (LeadsBy e t q k) (cell_of t q k)
   pub begun : (root : ℕ) (kind : PlaceKind) → MayBegin e t.way root → (beginning_of t (beginning_at t.way.all_starts root kind)).epoch ≡ t.epoch →
       NamesState (length e.nodes) t (BeginsIn (nodes_of t.way e) t.way root kind) (beginning_of t (beginning_at t.way.all_starts root kind)).code
+  pub behind : HasNotes e t
 
 -- what never changes
 abbrev pub SameRoom : Table → Table → Type 0

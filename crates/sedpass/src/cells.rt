@@ -59,6 +59,23 @@ pub fn flags_of(code: u32) -> StateFlags
     }
 }
 
+/// The code of a state of which no flag is set, whose cells begin at a place.
+pub fn plain_code(offset: usize) -> u32
+    requires { offset < 536870912 }
+    ensures { result ≡ offset + 536870912 }
+{
+    offset as u32 + PLACES
+}
+
+/// Where the cells of a state begin of which no flag is set.
+// In the width of an address, so that it becomes a part of one.
+pub fn plain_offset(code: u32) -> usize
+    requires { 536870912 ≤ code }
+    ensures { result + 536870912 ≡ code }
+{
+    code as usize - PLACES as usize
+}
+
 /// Whether this is the code of a state of which no flag is set.
 pub fn is_plain(code: u32) -> bool
     ensures some { IsTrue result → 0 < code }

@@ -8,7 +8,7 @@ ghost use Rattle.sedre.specs.Tree.{expression_tree};
 ghost use Rattle.sedpass.specs.Table.{NamesState, IsOffset, IsTable, SameShape};
 ghost use Rattle.sedpass.specs.Forwards.{Arrives, EndsBelow, PassIs, is_over};
 
-use crate::cells::{StateFlags, flags_of, is_plain, offset_of};
+use crate::cells::{StateFlags, flags_of, is_plain, offset_of, plain_code, plain_offset};
 use crate::nodes::{Prepared, kind_of};
 use crate::table::Table;
 use sedre::Steps;
@@ -85,26 +85,33 @@ impl Table {
         ensures counts { TakesAtLeast steps.old steps.new (2 * (result.place - from.place)) }
     {
         let mut at = from;
+        // A count that is this loop's alone stays in a register.
+        let mut looks = Steps::new();
+        // The offset as the code of a plain state: from a cell to the next is one addition.
+        let mut code = plain_code(at.offset);
         while at.place < to {
-            let byte = text.byte(at.place, steps);
-            let cell = self.known(prepared, at.offset, byte, false);
+            let byte = text.byte(at.place, &mut looks);
+            let cell = self.known(prepared, plain_offset(code), byte, false);
             if is_plain(cell) {
                 // Most states show nothing.
-                at.offset = offset_of(cell);
+                code = cell;
+                at.offset = plain_offset(code);
                 at.place += 1;
             } else {
                 if cell == 0 {
-                    steps.add(at.place - from.place + 1);
-                    return at;
+                    break;
                 }
                 at = self.arrive(prepared, text, cell, at.place + 1, at.end);
+                code = plain_code(at.offset);
                 if at.over {
                     break;
                 }
             }
         }
-        // A look at a cell for each byte; in the loop it would take as long as the byte's.
-        steps.add(at.place - from.place);
+        // A look at a byte, and one at its cell.
+        let looks = looks.count() as usize;
+        steps.add(looks);
+        steps.add(looks);
         at
     }
 

@@ -5,20 +5,20 @@
 //! there, over the marks that are set alone. A node's parts have lower numbers, so that one loop each way meets all of them. Rows of
 //! marks contain what acts work on: the first two what is found out of a place, and then two for each state, so that a row is made
 //! where it is kept.
-ghost use Rattle.std.specs.Prelude.{◌≡◌, ◌≢◌, ℕ, Bool, List, Option, false, ◌+◌, ◌-◌, ◌*◌, ◌<◌, ◌≤◌, ◌↔◌, ◌⊎◌, ◌||◌, ◌&&◌, length, IsTrue, Some, slice_get};
-ghost use Rattle.sedre.specs.Steps.{Takes, TakesAtLeast};
+ghost use Rattle.std.specs.Prelude.{◌≡◌, ◌≢◌, ℕ, Bool, List, Option, false, ◌+◌, ◌-◌, ◌*◌, ◌<◌, ◌≤◌, ◌↔◌, ◌⊎◌, ◌||◌, ◌&&◌, length, IfSome, IsTrue, Some, slice_get};
+ghost use Rattle.sedre.specs.Steps.{Takes, TakesAtLeast, TakesExactly};
 ghost use Rattle.sedtext.specs.Reach.{IsStart, CanEnd, Marked, Starts};
 ghost use Rattle.sedtext.specs.Words.{KeepsRows, row_of};
 ghost use Rattle.sedpass.specs.Prepared.{null_in};
 ghost use Rattle.sedpass.specs.Regions.{IsSetAt};
-ghost use Rattle.sedpass.specs.Rows.{nodes_of, at_begin, at_edge, bits, has_mark, RowOfPlace, InTree, AddsMarks, AreNull, AreWide, EndsAfter, EndsUpTo, EntersDownTo, ShowTook, StartsAfter, StartsWith, TakenBy, IsApart, leaves_row, ends_row};
+ghost use Rattle.sedpass.specs.Rows.{nodes_of, at_begin, at_edge, bits, has_mark, root_of, RowOfPlace, InTree, AddsMarks, AreNull, AreTakers, AreWide, EndsAfter, EndsUpTo, EntersDownTo, IsLaid, IsStartRow, ShowTook, StartsAfter, StartsWith, TakenBy, IsApart, leaves_row, ends_row};
+ghost use Rattle.sedpass.specs.Table.{MakesRow};
 ghost use Rattle.sedre.specs.Arena.{IsPart};
 ghost use Rattle.sedre.specs.declared.types.Node.{Node};
 
 use crate::nodes::{PlaceKind, Prepared};
 use sedre::{Node, Steps};
 use sedtext::counted::Rows;
-use sedtext::counted::members::takes_byte;
 
 /// In which way a pass goes.
 #[derive(Clone, Copy)]
@@ -43,10 +43,10 @@ pub struct Act<'a> {
 }
 
 /// The row of the nodes that begin at the place.
-const ENTERED: usize = 0;
+pub const ENTERED: usize = 0;
 
 /// The row of the nodes that end at the place after at least one byte.
-const ENDED: usize = 1;
+pub const ENDED: usize = 1;
 
 /// The row of the leaves entered in a state.
 pub fn leaves_row(state: usize) -> usize
@@ -65,33 +65,70 @@ pub fn ends_row(state: usize) -> usize
 }
 
 /// Whether the node is a leaf that takes the byte.
-fn is_taken_by(node: &Node, byte: Option<u8>) -> bool
-    ensures { IsTrue result ↔ TakenBy byte node.now }
+fn is_taken_by(node: &Node, byte: u8) -> bool
+    ensures { IsTrue result ↔ TakenBy (Some byte) node.now }
 {
     match node {
-        Node::Set(set) => takes_byte(set, byte),
+        Node::Set(set) => set.has(byte),
         _ => false,
     }
 }
 
-/// The leaves that were entered in a state and take the byte that came have ended.
-fn take(act: Act, byte: Option<u8>, state: usize, rows: &mut Rows, steps: &mut Steps)
+/// Marks in a row which leaves take the byte.
+pub fn mark_takers(act: Act, byte: u8, row: usize, rows: &mut Rows, steps: &mut Steps)
+    requires row { row < length rows.old }
+    requires wide { length act.prepared.now.nodes ≤ length (row_of rows.old row) }
+    ensures keeps { KeepsRows (λ q. q ≢ row) rows.old rows.new }
+    ensures takers { AreTakers (nodes_of act.entry.way act.entry.prepared.now) byte (row_of rows.new row) }
+    ensures cost { Takes steps.old steps.new (2 * length act.entry.prepared.now.nodes) }
+{
+    for x in 0..act.prepared.nodes() {
+        let node = act.prepared.look(x, act.way.mirrored, steps);
+        rows.set(row, x, is_taken_by(&node, byte), steps);
+    }
+}
+
+/// The leaves that were entered in a state and take the byte that came have ended. `takers` is the row of the leaves that take it, where
+/// there is one and the root is the expression's.
+fn take(act: Act, byte: u8, takers: Option<usize>, state: usize, rows: &mut Rows, steps: &mut Steps)
     requires root { act.root < length act.prepared.now.nodes }
     requires wide { AreWide (length act.prepared.now.nodes) state rows.old }
+    requires takers { IfSome takers (λ q. (2 ≤ q) × (q < length rows.old) × (act.root ≡ root_of act.prepared.now) × AreTakers (nodes_of act.way act.prepared.now) byte (row_of rows.old q)) }
     ensures keeps { KeepsRows (λ q. q ≢ 1) rows.old rows.new }
-    ensures ended { (null : ℕ → Bool) → EndsUpTo (nodes_of act.entry.way act.entry.prepared.now) act.entry.root (row_of rows.old (leaves_row state)) byte null (row_of rows.new 1) 0 }
+    ensures ended { (null : ℕ → Bool) → EndsUpTo (nodes_of act.entry.way act.entry.prepared.now) act.entry.root (row_of rows.old (leaves_row state)) (Some byte) null (row_of rows.new 1) 0 }
     ensures cost { Takes steps.old steps.new (4 * length act.entry.prepared.now.nodes) }
+    ensures fewer { IfSome takers (λ q. Takes steps.old steps.new (length act.entry.prepared.now.nodes)) }
     ensures counts { TakesAtLeast steps.old steps.new (length act.entry.prepared.now.nodes) }
 {
     let nodes = act.prepared.nodes();
-    rows.clear(ENDED, nodes, steps);
     let (leaves, low, end) = (leaves_row(state), act.prepared.low(act.root), act.root + 1);
+    if let Some(row) = takers {
+        rows.intersect(ENDED, leaves, row, nodes, steps);
+        return;
+    }
+    rows.clear(ENDED, nodes, steps);
     let mut x = rows.next_set(leaves, low, end, steps);
     while x < end {
         let node = act.prepared.look(x, act.way.mirrored, steps);
         rows.set(ENDED, x, is_taken_by(&node, byte), steps);
         x = rows.next_set(leaves, x + 1, end, steps);
     }
+}
+
+/// Nothing has ended at a place, and nothing begins there yet.
+pub fn forget(act: Act, rows: &mut Rows, steps: &mut Steps)
+    requires root { act.root < length act.prepared.now.nodes }
+    requires wide { AreWide (length act.prepared.now.nodes) 0 rows.old }
+    ensures keeps { KeepsRows (λ q. 2 ≤ q) rows.old rows.new }
+    ensures none { (c : ℕ) → c < length act.entry.prepared.now.nodes → has_mark (row_of rows.new 1) c ≡ false }
+    ensures entered { EntersDownTo (nodes_of act.entry.way act.entry.prepared.now) act.entry.root false (null_in act.entry.prepared.now.nodes act.entry.kind)
+        (row_of rows.new 1) (row_of rows.new 0) (act.entry.root + 1) (act.entry.root + 1) }
+    ensures cost { Takes steps.old steps.new (2 * length act.entry.prepared.now.nodes) }
+    ensures counts { TakesAtLeast steps.old steps.new (2 * length act.entry.prepared.now.nodes) }
+{
+    let nodes = act.prepared.nodes();
+    rows.clear(ENDED, nodes, steps);
+    rows.clear(ENTERED, nodes, steps);
 }
 
 /// What follows where the node y has ended, which isn't the root: whether its parent has ended too, and which part of that begins here.
@@ -123,22 +160,31 @@ fn follow(act: Act, y: usize, rows: &mut Rows, steps: &mut Steps)
 }
 
 /// From the leaves up: which nodes end here after at least one byte, and which parts begin here since those before them end. `byte` is
-/// the one that came, if one did; the state is that of the place before it.
-pub fn ascend(act: Act, byte: Option<u8>, state: usize, rows: &mut Rows, steps: &mut Steps)
+/// the one that came, `takers` the row of the leaves that take it, if there is one; the state is that of the place before it.
+pub fn ascend(
+    act: Act,
+    byte: u8,
+    takers: Option<usize>,
+    state: usize,
+    rows: &mut Rows,
+    steps: &mut Steps,
+)
     requires root { act.root < length act.prepared.now.nodes }
     requires wide { AreWide (length act.prepared.now.nodes) state rows.old }
+    requires takers { IfSome takers (λ q. (2 ≤ q) × (q < length rows.old) × (act.root ≡ root_of act.prepared.now) × AreTakers (nodes_of act.way act.prepared.now) byte (row_of rows.old q)) }
     ensures keeps { KeepsRows (λ q. 2 ≤ q) rows.old rows.new }
     ensures ended { let nodes = nodes_of act.entry.way act.entry.prepared.now in
         (w : List ℕ) (s : Starts) (place : ℕ) → AreNull nodes w place (null_in act.entry.prepared.now.nodes act.entry.kind) →
-        ShowTook nodes w act.entry.root s place byte (row_of rows.old (leaves_row state)) →
+        ShowTook nodes w act.entry.root s place (Some byte) (has_mark (row_of rows.old (leaves_row state))) →
         Marked (row_of rows.new 1) (InTree nodes act.entry.root) (λ c. CanEnd nodes w act.entry.root s c place) }
     ensures inside { (c : ℕ) → c < length act.entry.prepared.now.nodes → IsTrue (has_mark (row_of rows.new 1) c) → InTree (nodes_of act.entry.way act.entry.prepared.now) act.entry.root c }
     ensures entered { EntersDownTo (nodes_of act.entry.way act.entry.prepared.now) act.entry.root false (null_in act.entry.prepared.now.nodes act.entry.kind)
         (row_of rows.new 1) (row_of rows.new 0) (act.entry.root + 1) (act.entry.root + 1) }
     ensures cost { Takes steps.old steps.new (10 * length act.entry.prepared.now.nodes - 4) }
+    ensures fewer { IfSome takers (λ q. Takes steps.old steps.new (7 * length act.entry.prepared.now.nodes - 4)) }
     ensures counts { TakesAtLeast steps.old steps.new (2 * length act.entry.prepared.now.nodes) }
 {
-    take(act, byte, state, rows, steps);
+    take(act, byte, takers, state, rows, steps);
     rows.clear(ENTERED, act.prepared.nodes(), steps);
     let low = act.prepared.low(act.root);
     let mut y = rows.next_set(ENDED, low, act.root, steps);
@@ -194,7 +240,7 @@ fn close(act: Act, first: bool, ends: usize, rows: &mut Rows, steps: &mut Steps)
 {
     let nodes = act.prepared.nodes();
     if act.way.mirrored {
-        rows.copy_row(ends, ENDED, nodes, steps);
+        rows.intersect(ends, ENDED, ENDED, nodes, steps);
     } else {
         rows.clear(ends, nodes, steps);
     }
@@ -203,25 +249,47 @@ fn close(act: Act, first: bool, ends: usize, rows: &mut Rows, steps: &mut Steps)
     rows.set(ends, act.root, end, steps);
 }
 
-/// From the root down: the row of this place, as that of the state. `first` says whether the root begins here.
-pub fn descend(act: Act, first: bool, state: usize, rows: &mut Rows, steps: &mut Steps)
+/// Begins a row of leaves, of so many marks: by those of another row, if there is one.
+fn lay(nodes: usize, start: Option<usize>, leaves: usize, rows: &mut Rows, steps: &mut Steps)
+    requires leaves { leaves < length rows.old }
+    requires wide { (q : ℕ) → q < length rows.old → nodes ≤ length (row_of rows.old q) }
+    requires start { IfSome start (λ q. (q < length rows.old) × (q ≢ leaves)) }
+    ensures keeps { KeepsRows (λ q. q ≢ leaves) rows.old rows.new }
+    ensures laid { IsLaid nodes start rows.old (row_of rows.new leaves) }
+    ensures cost { TakesExactly steps.old steps.new nodes }
+{
+    match start {
+        Some(row) => rows.intersect(leaves, row, row, nodes, steps),
+        None => rows.clear(leaves, nodes, steps),
+    }
+}
+
+/// From the root down: the row of this place, as that of the state. `first` says whether the root begins here; `start` is the row of
+/// the leaves that its beginning enters, where that is known.
+pub fn descend(
+    act: Act,
+    first: bool,
+    start: Option<usize>,
+    state: usize,
+    rows: &mut Rows,
+    steps: &mut Steps,
+)
     requires root { act.root < length act.prepared.now.nodes }
     requires wide { AreWide (length act.prepared.now.nodes) state rows.old }
     requires inside { (c : ℕ) → c < length act.prepared.now.nodes → IsTrue (has_mark (row_of rows.old 1) c) → InTree (nodes_of act.way act.prepared.now) act.root c }
+    requires start { IfSome start (λ q. (q < length rows.old) × IsApart 2 state q × IsTrue first × IsStartRow (nodes_of act.way act.prepared.now) act.root (null_in act.prepared.now.nodes act.kind) (row_of rows.old q)) }
     requires entered { EntersDownTo (nodes_of act.way act.prepared.now) act.root false (null_in act.prepared.now.nodes act.kind) (row_of rows.old 1) (row_of rows.old 0) (act.root + 1) (act.root + 1) }
     ensures keeps { KeepsRows (IsApart 1 state) rows.old rows.new }
-    ensures row { let nodes = nodes_of act.entry.way act.entry.prepared.now in
-        let m = length act.entry.prepared.now.nodes in
-        (w : List ℕ) (s : Starts) (place : ℕ) → AreNull nodes w place (null_in act.entry.prepared.now.nodes act.entry.kind) →
-        Marked (row_of rows.old 1) (InTree nodes act.entry.root) (λ c. CanEnd nodes w act.entry.root s c place) → (IsTrue first ↔ IsStart s place) →
-        RowOfPlace nodes w act.entry.root s act.entry.way.mirrored place (bits m (row_of rows.new (leaves_row state))) (bits m (row_of rows.new (ends_row state))) }
+    ensures row { MakesRow act.entry first rows.new state }
     ensures cost { Takes steps.old steps.new (7 * length act.entry.prepared.now.nodes + 5) }
     ensures counts { TakesAtLeast steps.old steps.new (2 * length act.entry.prepared.now.nodes) }
 {
     let (leaves, ends) = (leaves_row(state), ends_row(state));
     close(act, first, ends, rows, steps);
-    rows.clear(leaves, act.prepared.nodes(), steps);
-    rows.set(ENTERED, act.root, first, steps);
+    let nodes = act.prepared.nodes();
+    lay(nodes, start, leaves, rows, steps);
+    let begun = first & start.is_none();
+    rows.set(ENTERED, act.root, begun, steps);
     let low = act.prepared.low(act.root);
     let mut x = rows.last_set(ENTERED, low, act.root + 1, steps);
     while x > low {

@@ -3,15 +3,19 @@
 //! A state is the row of a place and the root of its pass, so one table serves all regions of an expression. A cell is
 //! filled when it is first asked for, by one act. A full table is emptied, and the pass goes on: so an unlucky text costs
 //! an act and a state for each byte, never more.
-ghost use Rattle.std.specs.Prelude.{◌≡◌, ℕ, ◌+◌, ◌*◌, ◌/◌, ◌^◌, ◌<◌, ◌≤◌, length, IfOk, IfSome, vec_len};
+ghost use Rattle.std.specs.Prelude.{◌≡◌, ℕ, ◌+◌, ◌-◌, ◌*◌, ◌/◌, ◌^◌, ◌<◌, ◌≤◌, length, IfOk, IfSome, IsTrue, None, eqb, false, ◌≢◌, vec_len};
+ghost use Rattle.std.specs.Int.{bit_at};
 ghost use Rattle.sedre.specs.Steps.{Takes, TakesAtLeast};
-ghost use Rattle.sedtext.specs.Words.{row_of};
-ghost use Rattle.sedpass.specs.Rows.{nodes_of, bits, leaves_row};
-ghost use Rattle.sedpass.specs.Table.{state_of, HasNewRow, IsMade, BeginsIn, NamesState, IsNext, IsOffset, beginning_at, MayBegin, IsRoomy, IsTable, SameRoom, SameShape, AddsStates, Codes};
+ghost use Rattle.sedtext.specs.Words.{KeepsRows, row_of};
+ghost use Rattle.sedpass.specs.Prepared.{null_in};
+ghost use Rattle.sedpass.specs.Rows.{AreTakers, IsStartRow, at_begin, nodes_of, bits, leaves_row, root_of};
+ghost use Rattle.sedpass.specs.Table.{MakesRow, state_of, start_number, start_row, takers_row, HasNewRow, IsMade, BeginsIn, NamesState, IsNext, IsOffset, beginning_at, MayBegin, IsRoomy, IsTable, SameRoom, SameShape, AddsStates, Codes};
 
-use crate::cells::{Layout, MOST_CELLS, StateFlags, code_of, empty_cells};
+use crate::cells::{Layout, MOST_CELLS, StateFlags, code_of, empty_cells, offset_of};
 use crate::nodes::{PlaceKind, Prepared};
-use crate::rows::{Act, Way, ascend, descend, edge_kind, ends_row, leaves_row};
+use crate::rows::{
+    Act, ENDED, ENTERED, Way, ascend, descend, edge_kind, ends_row, forget, leaves_row, mark_takers,
+};
 use sedre::Steps;
 use sedtext::counted::Rows;
 use std::alloc::{AllocError, Global};
@@ -61,6 +65,56 @@ pub struct Table {
     index: Vec<Slot>,
     /// For each root and kind of place where a pass begins.
     pub beginnings: Vec<Beginning>,
+    /// Whether the first row behind those of the states has the leaves that a match enters where it begins, at a place between the edges,
+    /// and the second those at the edge to which passes go.
+    has_start: [bool; 2],
+    /// A bit for each class of bytes that has cells: whether a row after these has the leaves that take them.
+    has_takers: u128,
+    /// The number of a state in which nothing but a match's beginning goes on. A wrong one costs time, never an answer.
+    origin: usize,
+}
+
+/// With fewer nodes what a match's beginning enters is found out anew at each place.
+const MANY_NODES: usize = 16;
+
+/// Which of the two rows serves places of a kind, of which none is where passes begin.
+fn start_number(kind: PlaceKind) -> usize
+    ensures { result ≡ start_number kind }
+{
+    usize::from(kind.begin | kind.end)
+}
+
+/// The row of the leaves that a match enters where it begins, at places of a kind.
+fn start_row(room: usize, kind: PlaceKind) -> usize
+    requires room { room ≤ 65535 }
+    ensures { result ≡ start_row room kind }
+{
+    leaves_row(room) + start_number(kind)
+}
+
+/// Whether a class is among those with these bits.
+fn has_class(classes: u128, class: usize) -> bool
+    requires { class < 128 }
+    ensures { result ≡ eqb (bit_at classes class) 1 }
+{
+    (classes >> class) & 1 == 1
+}
+
+/// The bits of the classes, and of one more.
+fn with_class(classes: u128, class: usize) -> u128
+    requires { class < 128 }
+    ensures others { (k : ℕ) → k < 128 → k ≢ class → bit_at result k ≡ bit_at classes k }
+{
+    classes | (1u128 << class)
+}
+
+/// The row of the leaves that take bytes of a class.
+fn takers_row(room: usize, class: usize) -> usize
+    requires room { room ≤ 65535 }
+    requires class { class < 256 }
+    ensures { result ≡ takers_row room class }
+{
+    leaves_row(room) + 2 + class
 }
 
 /// The epoch after one, which no beginning noted so far has.
@@ -87,6 +141,12 @@ impl Table {
     {
         // A beginning for each kind of place: of each node, with all starts of the whole expression alone.
         let kinds = if way.all_starts { 4 } else { 4 * most };
+        // With all starts a row for each class of bytes that has cells.
+        let classes = if way.all_starts {
+            (most + 1).min(MOST_CELLS / 2)
+        } else {
+            0
+        };
         Ok(Table {
             way,
             room,
@@ -98,12 +158,15 @@ impl Table {
             },
             count: 0,
             epoch: 1,
-            rows: Rows::new(alloc, 2 * room + 2, most)?,
+            rows: Rows::new(alloc, 2 * room + 4 + classes, most)?,
             roots: vec![in alloc; 0; room]?,
             cells: Vec::with_capacity(alloc, room * MOST_CELLS.min(4 * (most + 1)))?,
             // An odd number and one: by a power of two only a digest's last bits would count.
             index: vec![in alloc; Slot { epoch: 0, state: 0 }; 2 * room + 2]?,
             beginnings: vec![in alloc; Beginning { epoch: 0, code: 0 }; kinds]?,
+            has_start: [false; 2],
+            has_takers: 0,
+            origin: 0,
         })
     }
 
@@ -115,6 +178,8 @@ impl Table {
     {
         let _nodes = prepared.nodes();
         self.layout = Layout::new(prepared);
+        self.has_start = [false; 2];
+        self.has_takers = 0;
         self.count = 0;
         self.epoch = next_epoch(self.epoch);
     }
@@ -156,7 +221,7 @@ impl Table {
         requires table { IsTable prepared.now self.old }
         ensures table { IsTable prepared.now self.new }
         ensures room { self.new.count < self.new.room }
-        ensures same_room { self.new.room ≡ self.old.room }
+        ensures shape { SameShape self.old self.new }
         ensures rows { self.new.rows ≡ self.old.rows }
         ensures adds { (then : Table) → AddsStates (length prepared.now.nodes) self.new then → AddsStates (length prepared.now.nodes) self.old then }
     {
@@ -226,28 +291,174 @@ impl Table {
         code_of(flags, state << self.layout.shift)
     }
 
-    /// Makes a state, in an emptied table if there is no room for one more: the one to which an act leads from the state `from`, whose
-    /// row is there, and a byte, or, without a byte, one in which a pass begins. `first` says whether a match may start there.
-    fn make(
+    /// The row of the leaves that a match enters where it begins, if it is there and about an act's place.
+    fn start_for(&self, act: Act) -> Option<usize>
+        requires table { IsTable act.prepared.now self.now }
+        requires way { act.way ≡ self.now.way }
+        requires past { at_begin act.way.mirrored act.kind ≡ false }
+        ensures { IfSome result (λ q. (q ≡ start_row self.now.room act.entry.kind) × IsTrue act.entry.way.all_starts ×
+            IsStartRow (nodes_of act.entry.way act.entry.prepared.now) act.entry.root (null_in act.entry.prepared.now.nodes act.entry.kind) (row_of self.now.rows q)) }
+    {
+        let known = self.has_start[start_number(act.kind)];
+        if known & act.way.all_starts & (act.root == act.prepared.root()) {
+            Some(start_row(self.room, act.kind))
+        } else {
+            None
+        }
+    }
+
+    /// Keeps the leaves of the row that is being made as those that a match enters where it begins, if nothing ended there. Gives whether
+    /// so it is, between the edges.
+    fn note_start(&mut self, act: Act, steps: &mut Steps) -> bool
+        requires table { IsTable act.prepared.now self.old }
+        requires room { self.old.count < self.old.room }
+        requires way { act.way ≡ self.old.way }
+        requires root { act.root < length act.prepared.now.nodes }
+        requires past { at_begin act.way.mirrored act.kind ≡ false }
+        requires row { MakesRow act act.way.all_starts self.old.rows self.old.count }
+        ensures table { IsTable act.entry.prepared.now self.new }
+        ensures same { (then : Table) → AddsStates (length act.entry.prepared.now.nodes) self.new then → AddsStates (length act.entry.prepared.now.nodes) self.old then }
+        ensures rows { KeepsRows (λ q. q < leaves_row self.old.room) self.old.rows self.new.rows }
+        ensures count { self.new.count ≡ self.old.count }
+        ensures shape { SameShape self.old self.new }
+        ensures cost { Takes steps.old steps.new (2 * length act.entry.prepared.now.nodes) }
+        ensures few { length act.entry.prepared.now.nodes < 16 → steps.new ≡ steps.old }
+    {
+        let nodes = act.prepared.nodes();
+        if !act.way.all_starts || nodes < MANY_NODES || act.root != act.prepared.root() {
+            return false;
+        }
+        if !self.rows.is_clear(ENDED, nodes, steps) {
+            return false;
+        }
+        let number = start_number(act.kind);
+        if self.has_start[number] {
+            return number == 0;
+        }
+        let (row, leaves) = (start_row(self.room, act.kind), leaves_row(self.count));
+        self.rows.intersect(row, leaves, leaves, nodes, steps);
+        self.has_start[number] = true;
+        number == 0
+    }
+
+    /// The row of the leaves that take a byte, which is made unless it is there; none with few nodes, where the byte's class has no row,
+    /// and where the root of the act isn't the expression's.
+    fn find_takers(&mut self, act: Act, byte: u8, steps: &mut Steps) -> Option<usize>
+        requires table { IsTable act.prepared.now self.old }
+        requires way { act.way ≡ self.old.way }
+        ensures table { IsTable act.entry.prepared.now self.new }
+        ensures others { KeepsRows (λ q. q < leaves_row self.old.room) self.old.rows self.new.rows }
+        ensures same { (then : Table) → AddsStates (length act.entry.prepared.now.nodes) self.new then → AddsStates (length act.entry.prepared.now.nodes) self.old then }
+        ensures count { self.new.count ≡ self.old.count }
+        ensures shape { SameShape self.old self.new }
+        ensures takers { IfSome result (λ q. (leaves_row self.new.room < q) × (q < length self.new.rows) × (act.entry.root ≡ root_of act.entry.prepared.now) ×
+            AreTakers (nodes_of act.entry.way act.entry.prepared.now) byte (row_of self.new.rows q) × (16 ≤ length act.entry.prepared.now.nodes)) }
+        ensures cost { Takes steps.old steps.new (2 * length act.entry.prepared.now.nodes) }
+        ensures none { result ≡ None → steps.new ≡ steps.old }
+    {
+        let class = self.layout.classes[byte as usize] as usize;
+        let row = takers_row(self.room, class);
+        let few = act.prepared.nodes() < MANY_NODES || class >= MOST_CELLS / 2;
+        if few || row >= self.rows.len() || act.root != act.prepared.root() {
+            return None;
+        }
+        if !has_class(self.has_takers, class) {
+            mark_takers(act, byte, row, &mut self.rows, steps);
+            self.has_takers = with_class(self.has_takers, class);
+        }
+        Some(row)
+    }
+
+    /// The code of the state to which an act leads from the state `from`, if it is known of the origin and the same leaves take the byte
+    /// there. `takers` is the row of those that take it, if there is one.
+    fn shared(
         &mut self,
         act: Act,
-        byte: Option<u8>,
-        first: bool,
+        byte: u8,
+        takers: Option<usize>,
         from: usize,
         steps: &mut Steps,
-    ) -> u32
+    ) -> Option<u32>
+        requires table { IsTable act.prepared.now self.old }
+        requires way { act.way ≡ self.old.way }
+        requires past { at_begin act.way.mirrored act.kind ≡ false }
+        requires room { self.old.count < self.old.room }
+        requires from { from < self.old.room }
+        requires takers { IfSome takers (λ q. (leaves_row self.old.room < q) × (q < length self.old.rows) × AreTakers (nodes_of act.way act.prepared.now) byte (row_of self.old.rows q)) }
+        ensures table { IsTable act.entry.prepared.now self.new }
+        ensures same { (then : Table) → AddsStates (length act.entry.prepared.now.nodes) self.new then → AddsStates (length act.entry.prepared.now.nodes) self.old then }
+        ensures rows { KeepsRows (λ q. 2 ≤ q) self.old.rows self.new.rows }
+        ensures count { self.new.count ≡ self.old.count }
+        ensures shape { SameShape self.old self.new }
+        ensures names { IfSome result (λ v. NamesState (length act.entry.prepared.now.nodes) self.new
+            (IsMade act.entry byte (bits (length act.entry.prepared.now.nodes) (row_of self.old.rows (leaves_row from)))) v) }
+        ensures cost { Takes steps.old steps.new (3 * length act.entry.prepared.now.nodes) }
+        ensures none { takers ≡ None → steps.new ≡ steps.old }
+        ensures counts { IfSome result (λ v. TakesAtLeast steps.old steps.new (2 * length act.entry.prepared.now.nodes)) }
+    {
+        let takers = takers?;
+        let origin = self.origin;
+        if origin >= self.count || self.roots[origin] != act.root {
+            return None;
+        }
+        let edge = act.kind.begin | act.kind.end;
+        let code = self.known(act.prepared, origin << self.layout.shift, byte, edge);
+        if code == 0 {
+            return None;
+        }
+        let nodes = act.prepared.nodes();
+        self.rows
+            .intersect(ENDED, leaves_row(from), takers, nodes, steps);
+        self.rows
+            .intersect(ENTERED, leaves_row(origin), takers, nodes, steps);
+        if self.rows.same(ENDED, ENTERED, nodes, steps) {
+            Some(code)
+        } else {
+            None
+        }
+    }
+
+    /// Makes the state to which an act leads from the state `from`, whose row is there, and a byte; in an emptied table if there is no
+    /// room for one more.
+    fn make(&mut self, act: Act, byte: u8, from: usize, steps: &mut Steps) -> u32
         requires table { IsTable act.prepared.now self.old }
         requires root { act.root < length act.prepared.now.nodes }
+        requires way { act.way ≡ self.old.way }
+        requires past { at_begin act.way.mirrored act.kind ≡ false }
         requires from { from < self.old.room }
         ensures codes { Codes act.entry.prepared.now self.old self.new
-            (IsMade act.entry byte first (bits (length act.entry.prepared.now.nodes) (row_of self.old.rows (leaves_row from)))) result }
-        ensures cost { Takes steps.old steps.new (26 * length act.entry.prepared.now.nodes + 6) }
+            (IsMade act.entry byte (bits (length act.entry.prepared.now.nodes) (row_of self.old.rows (leaves_row from)))) result }
+        ensures cost { Takes steps.old steps.new (32 * length act.entry.prepared.now.nodes) }
         ensures counts { TakesAtLeast steps.old steps.new (2 * length act.entry.prepared.now.nodes) }
     {
         self.make_room(act.prepared);
+        let takers = self.find_takers(act, byte, steps);
+        if let Some(code) = self.shared(act, byte, takers, from, steps) {
+            return code;
+        }
         let to = self.count;
-        ascend(act, byte, from, &mut self.rows, steps);
-        descend(act, first, to, &mut self.rows, steps);
+        let start = self.start_for(act);
+        ascend(act, byte, takers, from, &mut self.rows, steps);
+        descend(act, act.way.all_starts, start, to, &mut self.rows, steps);
+        let alone = self.note_start(act, steps);
+        let code = self.intern(act.prepared, act.root, steps);
+        if alone {
+            self.origin = self.state_at(offset_of(code));
+        }
+        code
+    }
+
+    /// Makes the state in which a pass begins, for the root and at a place of the kind of an act.
+    fn make_first(&mut self, act: Act, steps: &mut Steps) -> u32
+        requires table { IsTable act.prepared.now self.old }
+        requires root { act.root < length act.prepared.now.nodes }
+        ensures codes { Codes act.entry.prepared.now self.old self.new (BeginsIn (nodes_of act.entry.way act.entry.prepared.now) act.entry.way act.entry.root act.entry.kind) result }
+        ensures cost { Takes steps.old steps.new (18 * length act.entry.prepared.now.nodes + 10) }
+    {
+        self.make_room(act.prepared);
+        let to = self.count;
+        forget(act, &mut self.rows, steps);
+        descend(act, true, None, to, &mut self.rows, steps);
         self.intern(act.prepared, act.root, steps)
     }
 
@@ -274,8 +485,8 @@ impl Table {
             root: self.roots[state],
             kind: edge_kind(self.way.mirrored, edge),
         };
-        let (first, epoch) = (self.way.all_starts, self.epoch);
-        let next = self.make(act, Some(byte), first, state, steps);
+        let epoch = self.epoch;
+        let next = self.make(act, byte, state, steps);
         if self.epoch == epoch
             && let Some(column) = self.layout.column(byte, edge)
         {
@@ -291,7 +502,11 @@ impl Table {
         ensures { 0 < result → NamesState (length prepared.now.nodes) self.now (IsNext prepared.now self.now offset byte edge) result }
     {
         match self.layout.column(byte, edge) {
-            Some(column) => self.cells[offset + column],
+            Some(column) => {
+                // A cell is waited for by its offset alone: the column is known before.
+                let cells = &self.cells[column..];
+                cells[offset]
+            }
             None => 0,
         }
     }
@@ -343,7 +558,7 @@ impl Table {
             root,
             kind,
         };
-        let code = self.make(act, None, true, 0, steps);
+        let code = self.make_first(act, steps);
         let epoch = self.epoch;
         if epoch < LAST_EPOCHS {
             let at = self.beginning_at(root, kind);

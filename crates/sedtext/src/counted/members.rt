@@ -1,24 +1,12 @@
-//! Whether a byte is in a set, and the first one that is; and how far a run of bytes of a set goes in a text, forwards and
-//! backwards, by calls that count.
+//! The first byte that is in a set, and how far a run of bytes of a set goes in a text, forwards and backwards, by calls that count.
 ghost use Rattle.std.specs.Prelude.{◌≡◌, ◌+◌, ◌-◌, ◌≤◌, length, min};
 ghost use Rattle.memchr.specs.Find.{IsFirstByte};
 ghost use Rattle.sedre.specs.Sets.{has};
 ghost use Rattle.sedtext.specs.Runs.{IsRun, RunBegins};
-ghost use Rattle.sedtext.specs.Matching.{byte_is_in};
 ghost use Rattle.sedre.specs.Steps.{TakesExactly};
 
 use super::{Text, uncounted};
 use sedre::{ByteSet, Steps};
-
-/// Whether a byte is there and in the set.
-pub fn takes_byte(set: &ByteSet, byte: Option<u8>) -> bool
-    ensures { result ≡ byte_is_in byte set.now }
-{
-    match byte {
-        None => false,
-        Some(b) => set.has(b),
-    }
-}
 
 /// The first place whose byte is in the set, if there is one.
 // As a part of a large function it would be slower by the byte.

@@ -1,5 +1,5 @@
 //! Marks, and rows of them: one for each of several states.
-ghost use Rattle.std.specs.Prelude.{◌≡◌, ◌≢◌, ℕ, Bool, List, ◌+◌, ◌-◌, ◌*◌, ◌^◌, ◌<◌, ◌≤◌, length, min, slice_index_or, slice_set, replicate, IfOk, IsTrue, ◌↔◌, false, eqb};
+ghost use Rattle.std.specs.Prelude.{◌≡◌, ◌≢◌, ℕ, Bool, List, ◌+◌, ◌-◌, ◌*◌, ◌^◌, ◌<◌, ◌≤◌, length, min, slice_index_or, slice_set, replicate, IfOk, IsTrue, ◌↔◌, ◌&&◌, false, eqb};
 ghost use Rattle.sedtext.specs.Places.{Ascending};
 ghost use Rattle.std.specs.Int.{bit_at};
 ghost use Rattle.sedtext.specs.Words.{AgreeBelow, KeepsRows, rows_of, row_of};
@@ -64,6 +64,9 @@ impl Marks {
         self.row.set(0, i, mark, steps);
     }
 }
+
+/// What the factors of a digest are made of: a number whose bits follow no rule.
+const FACTOR: u64 = 0x9E37_79B9_7F4A_7C15;
 
 /// Rows of marks, all of them in one piece of memory. A word contains 64 marks of a row.
 #[derive(Drop)]
@@ -194,23 +197,32 @@ impl Rows {
         true
     }
 
-    /// Copies the first `count` marks of a row into another, a word at a time; those after them in the row may change too.
-    /// Counts a look for each of the `count`.
-    pub fn copy_row(&mut self, row: usize, other_row: usize, count: usize, steps: &mut Steps)
+    /// Marks in a row those of the first `count` that are set in both of two others, a word at a time; those after them in the row may
+    /// change too. With itself a row is copied so. Counts a look for each of the `count`.
+    pub fn intersect(
+        &mut self,
+        row: usize,
+        one: usize,
+        other: usize,
+        count: usize,
+        steps: &mut Steps,
+    )
         requires row { row < length self.old }
-        requires other_row { other_row < length self.old }
+        requires one { one < length self.old }
+        requires other { other < length self.old }
         requires inside { count ≤ length (row_of self.old row) }
-        requires there { count ≤ length (row_of self.old other_row) }
-        requires apart { row ≢ other_row }
+        requires in_one { count ≤ length (row_of self.old one) }
+        requires in_other { count ≤ length (row_of self.old other) }
+        requires apart { (row ≢ one) × (row ≢ other) }
         ensures keeps { KeepsRows (λ q. q ≢ row) self.old self.new }
-        ensures same { AgreeBelow count (row_of self.new row) (row_of self.old other_row) }
+        ensures both { (c : ℕ) → c < count → slice_index_or (row_of self.new row) c false ≡ (slice_index_or (row_of self.old one) c false && slice_index_or (row_of self.old other) c false) }
         ensures cost { TakesExactly steps.old steps.new count }
     {
         steps.add(count);
-        let (to, from) = (self.width * row, self.width * other_row);
+        let (to, first, second) = (self.width * row, self.width * one, self.width * other);
         let words = &mut self.words;
         for x in 0..count.div_ceil(64) {
-            let word = words[from + x];
+            let word = words[first + x] & words[second + x];
             words[to + x] = word;
         }
     }
@@ -288,11 +300,12 @@ impl Rows {
     {
         steps.add(count);
         let at = self.width * row;
-        let mut digest = 0u64;
+        // Each word by a factor of its own: so no product waits for the one before it.
+        let (mut digest, mut factor) = (0u64, FACTOR);
         for x in 0..count.div_ceil(64) {
-            digest = (digest.rotate_left(5) ^ self.words[at + x]).wrapping_mul(
-                0x9E37_79B9_7F4A_7C15,
-            );
+            let word = self.words[at + x];
+            digest = digest.wrapping_add((word ^ (word >> 32)).wrapping_mul(factor));
+            factor = factor.rotate_left(7).wrapping_add(FACTOR);
         }
         digest ^ (digest >> 32)
     }

@@ -9,8 +9,8 @@ invariant-loop-x l = record {
   keeps : KeepsRows (IsApart 1 l.state) l.fn.rows l.rows;
   ends : HasEnds (length (nodes_of l.act.way l.act.prepared.now)) l.act.root l.act.way.mirrored l.first (null_in l.act.prepared.now.nodes l.act.kind) (row_of l.fn.rows 1) (row_of l.rows l.ends);
   set : l.low < l.x → IsTrue (has_mark (row_of l.rows 0) (l.x - 1));
-  entered : EntersDownTo (nodes_of l.act.way l.act.prepared.now) l.act.root l.first (null_in l.act.prepared.now.nodes l.act.kind) (row_of l.fn.rows 1) (row_of l.rows 0) l.x (l.act.root + 1);
-  leaves : HasLeaves (nodes_of l.act.way l.act.prepared.now) (row_of l.rows 0) (row_of l.rows l.leaves) l.x;
+  entered : EntersDownTo (nodes_of l.act.way l.act.prepared.now) l.act.root l.begun (null_in l.act.prepared.now.nodes l.act.kind) (row_of l.fn.rows 1) (row_of l.rows 0) l.x (l.act.root + 1);
+  leaves : HasLeaves (nodes_of l.act.way l.act.prepared.now) (row_of l.initial.rows l.leaves) (row_of l.rows 0) (row_of l.rows l.leaves) l.x;
   cost : CostsWithin l.fn.steps l.steps (2 * length l.act.prepared.now.nodes + 4 + 1 + 5 * (l.act.root + 1)) (5 * l.x);
   counts : TakesAtLeast l.fn.steps l.steps (2 * length l.act.prepared.now.nodes);
 }

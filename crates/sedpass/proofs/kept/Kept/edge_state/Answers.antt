@@ -19,7 +19,7 @@ keeps : (c : After-copy-2) → KeepsRows (IsApart 2 c.args.table.now.count) c.ar
 keeps c = keeps_then (λ q. q ≢ c.leaves_row-leaves.result) (λ q. q ≢ c.ends_row-ends.result) (IsApart 2 c.args.table.now.count) _ _ _ (search rules) c.copy.ensures.keeps c.copy-2.ensures.keeps
 
 pub intern-code-requires-clause-table : goal.intern-code-requires-clause-table
-intern-code-requires-clause-table c = table_rows c.args.subject.prepared.now c.args.table.now c.copy-2.new.self (keeps (goal.at.intern-code-requires-clause-table c).After-copy-2) c.requires.region.table
+intern-code-requires-clause-table c = table_rows c.args.subject.prepared.now c.args.table.now c.copy-2.new.self (keeps (goal.at.intern-code-requires-clause-table c).After-copy-2) c.requires.region.table (c.requires.room (omega (arith, c.requires.place, c.if-place-self.false)))
 
 pub returns-clause-adds : goal.returns-clause-adds
 returns-clause-adds c = adds_rows c.args.subject.prepared.now c.args.table.now c.copy-2.new.self (keeps (goal.at.returns-clause-adds c).After-copy-2) c.intern-code.new.self c.intern-code.ensures.codes.adds

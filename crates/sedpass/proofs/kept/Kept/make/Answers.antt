@@ -1,4 +1,4 @@
-use Rattle.sedpass.proofs.Words.{ap, arith, length, mul-le-mul_left, refl, rules, ◌*◌, ◌+◌, ◌-◌, ◌/◌, ◌∙◌, ◌≡◌, ◌≢◌, ◌≤◌, mul-sub, Takes, TakesAtLeast, div-mul-le_self, row_of, EdgesFrom, PassesDownTo, SameKept, bits, ends_row, leaves_row}
+use Rattle.sedpass.proofs.Words.{◌<◌, ap, arith, length, mul-le-mul_left, refl, rules, ◌*◌, ◌+◌, ◌-◌, ◌/◌, ◌∙◌, ◌≡◌, ◌≢◌, ◌≤◌, mul-sub, Takes, TakesAtLeast, div-mul-le_self, row_of, EdgesFrom, PassesDownTo, SameKept, bits, ends_row, leaves_row}
 use Rattle.sedpass.proofs.KeptLemmas.{block_right, edges_more, edges_none, edges_same, kept_passed, region_kept, same_kept}
 use Rattle.sedpass.proofs.RowLemmas.{copied_rows, keeps_then}
 use Rattle.sedpass.proofs.kept.Kept.make.Goals.{After-max-least, then-place-end, else-place-end}
@@ -94,3 +94,20 @@ returns-clause-cost c =
     let m = length c.args.subject.prepared.now.nodes in
     let at : c.loop-place.place ≡ c.args.low = omega arith in
     omega (arith, first.cost, last.cost, ap (λ v. m * v) at, mul-sub m c.args.self.now.region.end c.args.low, mul-le-mul_left m c.requires.low)
+
+pub copy-requires-then-place-end-clause-row : goal.copy-requires-then-place-end-clause-row
+copy-requires-then-place-end-clause-row c =
+    let width = c.loop-place.table.room - 1 in
+    let block = (c.loop-place.place - 1) / width in
+    let region = c.loop-place.invariant.passes.region in
+    let inside : block * width ≤ length c.args.subject.text.now = omega (arith, div-mul-le_self (c.loop-place.place - 1) width, c.loop-place.invariant.order, c.loop-place.invariant.end_is, region.within) in
+    omega (arith, c.copy.ensures.keeps.len, region.room.blocks block inside)
+
+pub copy-requires-then-place-end-clause-there : goal.copy-requires-then-place-end-clause-there
+copy-requires-then-place-end-clause-there c =
+    let passes = c.loop-place.invariant.passes in
+    let room = passes.region.table.room in
+    let q = c.ends_row.result in
+    let low = passes.there.0 in
+    let inside : q < length c.loop-place.table.rows = omega (arith, c.ends_row.ensures, c.state_at-state.ensures, low, room.count, room.rows.rows) in
+    omega (arith, room.rows.long q inside, room.marks, c.nodes-nodes.ensures.value)

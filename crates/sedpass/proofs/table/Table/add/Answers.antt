@@ -17,4 +17,4 @@ returns-clause-table c =
       | inr ne ↦
           let less : q < T.count = omega (arith, ne) in
           inl (less, c.empty_cells.ensures.before (q * size + k) (omega (arith, cell_inside size q k T.count (2 * T.layout.columns) (T.count * size) less low t.layout.fits (omega arith), place)))
-    ]) (λ root kind. inl refl)
+    ]) (λ root kind. inl refl) t.behind
