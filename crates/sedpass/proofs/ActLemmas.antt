@@ -1,5 +1,5 @@
 -- How the marks of a place are found by those that are set: upwards from the leaves that took the byte, and downwards from what begins.
-use Rattle.sedpass.proofs.Words.{AddsMarks, Alt, AreNull, AreTakers, Bool, CanEnd, EndKept, EndsAfter, EndsUpTo, Enters, Enters-root, EntersDownTo, Group, HasSpan, InTree, IsArena, IsNodeRange, IsPart, IsSetAt, IsStart, IsTrue, LeafAt, List, Marked, Node, NodeId, Opt, Option, RowOfPlace, Seq, Set, ShowTook, Some, Star, Starts, StartsAfter, StartsWith, TakenBy, and_from, and_parts, ap, arith, at_root, bits, both-iff, byte_is_in, cases_eq, cases_lt, either-iff, ended_by, entered_by, eq-eqb, eqb, eqb-true, false, get_or-set_other, get_or-set_same, has_mark, inl, inr, is_tree, le-leb, leb-true, length, length-set, lt-ltb, ltb-true, nat_le, nat_lt, ne_eqb, node_at, part_of, refl, rules, same_Some, slice_get, slice_get_within, slice_set, suc, sym, takes_at, true, true≢false, zero, ℕ, ◌&&◌, ◌+◌, ◌<◌, ◌||◌, ◌↔◌, ◌∙◌, ◌≡◌, ◌≤◌, ◌⊎◌}
+use Rattle.sedpass.proofs.Words.{AddsMarks, Alt, AreNull, AreTakers, Bool, CanEnd, EndsAfter, EndsUpTo, Enters, Enters-root, EntersDownTo, Group, HasSpan, InTree, IsArena, IsNodeRange, IsPart, IsSetAt, IsStart, IsTrue, List, Node, NodeId, Opt, Option, Seq, Set, Some, Star, Starts, StartsAfter, StartsWith, TakenBy, and_from, and_parts, ap, arith, at_root, bits, both-iff, byte_is_in, cases_eq, cases_lt, either-iff, ended_by, entered_by, eq-eqb, eqb, eqb-true, false, get_or-set_other, get_or-set_same, has_mark, inl, inr, is_tree, le-leb, leb-true, length, length-set, lt-ltb, ltb-true, nat_le, nat_lt, ne_eqb, node_at, part_of, refl, rules, same_Some, slice_get, slice_get_within, slice_set, suc, sym, true, true≢false, zero, ℕ, ◌&&◌, ◌+◌, ◌<◌, ◌||◌, ◌↔◌, ◌∙◌, ◌≡◌, ◌≤◌, ◌⊎◌, MarkLeaves, TookBy}
 use Rattle.sedpass.proofs.LeaveLemmas.{ends_at}
 use Rattle.sedpass.proofs.RowLemmas.{InTree-inside, copy_part, ended_is, enters_tree, right_part, with_node}
 
@@ -75,7 +75,7 @@ skipped marks y z none c h =
     let parts = and_parts _ _ h in
     elim (cases_lt c y) [ inl low ↦ and_from _ _ (lt-ltb c y low) parts.1 | inr high ↦ absurd (true≢false (sym parts.1 ∙ none c high (ltb-true c z parts.0))) ]
 
-module _ (nodes : List Node) (r : ℕ) (arena : IsArena nodes) (leaves : List Bool) (byte : Option ℕ) (null : ℕ → Bool) where
+module _ (nodes : List Node) (r : ℕ) (arena : IsArena nodes) (took null : ℕ → Bool) where
   -- a mark below one more, but the last
   below_more : (ended after : List Bool) (y p : ℕ) (node : Node) → slice_get nodes p ≡ Some node → IsPart node y → AddsMarks ended after (λ c. (c ≡ p) × EndsAfter null node y) → (c : ℕ) → IsTrue (nat_lt c (y + 1) && has_mark after c) →
       IsTrue (nat_lt c y && has_mark ended c) ⊎ (c ≡ y)
@@ -88,15 +88,15 @@ module _ (nodes : List Node) (r : ℕ) (arena : IsArena nodes) (leaves : List Bo
       ]
 
   -- no mark from y up to z
-  pub up_skip : (ended : List Bool) (y z : ℕ) → ((c : ℕ) → y ≤ c → c < z → has_mark ended c ≡ false) → EndsUpTo nodes r leaves byte null ended y → EndsUpTo nodes r leaves byte null ended z
+  pub up_skip : (ended : List Bool) (y z : ℕ) → ((c : ℕ) → y ≤ c → c < z → has_mark ended c ≡ false) → EndsUpTo nodes r took null ended y → EndsUpTo nodes r took null ended z
   up_skip ended y z none up = record {
     inside = up.inside;
     just = up.just;
-    closed = λ x node there is h. up.closed x node there is (ended_by_more (takes_at leaves byte x) null (λ c. nat_lt c z && has_mark ended c) (λ c. nat_lt c y && has_mark ended c) node (λ c part h. skipped ended y z none c h) h);
+    closed = λ x node there is h. up.closed x node there is (ended_by_more (λ m. took x) null (λ c. nat_lt c z && has_mark ended c) (λ c. nat_lt c y && has_mark ended c) node (λ c part h. skipped ended y z none c h) h);
   }
 
   -- no node below the first one that is marked
-  pub none_first : (ended : List Bool) (low y : ℕ) → y < length nodes → IsNodeRange nodes low r → ((c : ℕ) → low ≤ c → c < y → has_mark ended c ≡ false) → EndsUpTo nodes r leaves byte null ended 0 → (c : ℕ) → 0 ≤ c → c < y → has_mark ended c ≡ false
+  pub none_first : (ended : List Bool) (low y : ℕ) → y < length nodes → IsNodeRange nodes low r → ((c : ℕ) → low ≤ c → c < y → has_mark ended c ≡ false) → EndsUpTo nodes r took null ended 0 → (c : ℕ) → 0 ≤ c → c < y → has_mark ended c ≡ false
   none_first ended low y lt range none up c at under = elim (cases_lt c low) [
     | inl below ↦ unset (has_mark ended c) (λ h. omega (arith, below, ((range c).1 (up.inside c (omega (arith, under, lt)) h)).0))
     | inr above ↦ none c above under
@@ -104,42 +104,21 @@ module _ (nodes : List Node) (r : ℕ) (arena : IsArena nodes) (leaves : List Bo
 
   -- the node y has ended, and its node p with it, or not
   pub up_step : (ended after : List Bool) (y p : ℕ) (node : Node) → slice_get nodes p ≡ Some node → IsPart node y → (y ≡ r → ⊥) → y < length nodes → IsTrue (has_mark ended y) → AddsMarks ended after (λ c. (c ≡ p) × EndsAfter null node y) →
-      EndsUpTo nodes r leaves byte null ended y → EndsUpTo nodes r leaves byte null after (y + 1)
+      EndsUpTo nodes r took null ended y → EndsUpTo nodes r took null after (y + 1)
   up_step ended after y p node is part ne lt here adds up =
       let there = parent_inside nodes r y p node arena (up.inside y lt here) ne is part in
       let more = λ (c : ℕ) (h : IsTrue (has_mark ended c)). (adds c).1 (inl h) in
       record {
         inside = λ x low h. elim ((adds x).0 h) [ inl old ↦ up.inside x low old | inr new ↦ rw (new.0) there ];
         just = λ x other is' h. elim ((adds x).0 h) [
-          | inl old ↦ ended_by_more (takes_at leaves byte x) null (has_mark ended) (has_mark after) other (λ c part h. more c h) (up.just x other is' old)
-          | inr new ↦ let same : other ≡ node = one_node nodes p x node other is is' new.0 in rw same (ends_more (takes_at leaves byte x) null (has_mark after) y node (more y here) new.1)
+          | inl old ↦ ended_by_more (λ m. took x) null (has_mark ended) (has_mark after) other (λ c part h. more c h) (up.just x other is' old)
+          | inr new ↦ let same : other ≡ node = one_node nodes p x node other is is' new.0 in rw same (ends_more (λ m. took x) null (has_mark after) y node (more y here) new.1)
         ];
-        closed = λ x other there' is' h. elim (ended_split (takes_at leaves byte x) null (λ c. nat_lt c (y + 1) && has_mark after c) (λ c. nat_lt c y && has_mark ended c) y other (λ c part' h. below_more ended after y p node is part adds c h) h) [
+        closed = λ x other there' is' h. elim (ended_split (λ m. took x) null (λ c. nat_lt c (y + 1) && has_mark after c) (λ c. nat_lt c y && has_mark ended c) y other (λ c part' h. below_more ended after y p node is part adds c h) h) [
           | inl old ↦ more x (up.closed x other there' is' old)
           | inr end ↦ let same : x ≡ p = arena.once x p y other node is' is (ends_part null y other end) part in let one : other ≡ node = one_node nodes p x node other is is' same in (adds x).1 (inr (same, rw (← one) end))
         ];
       }
-
--- the nodes of the tree
-module _ (nodes : List Node) (w : List ℕ) (r p : ℕ) (s : Starts) (arena : IsArena nodes) (inside : r < length nodes) (leaves : List Bool) (byte : Option ℕ) (null : ℕ → Bool)
-    (nulls : AreNull nodes w p null) (takes : ShowTook nodes w r s p byte (has_mark leaves)) (ended : List Bool) (up : EndsUpTo nodes r leaves byte null ended r) where
-  -- the marks are those of the nodes that end there
-  up_below : (n x : ℕ) → x < n → InTree nodes r x → IsTrue (has_mark ended x) ↔ CanEnd nodes w r s x p
-  up_below zero x lt there = absurd (omega (arith, lt))
-  up_below (suc n) x lt there =
-      let low = InTree-inside nodes arena r x there in
-      let here = node_at nodes x (omega (arith, low, inside)) in
-      let law = ended_is nodes w r s arena (takes_at leaves byte x) null (has_mark ended) x p low here.0 here.1
-      (λ m same. takes x m there (here.1 ∙ ap (λ k. Some k) same))
-      (λ c part. nulls c (omega (arith, low, inside, arena.below x c here.0 here.1 part)))
-      (λ c part. up_below n c (omega (arith, lt, arena.below x c here.0 here.1 part)) (part_of x c here.0 here.1 part there)) in (
-        λ h. law.0 (up.just x here.0 here.1 h),
-        λ h. up.closed x here.0 there here.1 (ended_by_more (takes_at leaves byte x) null (has_mark ended) (λ c. nat_lt c r && has_mark ended c) here.0
-            (λ c part h. and_from _ _ (lt-ltb c r (omega (arith, low, arena.below x c here.0 here.1 part))) h) (law.1 h)),
-      )
-
-  pub up_all : Marked ended (InTree nodes r) (λ c. CanEnd nodes w r s c p)
-  up_all c there = up_below (c + 1) c (omega arith) there
 
 -- what a node says of where its parts begin
 module _ (nodes : List Node) (w : List ℕ) (r x p : ℕ) (s : Starts) (arena : IsArena nodes) (le : x ≤ r) (here : Bool) (enters : IsTrue here ↔ Enters nodes w r s x p) (null ended : ℕ → Bool) where
@@ -157,21 +136,6 @@ module _ (nodes : List Node) (w : List ℕ) (r x p : ℕ) (s : Starts) (arena : 
   entered_is (Opt a first) is nulls ends c part = with_node nodes w r s arena x p le here enters c (Opt a first) is part (λ h. h)
   entered_is (Star a first) is nulls ends c part = let law = copy_part nodes w r s arena x p le here enters a first is (ended a.index) (ends a.index refl) in rw (← part) law
   entered_is other is nulls ends c part = absurd part
-
-module _ (nodes : List Node) (w : List ℕ) (r p : ℕ) (s : Starts) (arena : IsArena nodes) (inside : r < length nodes) (first : Bool) (null : ℕ → Bool) (nulls : AreNull nodes w p null) (begins : IsTrue first ↔ IsStart s p)
-    (ended entered : List Bool) (ends : Marked ended (InTree nodes r) (λ c. CanEnd nodes w r s c p)) (low : ℕ) (all : (c : ℕ) → InTree nodes r c → low ≤ c) (down : EntersDownTo nodes r first null ended entered low (r + 1)) where
-  -- the marks are those of the nodes that begin there
-  pub down_all : (c : ℕ) → InTree nodes r c → IsTrue (has_mark entered c) ↔ Enters nodes w r s c p
-  down_all c (is_tree _ e) = search (rules, down.root, at_root, Enters-root)
-  down_all c (part_of y _ node is part up) =
-      let yr = InTree-inside nodes arena r y up in
-      let law = entered_is nodes w r y p s arena yr (has_mark entered y) (down_all y up) null (has_mark ended) node is
-      (λ n at. nulls n (omega (arith, yr, inside, arena.below y n node is at)))
-      (λ n at. ends n (part_of y n node is at up)) c part in (
-        λ h. law.0 (down.just y c node up is part h),
-        λ h. down.closed y c node up is part (entered_by_more (has_mark entered y) (nat_le low y && has_mark entered y) null (has_mark ended) (λ n. nat_lt n (r + 1) && has_mark ended n) node c
-            (λ h. and_from _ _ (le-leb low y (all y up)) h) (λ n at h. and_from _ _ (lt-ltb n (r + 1) (omega (arith, yr, arena.below y n node is at))) h) (law.1 h)),
-      )
 
 -- Downwards.
 
@@ -363,15 +327,15 @@ module _ (nodes : List Node) (r : ℕ) (arena : IsArena nodes) (first : Bool) (n
 
 -- Of the leaves below z those are marked that were entered and take the byte.
 pub record HasTaken (nodes : List Node) (low r : ℕ) (leaves : List Bool) (byte : Option ℕ) (ended : List Bool) (z : ℕ) : Type 0 where
-  pub just : (c : ℕ) → c < length nodes → IsTrue (has_mark ended c) → (low ≤ c) × (c ≤ r) × ((members : List Bool) × (slice_get nodes c ≡ Some (Set members)) × IsTrue (takes_at leaves byte c members))
-  pub done : (c : ℕ) (members : List Bool) → low ≤ c → c < z → slice_get nodes c ≡ Some (Set members) → IsTrue (takes_at leaves byte c members) → IsTrue (has_mark ended c)
+  pub just : (c : ℕ) → c < length nodes → IsTrue (has_mark ended c) → (low ≤ c) × (c ≤ r) × IsTrue (has_mark leaves c) × ((node : Node) × (slice_get nodes c ≡ Some node) × TakenBy byte node)
+  pub done : (c : ℕ) (node : Node) → low ≤ c → c < z → slice_get nodes c ≡ Some node → IsTrue (has_mark leaves c) → TakenBy byte node → IsTrue (has_mark ended c)
 
 module _ (nodes : List Node) (low r : ℕ) (leaves : List Bool) (byte : Option ℕ) where
   -- no leaf from y up to z was entered
   pub taken_skip : (ended : List Bool) (y z : ℕ) → ((c : ℕ) → y ≤ c → c < z → has_mark leaves c ≡ false) → HasTaken nodes low r leaves byte ended y → HasTaken nodes low r leaves byte ended z
   taken_skip ended y z none has = record {
     just = has.just;
-    done = λ c members at under is h. elim (cases_lt c y) [ inl below ↦ has.done c members at below is h | inr above ↦ absurd (true≢false (sym (and_parts (has_mark leaves c) (byte_is_in byte members) h).0 ∙ none c above under)) ];
+    done = λ c node at under is here taken. elim (cases_lt c y) [ inl below ↦ has.done c node at below is here taken | inr above ↦ absurd (true≢false (sym here ∙ none c above under)) ];
   }
 
   -- the node x was entered, and marked if it is a leaf that takes the byte
@@ -379,37 +343,24 @@ module _ (nodes : List Node) (low r : ℕ) (leaves : List Bool) (byte : Option �
       HasTaken nodes low r leaves byte ended x → HasTaken nodes low r leaves byte after (x + 1)
   taken_step ended after x node took is here law above below is_after long has = record {
     just = λ c lt h. elim (cases_eq c x) [
-      | inl e ↦ let set = law.0 (sym (set_here ended after x took is_after long) ∙ rw (← e) h) in rw e (above, below, (set.0, is ∙ ap (λ n. Some n) set.1, and_from (has_mark leaves x) (byte_is_in byte set.0) here set.2))
+      | inl e ↦ rw e (above, below, here, (node, is, law.0 (sym (set_here ended after x took is_after long) ∙ rw (← e) h)))
       | inr ne ↦ has.just c lt (rw (← set_other ended after x took is_after c ne) h)
     ];
-    done = λ c other at under is' h. elim (cases_eq c x) [
-      | inl e ↦ rw e (set_here ended after x took is_after long ∙ law.1 (other, sym (one_node nodes x c node (Set other) is is' e), (and_parts (has_mark leaves c) (byte_is_in byte other) h).1))
-      | inr ne ↦ rw (set_other ended after x took is_after c ne) (has.done c other at (omega (arith, under, ne)) is' h)
+    done = λ c other at under is' mark taken. elim (cases_eq c x) [
+      | inl e ↦ let one : other ≡ node = one_node nodes x c node other is is' e in rw e (set_here ended after x took is_after long ∙ law.1 (rw (← one) taken))
+      | inr ne ↦ rw (set_other ended after x took is_after c ne) (has.done c other at (omega (arith, under, ne)) is' mark taken)
     ];
   }
 
-took_set : (leaves : List Bool) (byte : Option ℕ) (null f : ℕ → Bool) (c : ℕ) (node : Node) (members : List Bool) → node ≡ Set members → IsTrue (takes_at leaves byte c members) → IsTrue (ended_by (takes_at leaves byte c) null f node)
-took_set leaves byte null f c node members e took = rw e took
-
-set_took : (leaves : List Bool) (byte : Option ℕ) (null f : ℕ → Bool) (c : ℕ) (node : Node) → ((n : ℕ) → f n ≡ false) → IsTrue (ended_by (takes_at leaves byte c) null f node) → (members : List Bool) × (node ≡ Set members) × IsTrue (takes_at leaves byte c members)
-set_took leaves byte null f c (Set members) none h = (members, refl, h)
-set_took leaves byte null f c (Seq a b) none h = absurd (search (rules, none, true≢false))
-set_took leaves byte null f c (Alt a b) none h = absurd (search (rules, none, true≢false))
-set_took leaves byte null f c (Group k a) none h = absurd (true≢false (sym h ∙ none a.index))
-set_took leaves byte null f c (Star a first) none h = absurd (true≢false (sym h ∙ none a.index))
-set_took leaves byte null f c (Opt a first) none h = absurd (true≢false (sym h ∙ none a.index))
-set_took leaves byte null f c other none h = absurd (true≢false (sym h))
-
--- the leaves are marked, and nothing above them is yet
-pub taken_all : (nodes : List Node) (low r : ℕ) (leaves : List Bool) (byte : Option ℕ) (ended : List Bool) (null : ℕ → Bool) → IsNodeRange nodes low r → HasTaken nodes low r leaves byte ended (r + 1) → EndsUpTo nodes r leaves byte null ended 0
-taken_all nodes low r leaves byte ended null range has = record {
-  inside = λ c lt h. let at = has.just c lt h in (range c).0 (at.0, at.1);
-  just = λ c node is h. let at = has.just c (slice_get_within nodes c node is) h in
-      let set = at.2 in took_set leaves byte null (has_mark ended) c node set.0 (one_node nodes c c (Set set.0) node set.1 is refl) set.2;
-  closed = λ c node there is h.
-      let set = set_took leaves byte null (λ n. nat_lt n 0 && has_mark ended n) c node (none_below (has_mark ended)) h in
-      let at = (range c).1 there in has.done c set.0 at.0 (omega (arith, at.1)) (is ∙ ap (λ n. Some n) set.1) set.2;
-}
+  -- all of them are
+  pub taken_all : (ended : List Bool) → IsNodeRange nodes low r → HasTaken nodes low r leaves byte ended (r + 1) → TookBy nodes r (has_mark leaves) byte (has_mark ended) × MarkLeaves nodes r ended
+  taken_all ended range has = (
+    λ c node there is. (
+      λ h. let at = has.just c (slice_get_within nodes c node is) h in let same : at.3.0 ≡ node = one_node nodes c c node at.3.0 is at.3.1 refl in (at.2, rw (← same) at.3.2),
+      λ h. let at = (range c).1 there in has.done c node at.0 (omega (arith, at.1)) is h.0 h.1,
+    ),
+    λ c lt h. let at = has.just c lt h in let set = at.3.2 in ((range c).0 (at.0, at.1), (set.0, at.3.1 ∙ ap (λ n. Some n) set.1)),
+  )
 
 -- those leaves have ended that were entered and take the byte, of the whole expression
 pub taken_both : (nodes : List Node) (low r : ℕ) (leaves takers ended : List Bool) (byte : ℕ) → low ≡ 0 → length nodes ≡ r + 1 → AreTakers nodes byte takers →
@@ -418,11 +369,39 @@ taken_both nodes low r leaves takers ended byte none whole are both = record {
   just = λ c lt h.
       let marks = and_parts (has_mark leaves c) (has_mark takers c) (sym (both c lt) ∙ h) in
       let node = node_at nodes c lt in
-      let set = (are c node.0 node.1).0 marks.1 in
-      (omega (arith, none), omega (arith, lt, whole), (set.0, node.1 ∙ ap (λ n. Some n) set.1, and_from (has_mark leaves c) (byte_is_in (Some byte) set.0) marks.0 set.2));
-  done = λ c members at under is h.
-      let parts = and_parts (has_mark leaves c) (byte_is_in (Some byte) members) h in
-      both c (omega (arith, under, whole)) ∙ and_from (has_mark leaves c) (has_mark takers c) parts.0 ((are c (Set members) is).1 (members, refl, parts.1));
+      (omega (arith, none), omega (arith, lt, whole), marks.0, (node.0, node.1, (are c node.0 node.1).0 marks.1));
+  done = λ c node at under is here taken. both c (omega (arith, under, whole)) ∙ and_from (has_mark leaves c) (has_mark takers c) here ((are c node is).1 taken);
+}
+
+-- only leaves are marked, and nothing above them is yet
+and_false : (b : Bool) → (b && false) ≡ false
+and_false true = refl
+and_false false = refl
+
+no_part_ends : (took null f : ℕ → Bool) (x : ℕ) (node : Node) → ((n : ℕ) → IsPart node n → f n ≡ false) → IsTrue (ended_by (λ m. took x) null f node) → IsTrue (took x)
+no_part_ends took null f x (Set members) none h = h
+no_part_ends took null f x (Seq a b) none h = let left = none a.index (inl refl) in let right = none b.index (inr refl) in absurd (search (rules, true≢false))
+no_part_ends took null f x (Alt a b) none h = let left = none a.index (inl refl) in let right = none b.index (inr refl) in absurd (search (rules, true≢false))
+no_part_ends took null f x (Group k a) none h = absurd (true≢false (sym h ∙ none a.index refl))
+no_part_ends took null f x (Star a first) none h = absurd (true≢false (sym h ∙ none a.index refl))
+no_part_ends took null f x (Opt a first) none h = absurd (true≢false (sym h ∙ none a.index refl))
+no_part_ends took null f x other none h = absurd (true≢false (sym h))
+
+pub leaves_end : (nodes : List Node) (r : ℕ) (null : ℕ → Bool) (ended : List Bool) → MarkLeaves nodes r ended → EndsUpTo nodes r (has_mark ended) null ended 0
+leaves_end nodes r null ended only = record {
+  inside = λ c lt h. (only c lt h).0;
+  just = λ c node is h. let set = (only c (slice_get_within nodes c node is) h).1 in let same : node ≡ Set set.0 = one_node nodes c c (Set set.0) node set.1 is refl in rw same h;
+  closed = λ c node there is h. no_part_ends (has_mark ended) null (λ n. nat_lt n 0 && has_mark ended n) c node (λ n part. none_below (has_mark ended) n) h;
+}
+
+-- where nothing is marked nothing took the byte
+pub none_end : (nodes : List Node) (r y : ℕ) (null : ℕ → Bool) (ended : List Bool) → IsArena nodes → ((c : ℕ) → c < length nodes → has_mark ended c ≡ false) → EndsUpTo nodes r (λ c. false) null ended y
+none_end nodes r y null ended arena none = record {
+  inside = λ c lt h. absurd (true≢false (sym h ∙ none c lt));
+  just = λ c node is h. absurd (true≢false (sym h ∙ none c (slice_get_within nodes c node is)));
+  closed = λ c node there is h.
+      let clear = λ (n : ℕ) (part : IsPart node n). none n (omega (arith, slice_get_within nodes c node is, arena.below c n node is part)) in
+      absurd (true≢false (sym (no_part_ends (λ n. false) null (λ n. nat_lt n y && has_mark ended n) c node (λ n part. rw (clear n part) (and_false (nat_lt n y))) h)));
 }
 
 -- Besides the marks of a base, of the leaves from x on those are marked that were entered.
@@ -461,57 +440,10 @@ module _ (nodes : List Node) (base : List Bool) where
     );
   }
 
--- The marks of the nodes that end: all where they are kept, and the root's own, where it begins as the null string too.
-pub record HasEnds (m r : ℕ) (keeps first : Bool) (null : ℕ → Bool) (ended last : List Bool) : Type 0 where
-  pub others : (c : ℕ) → c < m → (c ≡ r → ⊥) → has_mark last c ≡ (keeps && has_mark ended c)
-  pub own : has_mark last r ≡ (has_mark ended r || (first && null r))
-
--- The row of the place.
-module _ (nodes : List Node) (w : List ℕ) (r p : ℕ) (s : Starts) (arena : IsArena nodes) (inside : r < length nodes) (keeps first : Bool) (null : ℕ → Bool) (nulls : AreNull nodes w p null) (begins : IsTrue first ↔ IsStart s p)
-    (ended : List Bool) (ends : Marked ended (InTree nodes r) (λ c. CanEnd nodes w r s c p)) (ended_in : (c : ℕ) → c < length nodes → IsTrue (has_mark ended c) → InTree nodes r c)
-    (leaves last : List Bool) (leaf : (c : ℕ) → c < length nodes → IsTrue (has_mark leaves c) ↔ LeafAt nodes w r s p c) (kept : HasEnds (length nodes) r keeps first null ended last) where
-  leaf_shown : (c : ℕ) → IsTrue (bits (length nodes) leaves c) ↔ LeafAt nodes w r s p c
-  leaf_shown c = (
-    λ h. let parts : IsTrue (nat_lt c (length nodes)) × IsTrue (has_mark leaves c) = and_parts (nat_lt c (length nodes)) (has_mark leaves c) h in (leaf c (ltb-true c (length nodes) parts.0)).0 parts.1,
-    λ h. let low : c < length nodes = slice_get_within nodes c (Set h.0) h.1 in and_from (nat_lt c (length nodes)) (has_mark leaves c) (lt-ltb c (length nodes) low) ((leaf c low).1 h),
-  )
-
-  root_end : IsTrue (has_mark last r) ↔ EndKept nodes w r s keeps p r
-  root_end =
-      let law = ends_at nodes w r r p s in
-      let starts : IsTrue first ↔ Enters nodes w r s r p = search (rules, at_root, Enters-root) in
-      let truth = either-iff (has_mark ended r) (first && null r) (CanEnd nodes w r s r p) (Enters nodes w r s r p × HasSpan nodes w r p p) (ends r (is_tree r refl))
-      (both-iff first (null r) (Enters nodes w r s r p) (HasSpan nodes w r p p) starts (nulls r inside)) in (
-        λ h. (inr refl, law.1 (elim (truth.0 (sym kept.own ∙ h)) [ inl end ↦ inl end | inr none ↦ inr (refl, none) ])),
-        λ h. kept.own ∙ truth.1 (elim (law.0 h.1) [ inl end ↦ inl end | inr none ↦ inr none.1 ]),
-      )
-
-  other_end : (c : ℕ) → InTree nodes r c → (c ≡ r → ⊥) → IsTrue (has_mark last c) ↔ EndKept nodes w r s keeps p c
-  other_end c there ne =
-      let law = ends_at nodes w r c p s in
-      let is : has_mark last c ≡ (keeps && has_mark ended c) = kept.others c (omega (arith, inside, InTree-inside nodes arena r c there)) ne in
-      let truth = both-iff keeps (has_mark ended c) (IsTrue keeps) (CanEnd nodes w r s c p) (λ h. h, λ h. h) (ends c there) in (
-        λ h. let at = truth.0 (sym is ∙ h) in (inl at.0, law.1 (inl at.1)),
-        λ h. is ∙ truth.1 (elim h.0 [ inl k ↦ k | inr e ↦ absurd (ne e) ], elim (law.0 h.1) [ inl end ↦ end | inr none ↦ absurd (ne none.0) ]),
-      )
-
-  end_of : (c : ℕ) → InTree nodes r c → IsTrue (has_mark last c) ↔ EndKept nodes w r s keeps p c
-  end_of c there = elim (cases_eq c r) [ inl e ↦ rw e root_end | inr ne ↦ other_end c there ne ]
-
-  end_shown : (c : ℕ) → IsTrue (bits (length nodes) last c) ↔ EndKept nodes w r s keeps p c
-  end_shown c = (
-    λ h. let parts : IsTrue (nat_lt c (length nodes)) × IsTrue (has_mark last c) = and_parts (nat_lt c (length nodes)) (has_mark last c) h in
-        elim (cases_eq c r) [
-          | inl e ↦ rw e (root_end.0 (rw (← e) parts.1))
-          | inr ne ↦ let is : has_mark last c ≡ (keeps && has_mark ended c) = kept.others c (ltb-true c (length nodes) parts.0) ne in
-              (end_of c (ended_in c (ltb-true c (length nodes) parts.0) (and_parts keeps (has_mark ended c) (sym is ∙ parts.1)).1)).0 parts.1
-        ],
-    λ h. let there = enters_tree nodes w r s c h.1.0 h.1.1 in let low : c < length nodes = omega (arith, inside, InTree-inside nodes arena r c there) in
-        and_from (nat_lt c (length nodes)) (has_mark last c) (lt-ltb c (length nodes) low) ((end_of c there).1 h),
-  )
-
-  pub row_shown : RowOfPlace nodes w r s keeps p (bits (length nodes) leaves) (bits (length nodes) last)
-  row_shown = record { leaves = leaf_shown; ends = end_shown }
+-- The marks of the nodes that end: besides some all where they are kept, and the root's own, where it begins as the null string too.
+pub record HasEnds (m r : ℕ) (keeps first : Bool) (null before : ℕ → Bool) (ended last : List Bool) : Type 0 where
+  pub others : (c : ℕ) → c < m → (c ≡ r → ⊥) → has_mark last c ≡ (before c || (keeps && has_mark ended c))
+  pub own : has_mark last r ≡ (before r || (has_mark ended r || (first && null r)))
 
 -- of a concatenation that begins the first part begins, and the second one where the first is null
 pub seq_first : (null : ℕ → Bool) (a b : NodeId) (c : ℕ) → c ≡ a.index → IsTrue (entered_by true null (λ n. false) (Seq a b) c)

@@ -1,7 +1,7 @@
 -- Passes for the whole expression.
-use Rattle.sedpass.proofs.Words.{rules, inl, inr, ◌≡◌, ℕ, ◌+◌, ◌-◌, ◌*◌, ◌/◌, ◌^◌, ◌<◌, ◌≤◌, ◌⊎◌, ◌↔◌, Bool, true, false, List, length, Option, Some, None, IsTrue, refl, sym, subst, true≢false, arith, mul-le-mul_left, slice_get, is_some, IfSome, mul-sub, common_steps, then_some, option_or, cases_lt, cases_Bool, both_ways, slice_get_within, IsArena, expression_tree, Tree, Node, Starts, TakesAtLeast, LooksPast, HasSpan, IsStart, SomeSpan, IsLongestFrom, Matches, SomeFound, Matches-forward, Matches-within, IsPlace, StateFlags, PlaceKind, WrittenExpression, Way, Table, Passed, seen-arena, seen-length, least_less, least_since, least_both, cases_eq, nodes_of, at_begin, at_edge, root_of, PassState, state_of, FlagsShow, LeadsOn, BeginsIn, NamesState, IsTable, IsForwardOne, SameShape, code_of, starts_of, LastBelow, IsPassEnd, Arrives, EndsBelow, PassIs, is_over, ap, byte_is_in, ◌∙◌}
-use Rattle.sedpass.proofs.RowLemmas.{dead, row_root, row_empty, row_took}
-use Rattle.sedpass.proofs.TableLemmas.{names_state, names_flags, names_shown, names_map}
+use Rattle.sedpass.proofs.Words.{IsExpr, rules, inl, inr, ◌≡◌, ℕ, ◌+◌, ◌-◌, ◌*◌, ◌/◌, ◌^◌, ◌<◌, ◌≤◌, ◌⊎◌, ◌↔◌, Bool, true, false, List, length, Option, Some, None, IsTrue, refl, sym, subst, true≢false, arith, mul-le-mul_left, slice_get, is_some, IfSome, mul-sub, common_steps, then_some, option_or, cases_lt, cases_Bool, both_ways, slice_get_within, IsArena, expression_tree, Tree, Node, Starts, TakesAtLeast, LooksPast, HasSpan, IsStart, SomeSpan, IsLongestFrom, Matches, SomeFound, Matches-forward, Matches-within, IsPlace, StateFlags, PlaceKind, WrittenExpression, Way, Table, Passed, seen-arena, seen-length, least_less, least_since, least_both, cases_eq, nodes_of, at_begin, at_edge, root_of, PassState, state_of, FlagsShow, LeadsOn, BeginsIn, NamesState, IsTable, IsForwardOne, SameShape, code_of, starts_of, LastBelow, IsPassEnd, Arrives, EndsBelow, PassIs, is_over, ap, byte_is_in, ◌∙◌}
+use Rattle.sedpass.proofs.RowLemmas.{dead, row_root, row_empty}
+use Rattle.sedpass.proofs.TableLemmas.{leads_place, names_state, names_flags, names_shown, names_map}
 
 -- The starts of a pass.
 
@@ -67,31 +67,30 @@ module _ (p : WrittenExpression) (t : Table) (w : List ℕ) (start place code o 
 
 -- Further on.
 
-pub arrives_next : (p : WrittenExpression) (way : Way) (w : List ℕ) (start place byte : ℕ) (edge : Bool) (a b : PassState) → start ≤ place → slice_get w place ≡ Some byte → place < length w → (IsTrue edge ↔ (place + 1 ≡ length w)) →
-    Arrives p way w start place a → LeadsOn (nodes_of way p) way a byte edge b → Arrives p way w start (place + 1) b
-arrives_next p way w start place byte edge a b after is inside edges here leads =
+pub arrives_next : (p : WrittenExpression) (way : Way) (w : List ℕ) (start place byte : ℕ) (edge : Bool) (a b : PassState) → IsExpr p.nodes p.groups → start ≤ place → slice_get w place ≡ Some byte → place < length w → (IsTrue edge ↔ (place + 1 ≡ length w)) →
+    Arrives p way w start place a → LeadsOn p way a byte edge b → Arrives p way w start (place + 1) b
+arrives_next p way w start place byte edge a b expr after is inside edges here leads =
     let starts = starts_of way.all_starts start w in
-    let took = row_took (nodes_of way p) w a.root place starts way.mirrored a.entered a.ended (Some byte) (λ x m at. ap (λ k. byte_is_in k m) is) here.1 in
     let next : IsTrue way.all_starts ↔ IsStart starts (place + 1) = search rules in
-    (leads.0 ∙ here.0, rw leads.0 (leads.1 w starts place took edges next))
+    (leads.0 ∙ here.0, leads_place p way w starts place byte edge a b expr (omega (arith, here.0, expr.arena.nonempty)) is edges next here.1 leads)
 
 -- a pass goes on, in the table as it was or in one that was added to
-pub goes_on : (p : WrittenExpression) (t u : Table) (w : List ℕ) (start byte code : ℕ) (edge : Bool) (mid next : Passed) → u.way ≡ t.way → PassIs p t w start mid → slice_get w mid.place ≡ Some byte → (IsTrue edge ↔ (mid.place + 1 ≡ length w)) →
-    NamesState (length p.nodes) u (LeadsOn (nodes_of t.way p) t.way (state_of (length p.nodes) t (mid.offset / 2 ^ t.layout.shift)) byte edge) code →
+pub goes_on : (p : WrittenExpression) (t u : Table) (w : List ℕ) (start byte code : ℕ) (edge : Bool) (mid next : Passed) → IsExpr p.nodes p.groups → u.way ≡ t.way → PassIs p t w start mid → slice_get w mid.place ≡ Some byte → (IsTrue edge ↔ (mid.place + 1 ≡ length w)) →
+    NamesState (length p.nodes) u (LeadsOn p t.way (state_of (length p.nodes) t (mid.offset / 2 ^ t.layout.shift)) byte edge) code →
     (start ≤ mid.place + 1 → mid.place + 1 ≤ length w → NamesState (length p.nodes) u (Arrives p u.way w start (mid.place + 1)) code → EndsBelow p u.way w start (mid.place + 1) mid.end → PassIs p u w start next) → PassIs p u w start next
-goes_on p t u w start byte code edge mid next way pass is edges names arrive =
+goes_on p t u w start byte code edge mid next expr way pass is edges names arrive =
     let inside = slice_get_within w mid.place byte is in
     arrive (omega (arith, pass.after)) (omega arith)
     (subst (λ (x : Way). NamesState (length p.nodes) u (Arrives p x w start (mid.place + 1)) code) (sym way)
-    (names_map (length p.nodes) u _ (Arrives p t.way w start (mid.place + 1)) code (λ b leads. arrives_next p t.way w start mid.place byte edge _ b pass.after is inside edges pass.arrived leads) names))
+    (names_map (length p.nodes) u _ (Arrives p t.way w start (mid.place + 1)) code (λ b leads. arrives_next p t.way w start mid.place byte edge _ b expr pass.after is inside edges pass.arrived leads) names))
     (subst (λ (x : Way). EndsBelow p x w start (mid.place + 1) mid.end) (sym way) pass.last)
 
 -- by a cell of the table as it is, where the text's edge doesn't come
-pub goes_further : (p : WrittenExpression) (t : Table) (w : List ℕ) (start to byte code : ℕ) (mid next : Passed) → mid.place < to → to < length w → PassIs p t w start mid → slice_get w mid.place ≡ Some byte →
-    NamesState (length p.nodes) t (LeadsOn (nodes_of t.way p) t.way (state_of (length p.nodes) t (mid.offset / 2 ^ t.layout.shift)) byte false) code →
+pub goes_further : (p : WrittenExpression) (t : Table) (w : List ℕ) (start to byte code : ℕ) (mid next : Passed) → IsExpr p.nodes p.groups → mid.place < to → to < length w → PassIs p t w start mid → slice_get w mid.place ≡ Some byte →
+    NamesState (length p.nodes) t (LeadsOn p t.way (state_of (length p.nodes) t (mid.offset / 2 ^ t.layout.shift)) byte false) code →
     (start ≤ mid.place + 1 → mid.place + 1 ≤ length w → NamesState (length p.nodes) t (Arrives p t.way w start (mid.place + 1)) code → EndsBelow p t.way w start (mid.place + 1) mid.end → PassIs p t w start next) → PassIs p t w start next
-goes_further p t w start to byte code mid next low inside pass is names arrive =
-    goes_on p t t w start byte code false mid next refl pass is ((λ h. absurd (true≢false (sym h))), (λ e. absurd (omega (arith, e, low, inside)))) names arrive
+goes_further p t w start to byte code mid next expr low inside pass is names arrive =
+    goes_on p t t w start byte code false mid next expr refl pass is ((λ h. absurd (true≢false (sym h))), (λ e. absurd (omega (arith, e, low, inside)))) names arrive
 
 -- The beginning of a pass.
 

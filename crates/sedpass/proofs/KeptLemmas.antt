@@ -1,7 +1,7 @@
 -- What is kept of a pass backwards, and how it comes down by a place.
-use Rattle.sedpass.proofs.Words.{inl, inr, ◌≡◌, ◌≢◌, ℕ, ◌+◌, ◌-◌, ◌*◌, ◌/◌, ◌^◌, ◌<◌, ◌≤◌, ◌↔◌, Bool, true, false, List, length, Some, sym, ◌∙◌, subst, arith, IsTrue, not, reverse, slice_get, slice_index_or, slice_set, rules, with_item, StateFlags, div-mul-le_self, lt-div-mul-add, beq, length-reverse, get_or_default, get_or-set_same, get_or-set_other, seen, Starts, IsStart, one_start, IsPlace, get-reverse, KeepsRows, row_of, Kept, cases_lt, WrittenExpression, Way, Table, PlaceKind, ReachesEnd, MeetsAt, AreWide, leaves_row, ends_row, bits, nodes_of, starts_shown, ends_shown, ComesDown, RowKept, KeptAt, IsLive, IsRegion, PassesDownTo, IsEdge, SameKept, SameSpace, EdgesFrom, IsKept, KeepsRegion, Follows, code_of, Codes, IsNext, PassState, state_of, LeadsOn, BeginsIn, IsTable, SameShape, AddsStates, IsOffset, length-set, mul-le-mul_right, ap, byte_is_in}
-use Rattle.sedpass.proofs.TableLemmas.{names_offset, names_state}
-use Rattle.sedpass.proofs.RowLemmas.{behind_reaches, meet_rows, bits_here, row_took}
+use Rattle.sedpass.proofs.Words.{IsExpr, true≢false, inl, inr, ◌≡◌, ◌≢◌, ℕ, ◌+◌, ◌-◌, ◌*◌, ◌/◌, ◌^◌, ◌<◌, ◌≤◌, ◌↔◌, Bool, true, false, List, length, Some, sym, ◌∙◌, subst, arith, IsTrue, not, reverse, slice_get, slice_index_or, slice_set, rules, with_item, StateFlags, div-mul-le_self, lt-div-mul-add, beq, length-reverse, get_or_default, get_or-set_same, get_or-set_other, seen, Starts, IsStart, one_start, IsPlace, get-reverse, KeepsRows, row_of, Kept, cases_lt, WrittenExpression, Way, Table, PlaceKind, ReachesEnd, MeetsAt, AreWide, leaves_row, ends_row, bits, nodes_of, starts_shown, ends_shown, ComesDown, RowKept, KeptAt, IsLive, IsRegion, PassesDownTo, IsEdge, SameKept, SameSpace, EdgesFrom, IsKept, KeepsRegion, Follows, code_of, Codes, IsNext, PassState, state_of, LeadsOn, BeginsIn, IsTable, SameShape, AddsStates, IsOffset, length-set, mul-le-mul_right, ap, byte_is_in}
+use Rattle.sedpass.proofs.TableLemmas.{leads_place, names_offset, names_state}
+use Rattle.sedpass.proofs.RowLemmas.{behind_reaches, meet_rows, bits_here}
 use Rattle.sedpass.proofs.MeetingLemmas.{set_early}
 use Rattle.sedpass.proofs.LeaveLemmas.{Opposite}
 
@@ -18,14 +18,14 @@ shown_start false n end d after within = search rules
 -- A state of a table and of what became of it.
 
 -- the state of the next place
-pub kept_down : (p : WrittenExpression) (w : List ℕ) (way : Way) (root end q byte : ℕ) (edge : Bool) (a b : PassState) → IsTrue way.mirrored → q < end → end ≤ length w → slice_get w q ≡ Some byte → (IsTrue edge ↔ (q ≡ 0)) →
-    LeadsOn (seen way.mirrored p).nodes way a byte edge b → KeptAt p w way.all_starts root end (q + 1) a → KeptAt p w way.all_starts root end q b
-kept_down p w way root end q byte edge a b mirrored before within got last leads at =
+pub kept_down : (p : WrittenExpression) (w : List ℕ) (way : Way) (root end q byte : ℕ) (edge : Bool) (a b : PassState) → IsExpr p.nodes p.groups → root < length p.nodes → IsTrue way.mirrored → q < end → end ≤ length w → slice_get w q ≡ Some byte → (IsTrue edge ↔ (q ≡ 0)) →
+    LeadsOn p way a byte edge b → KeptAt p w way.all_starts root end (q + 1) a → KeptAt p w way.all_starts root end q b
+kept_down p w way root end q byte edge a b expr inside mirrored before within got last leads at =
     let d = length w - (q + 1) in
     let next : d + 1 ≡ length w - q = omega arith in
     let read = get-reverse w q d byte (omega arith) got in
-    let on = rw (mirrored, at.0) at leads.1 in
-    (leads.0 ∙ at.0, rw (← next) (on (reverse w) (starts_shown way.all_starts (length w) end) d (row_took _ (reverse w) _ d _ _ _ _ (Some byte) (search (rules, read)) at.1) (search (rules, length-reverse w)) (shown_start way.all_starts (length w) end d (omega arith) (omega arith))))
+    let row = leads_place p way (reverse w) (starts_shown way.all_starts (length w) end) d byte edge a b expr (rw at.0 inside) read (search (rules, length-reverse w)) (shown_start way.all_starts (length w) end d (omega arith) (omega arith)) (rw (mirrored, at.0) at.1) leads in
+    (leads.0 ∙ at.0, rw (mirrored, leads.0, at.0, next) at row)
 
 -- Going back by one byte.
 
@@ -86,7 +86,7 @@ comes_down p w first t after start k high place offset next byte code to edge is
     let new = coded next codes shows in
     let under : place < k.region.end = omega (arith, is, old.within) in
     let at : KeptAt p w after.way.all_starts k.region.root k.region.end place (state_of m after s) =
-    rw adds.shape.0 (kept_down p w t.way k.region.root k.region.end place byte edge (state_of m t (offset / 2 ^ t.layout.shift)) (state_of m after s) old.region.room.mirrored under old.region.inside got last new.1 (rw is at old.at)) in
+    rw adds.shape.0 (kept_down p w t.way k.region.root k.region.end place byte edge (state_of m t (offset / 2 ^ t.layout.shift)) (state_of m after s) old.region.table.expr old.region.root.0 old.region.room.mirrored under old.region.inside got last new.1 (rw is at old.at)) in
     let live : (q : ℕ) → place ≤ q → q < to → IsLive p w after k.region.root k.region.end (slice_set k.states.items place s) q = λ q from before. elim (cases_lt place q) [
       | inl lt ↦
           let on = still q lt before in
@@ -202,15 +202,13 @@ meet_end p w t k a i kept met =
 
 -- How the pass forwards goes on.
 
-pub follows_next : (p : WrittenExpression) (w : List ℕ) (t after : Table) (a i place byte offset next : ℕ) (edge : Bool) → t.way.mirrored ≡ false → t.way.all_starts ≡ false → SameShape t after → i ≤ place → slice_get w place ≡ Some byte →
+pub follows_next : (p : WrittenExpression) (w : List ℕ) (t after : Table) (a i place byte offset next : ℕ) (edge : Bool) → IsExpr p.nodes p.groups → (state_of (length p.nodes) t (offset / 2 ^ t.layout.shift)).root < length p.nodes → t.way.mirrored ≡ false → t.way.all_starts ≡ false → SameShape t after → i ≤ place → slice_get w place ≡ Some byte →
     (IsTrue edge ↔ (place + 1 ≡ length w)) →
-    LeadsOn (nodes_of t.way p) t.way (state_of (length p.nodes) t (offset / 2 ^ t.layout.shift)) byte edge (state_of (length p.nodes) after (next / 2 ^ after.layout.shift)) →
+    LeadsOn p t.way (state_of (length p.nodes) t (offset / 2 ^ t.layout.shift)) byte edge (state_of (length p.nodes) after (next / 2 ^ after.layout.shift)) →
     Follows p w t a i place offset → Follows p w after a i (place + 1) next
-follows_next p w t after a i place byte offset next edge front one shape from got last leads follows =
-    let a = state_of (length p.nodes) t (offset / 2 ^ t.layout.shift) in
-    let took = row_took p.nodes w a.root place (one_start i) false a.entered a.ended (Some byte) (λ x m at. ap (λ k. byte_is_in k m) got) (rw front at follows.1) in
-    let row = (rw (front, one) at leads.1) w (one_start i) place took last (search rules) in
-    (leads.0 ∙ follows.0, rw (leads.0, shape.0, front) row)
+follows_next p w t after a i place byte offset next edge expr inside front one shape from got last leads follows =
+    let row = leads_place p t.way w (one_start i) place byte edge (state_of (length p.nodes) t (offset / 2 ^ t.layout.shift)) (state_of (length p.nodes) after (next / 2 ^ after.layout.shift)) expr inside got last (rw one ((λ h. absurd (true≢false (sym h))), (λ start. absurd (omega (arith, start, from))))) (rw front (rw front at follows.1)) leads in
+    (leads.0 ∙ follows.0, rw (shape.0, front) (rw front at row))
 
 pub follows_first : (p : WrittenExpression) (w : List ℕ) (t after : Table) (a i offset : ℕ) (kind : PlaceKind) → t.way.mirrored ≡ false → after.way ≡ t.way → (IsTrue kind.begin ↔ (i ≡ 0)) → (IsTrue kind.end ↔ (i ≡ length w)) →
     BeginsIn (nodes_of t.way p) t.way a kind (state_of (length p.nodes) after (offset / 2 ^ after.layout.shift)) → Follows p w after a i i offset

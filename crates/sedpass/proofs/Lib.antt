@@ -1,5 +1,5 @@
 pub mod ActLemmas
-pub mod StartLemmas
+pub mod FollowLemmas
 pub mod ClassLemmas
 pub mod DecideLemmas
 pub mod FactLemmas

@@ -1,10 +1,12 @@
 -- Tables of states.
-use Rattle.sedpass.proofs.Words.{◌≡◌, ℕ, ◌+◌, ◌*◌, ◌/◌, ◌%◌, ◌^◌, ◌<◌, ◌≤◌, ◌⊎◌, ◌↔◌, Bool, true, false, List, length, Option, Some, IsTrue, refl, sym, ap, ◌∙◌, subst, inl, inr, arith, min, mul-le-mul_left, slice_index_or, slice_set, replicate, rules, vec_capacity, Vec, Global, get_or_past, length-replicate, same_from_place, shl-shr, shl_whole, with_item, pow-le-pow_right, cases_eq, cases_lt, get_or-replicate, get_or-set_same, get_or-set_other, get_or_default, IsExpr, WrittenExpression, seen, old_node, KeepsRows, row_of, StateFlags, PlaceKind, Way, Beginning, Table, IsApart, nodes_of, at_begin, at_edge, leaves_row, ends_row, SameBytes, PassState, HasRows, state_of, FlagsShow, HasNewRow, IsMade, LeadsOn, BeginsIn, NamesState, IsNext, IsOffset, cell_of, LeadsBy, kind_number, beginning_at, beginning_of, MayBegin, HasRoom, IsRoomy, IsTable, SameRoom, SameShape, AddsStates, Codes, code_of, column_at, IsLayout, IsColumn, Layout, Act, length-set, HasNotes, start_number, start_row, takers_row, AreTakers, ◌≢◌, Set, Node, slice_get, ◌||◌, ◌&&◌, has_mark, byte_is_in, bits, AgreeBelow, slice_get_within}
+use Rattle.sedpass.proofs.Words.{InTree, at_begin, at_edge, seen-arena, Starts, IsStart, IsPlace, RowOfPlace, StateAt, Took, true≢false, byte_is_in, slice_get, middle, root_of, ◌≡◌, ℕ, ◌+◌, ◌*◌, ◌/◌, ◌%◌, ◌^◌, ◌<◌, ◌≤◌, ◌⊎◌, ◌↔◌, Bool, true, false, List, length, Option, Some, IsTrue, refl, sym, ap, ◌∙◌, subst, inl, inr, arith, min, mul-le-mul_left, slice_index_or, slice_set, replicate, rules, vec_capacity, Vec, Global, get_or_past, length-replicate, same_from_place, shl-shr, shl_whole, with_item, pow-le-pow_right, cases_eq, cases_lt, get_or-replicate, get_or-set_same, get_or-set_other, get_or_default, IsExpr, WrittenExpression, seen, old_node, KeepsRows, row_of, StateFlags, PlaceKind, Way, Beginning, Table, IsApart, nodes_of, leaves_row, ends_row, SameBytes, PassState, HasRows, state_of, FlagsShow, HasNewRow, IsMade, LeadsOn, BeginsIn, NamesState, IsNext, IsOffset, cell_of, LeadsBy, kind_number, beginning_at, beginning_of, MayBegin, HasRoom, IsRoomy, IsTable, SameRoom, SameShape, AddsStates, Codes, code_of, column_at, IsLayout, IsColumn, Layout, Act, length-set, takers_row, AreTakers, ◌≢◌, Set, ◌||◌, ◌&&◌, has_mark, bits, HasTakers, HasOrigin, IsBase, RowFollows, null_in, edge_kind, None, IsArena, seen-length, node_at, and_from, and_parts}
 use Rattle.sedpass.specs.Classes.{AreAlike}
-use Rattle.sedpass.specs.Rows.{RowLeadsTo}
 use Rattle.sedpass.proofs.ActLemmas.{same_truth}
 use Rattle.sedpass.proofs.LeaveLemmas.{twice}
-use Rattle.sedpass.proofs.RowLemmas.{bits_clear, bits_here}
+use Rattle.sedpass.proofs.FactLemmas.{null_shows}
+use Rattle.sedpass.proofs.FollowLemmas.{row_of_place}
+use Rattle.sedpass.proofs.RowLemmas.{InTree-inside, bits_clear, bits_here, row_took}
+use Rattle.std.proofs.lemmas.Option.{IfSome_then}
 
 -- places of cells
 pub shifted : (q n s : ℕ) → q < n → n ≤ 65535 → s ≤ 8 → (q * 2 ^ s) % 2 ^ 64 ≡ q * 2 ^ s
@@ -51,8 +53,45 @@ same_set : (members other : List Bool) → Set members ≡ Set other → members
 same_set members other same = cc same
 
 -- a state leads on by bytes of one class
-pub leads_same : (e : WrittenExpression) (way : Way) (a b : PassState) (byte other : ℕ) (edge : Bool) → SameBytes e.nodes (Some other) (Some byte) → LeadsOn (nodes_of way e) way a byte edge b → LeadsOn (nodes_of way e) way a other edge b
-leads_same e way a b byte other edge same leads = (leads.0, λ w s p took. leads.1 w s p (λ x m there is. rw (← seen_bytes way.mirrored e (Some other) (Some byte) same x m is) (took x m there is)))
+pub leads_same : (e : WrittenExpression) (way : Way) (a b : PassState) (byte other : ℕ) (edge : Bool) → SameBytes e.nodes (Some other) (Some byte) → LeadsOn e way a byte edge b → LeadsOn e way a other edge b
+leads_same e way a b byte other edge same leads =
+    let bytes = seen_bytes way.mirrored e (Some other) (Some byte) same in
+    let took = leads.1.0 in (
+      leads.0,
+      (
+        took,
+        (λ c node there is. let law = leads.1.1 c node there is in (
+          λ h. let taken = law.0 h in let set = taken.1 in (taken.0, (set.0, set.1, bytes c set.0 (is ∙ ap (λ n. Some n) set.1) ∙ set.2)),
+          λ h. let set = h.1 in law.1 (h.0, (set.0, set.1, sym (bytes c set.0 (is ∙ ap (λ n. Some n) set.1)) ∙ set.2)),
+        )),
+        leads.1.2,
+      ),
+    )
+
+-- the kind of the place is that of one that is no beginning, and maybe the edge
+kind_is : (mirrored edge : Bool) → (at_begin mirrored (edge_kind mirrored edge) ≡ false) × (at_edge mirrored (edge_kind mirrored edge) ≡ edge)
+kind_is true true = (refl, refl)
+kind_is true false = (refl, refl)
+kind_is false true = (refl, refl)
+kind_is false false = (refl, refl)
+
+-- the state after is that of the next place
+pub leads_place : (e : WrittenExpression) (way : Way) (w : List ℕ) (s : Starts) (p byte : ℕ) (edge : Bool) (a b : PassState) → IsExpr e.nodes e.groups → a.root < length e.nodes → slice_get w p ≡ Some byte → (IsTrue edge ↔ (p + 1 ≡ length w)) →
+    (IsTrue way.all_starts ↔ IsStart s (p + 1)) → StateAt (nodes_of way e) w s way.mirrored p a → LeadsOn e way a byte edge b → StateAt (nodes_of way e) w s way.mirrored (p + 1) b
+leads_place e way w s p byte edge a b expr inside read last starts at leads =
+    let nodes = nodes_of way e in
+    let arena = seen-arena way.mirrored e expr.arena in
+    let kind = edge_kind way.mirrored edge in
+    let is = kind_is way.mirrored edge in
+    let place : IsPlace w (p + 1) (at_begin way.mirrored kind) (at_edge way.mirrored kind) = rw (is.0, is.1) ((λ h. absurd (true≢false (sym h)), λ none. absurd (omega (arith, none))), last) in
+    let shows = row_took nodes w a.root p s way.mirrored a.entered a.ended (Some byte) (λ x m set. ap (λ k. byte_is_in k m) read) at in
+    let takes : (c : ℕ) (members : List Bool) → InTree nodes a.root c → slice_get nodes c ≡ Some (Set members) → IsTrue (leads.1.0 c) ↔ Took nodes w a.root s (p + 1) c members = λ c members there set.
+    let law = leads.1.1 c (Set members) there set in let show = shows c members there set in (
+      λ h. let taken = law.0 h in show.0 (and_from (a.entered c) (byte_is_in (Some byte) members) taken.0 (rw (same_set members taken.1.0 taken.1.1) taken.1.2)),
+      λ h. let parts = and_parts (a.entered c) (byte_is_in (Some byte) members) (show.1 h) in law.1 (parts.0, (members, refl, parts.1)),
+    ) in
+    subst (λ (r : ℕ). RowOfPlace nodes w r s way.mirrored (p + 1) b.entered b.ended) (sym leads.0)
+    (row_of_place nodes w a.root (p + 1) s arena (omega (arith, inside, seen-length way.mirrored e)) way.mirrored way.all_starts (null_in e.nodes kind) leads.1.0 (null_shows way.mirrored e kind w (p + 1) place) starts takes b.entered b.ended leads.1.2)
 
 pub few_kinds : (a b : Bool) → kind_number a b < 4
 few_kinds a b = search rules
@@ -83,8 +122,8 @@ module _ (p : WrittenExpression) (t t' : Table) (adds : AddsStates (length p.nod
   names_moved Q o v there n = search rules
 
   leads_more : (q k : ℕ) → q < t.count → (b : PassState) → LeadsBy p t q k b → LeadsBy p t' q k b
-  leads_more q k there b leads byte edge small column = subst (λ (x : Way). LeadsOn (nodes_of x p) x (state_of m t' q) byte edge b) (sym adds.shape.0)
-      (subst (λ (a : PassState). LeadsOn (nodes_of t.way p) t.way a byte edge b) (sym (adds.kept epoch q there)) (leads byte edge small (subst (λ (l : Layout). IsColumn l byte edge k) adds.shape.2 column)))
+  leads_more q k there b leads byte edge small column = subst (λ (x : Way). LeadsOn p x (state_of m t' q) byte edge b) (sym adds.shape.0)
+      (subst (λ (a : PassState). LeadsOn p t.way a byte edge b) (sym (adds.kept epoch q there)) (leads byte edge small (subst (λ (l : Layout). IsColumn l byte edge k) adds.shape.2 column)))
 
   abbrev Begun : Table → Way → ℕ → PlaceKind → Type 0
   Begun u way root kind = MayBegin p way root → (beginning_of u (beginning_at way.all_starts root kind)).epoch ≡ u.epoch →
@@ -93,11 +132,20 @@ module _ (p : WrittenExpression) (t t' : Table) (adds : AddsStates (length p.nod
   begun_more : (root : ℕ) (kind : PlaceKind) → beginning_of t' (beginning_at t.way.all_starts root kind) ≡ beginning_of t (beginning_at t.way.all_starts root kind) → Begun t t.way root kind → Begun t' t'.way root kind
   begun_more root kind same begun = grind (arith, names_more)
 
+  -- the origin is one still
+  pub origin_more : t'.origin ≡ t.origin → HasOrigin p t → HasOrigin p t'
+  origin_more same has = rw same (IfSome_then t.origin has (λ q is. let kept = adds.kept epoch q is.0 in let up = (adds.grows epoch).0 in let low = is.0 in (
+    omega arith,
+    ap (λ (a : PassState). a.root) kept ∙ is.1,
+    subst (λ (a : PassState). RowFollows (nodes_of t'.way p) (root_of p) t'.way.mirrored t'.way.all_starts (null_in p.nodes middle) (λ c. false) a.entered a.ended) (sym kept)
+        (subst (λ (x : Way). RowFollows (nodes_of x p) (root_of p) x.mirrored x.all_starts (null_in p.nodes middle) (λ c. false) (state_of m t q).entered (state_of m t q).ended) (sym adds.shape.0) is.2),
+  )))
+
   -- the table is right, if each state, cell and beginning is that isn't as it was
   pub table_more : IsTable p t → HasRoom m t' → ((q : ℕ) → q < t'.count → (q < t.count) ⊎ ((state_of m t' q).root < m)) →
       ((q k : ℕ) → q < t'.count → k < 2 * t.layout.columns → 0 < cell_of t' q k → ((q < t.count) × (cell_of t' q k ≡ cell_of t q k)) ⊎ NamesState m t' (LeadsBy p t' q k) (cell_of t' q k)) →
-      ((root : ℕ) (kind : PlaceKind) → (beginning_of t' (beginning_at t.way.all_starts root kind) ≡ beginning_of t (beginning_at t.way.all_starts root kind)) ⊎ Begun t' t'.way root kind) → HasNotes p t' → IsTable p t'
-  table_more table room roots cells begins notes = let narrow = λ (k : ℕ). subst (λ (l : Layout). k < 2 * l.columns) adds.shape.2 in record {
+      ((root : ℕ) (kind : PlaceKind) → (beginning_of t' (beginning_at t.way.all_starts root kind) ≡ beginning_of t (beginning_at t.way.all_starts root kind)) ⊎ Begun t' t'.way root kind) → HasTakers p t' → HasOrigin p t' → IsTable p t'
+  table_more table room roots cells begins takers origin = let narrow = λ (k : ℕ). subst (λ (l : Layout). k < 2 * l.columns) adds.shape.2 in record {
     expr = table.expr;
     room = room;
     layout = subst (λ l. IsLayout p.nodes l) (sym adds.shape.2) table.layout;
@@ -107,7 +155,8 @@ module _ (p : WrittenExpression) (t t' : Table) (adds : AddsStates (length p.nod
       | inr new ↦ new
     ];
     begun = λ root kind. elim (begins root kind) [ inl old ↦ begun_more root kind old (table.begun root kind) | inr new ↦ new ];
-    behind = notes;
+    takers = takers;
+    origin = origin;
   }
 
 -- one element is set
@@ -115,7 +164,7 @@ one_set : {A : Type 0} (d : A) (items : List A) (at : ℕ) (x : A) (i : ℕ) →
 one_set d items at x i inside = search (rules, cases_eq i at, get_or-set_same, get_or-set_other)
 
 -- what a table names, where other cells and beginnings are noted, and an origin
-module _ (p : WrittenExpression) (t : Table) (cells : Vec ℕ Global) (beginnings : Vec Beginning Global) (origin : ℕ) (P Q : PassState → Type 0) (v : ℕ) (up : (a : PassState) → P a → Q a) where
+module _ (p : WrittenExpression) (t : Table) (cells : Vec ℕ Global) (beginnings : Vec Beginning Global) (origin : Option ℕ) (P Q : PassState → Type 0) (v : ℕ) (up : (a : PassState) → P a → Q a) where
   abbrev noted : Table
   noted = record t { cells = cells; beginnings = beginnings; origin = origin }
 
@@ -145,12 +194,12 @@ module _ (p : WrittenExpression) (old t : Table) where
       (λ b on o end few at.
       let one = column_apart t.layout.columns (slice_index_or t.layout.classes byte 0) (slice_index_or t.layout.classes o 0) edge end column.0 at.0 (sym column.1 ∙ at.1) in
       leads_same p t.way (state_of (length p.nodes) t q) b byte o end (table.layout.classes o byte few small one.0) (subst (λ x. IsNext p t offset byte x b) (sym one.1) on))
-      (names_moved p old t codes.adds epoch (λ w a b. LeadsOn (nodes_of w p) w a byte edge b) offset v from.0 codes.names) in
+      (names_moved p old t codes.adds epoch (λ w a b. LeadsOn p w a byte edge b) offset v from.0 codes.names) in
       coded p t cells t.beginnings t.origin _ _ v (λ a is. is) old (refl, refl, refl, refl, refl) codes (table_more p t _ (search rules) refl table (search (rules, length-set)) (λ x low. inl low)
       (λ x j less near some. elim (one_set 0 t.cells.items (offset + k) v (x * size + j) inside) [
         | inl e ↦ let at = same_from_place x j q k size (omega arith) (omega arith) (omega (arith, e.0, there.1)) in inr (rw (e.1, at.1, at.0) here)
         | inr other ↦ inl (less, other)
-      ]) (λ root kind. inl refl) table.behind)
+      ]) (λ root kind. inl refl) table.takers table.origin)
 
   -- one more beginning is noted
   pub note_beginning : (root code : ℕ) (kind : PlaceKind) → MayBegin p old.way root → t.epoch < 4294967294 → Codes p old t (BeginsIn (nodes_of old.way p) old.way root kind) code →
@@ -173,60 +222,61 @@ module _ (p : WrittenExpression) (old t : Table) where
             let same : (x ≡ root) × (other ≡ kind) = let at = e.0 in search (rules, few_kinds) in
             rw (ap (λ (b : Beginning). b.code) e.1, same.0, same.1) (names_noted p t t.cells beginnings t.origin _ (BeginsIn (nodes_of t.way p) t.way root kind) code (λ a. subst (λ (way : Way). BeginsIn (nodes_of way p) way root kind a) (sym codes.adds.shape.0)) codes.names))
         | inr old ↦ inl old
-      ]) table.behind)
+      ]) table.takers table.origin)
 
--- another origin changes nothing
-pub with_origin : (p : WrittenExpression) (old t : Table) (P : PassState → Type 0) (v q : ℕ) → Codes p old t P v → Codes p old (record t { origin = q }) P v
-with_origin p old t P v q codes =
+-- another state is the origin
+pub with_origin : (p : WrittenExpression) (old t : Table) (P : PassState → Type 0) (v q : ℕ) → Codes p old t P v → HasOrigin p (record t { origin = Some q }) → Codes p old (record t { origin = Some q }) P v
+with_origin p old t P v q codes origin =
     let table = codes.table in
     let has = table.room in
-    coded p t t.cells t.beginnings q P P v (λ a is. is) old (refl, refl, refl, refl, refl) codes
-    (table_more p t _ (search rules) refl table (search rules) (λ x low. inl low) (λ x k low near some. inl (low, refl)) (λ root kind. inl refl) table.behind)
+    coded p t t.cells t.beginnings (Some q) P P v (λ a is. is) old (refl, refl, refl, refl, refl) codes
+    (table_more p t _ (search rules) refl table (search rules) (λ x low. inl low) (λ x k low near some. inl (low, refl)) (λ root kind. inl refl) table.takers origin)
 
 -- no state was added
 pub adds_none : (m : ℕ) (t : Table) → AddsStates m t t
 adds_none m t = search rules
 
--- rows that aren't noted take no room
-pub unnoted : (m : ℕ) (t : Table) (start : List Bool) (takers : ℕ) → HasRoom m t → HasRoom m (record t { has_start = start; has_takers = takers })
-unnoted m t start takers room = record { count = room.count; marks = room.marks; rows = room.rows; cells = room.cells; reserved = room.reserved; index = room.index; begins = room.begins; past = room.past; early = room.early }
-
 -- a table that forgot all its states, in an epoch that no beginning has
-pub emptied : (p : WrittenExpression) (t : Table) (epoch : ℕ) → IsExpr p.nodes p.groups → HasRoom (length p.nodes) t → IsLayout p.nodes t.layout →
-    ((noted : ℕ) → noted ≤ t.epoch → noted < 4294967294 → noted < epoch) → HasNotes p t → IsTable p (record t { count = 0; epoch = epoch })
-emptied p t epoch expr room layout later notes =
+pub emptied : (p : WrittenExpression) (t : Table) (epoch takers : ℕ) → IsExpr p.nodes p.groups → HasRoom (length p.nodes) t → IsLayout p.nodes t.layout →
+    ((noted : ℕ) → noted ≤ t.epoch → noted < 4294967294 → noted < epoch) → HasTakers p (record t { has_takers = takers }) → IsTable p (record t { has_takers = takers; origin = None; count = 0; epoch = epoch })
+emptied p t epoch takers expr room layout later right =
     let past : (i : ℕ) → (beginning_of t i).epoch < epoch = λ i. later (beginning_of t i).epoch (room.past i) (room.early i) in
     search rules
 
 -- the state to which an act led
-pub leads_on : (act : Act) (a b : PassState) (byte : ℕ) (edge : Bool) → act.root ≡ a.root → at_edge act.way.mirrored act.kind ≡ edge →
-    IsMade act byte a.entered b → LeadsOn (nodes_of act.way act.prepared.now) act.way a byte edge b
-leads_on act a b byte edge root end made = (made.root ∙ root, rw (← root, ← end) made.comes_next)
+pub leads_on : (act : Act) (a b : PassState) (byte : ℕ) (edge : Bool) → act.root ≡ a.root → act.kind ≡ edge_kind act.way.mirrored edge → IsMade act byte a.entered b → LeadsOn act.prepared.now act.way a byte edge b
+leads_on act a b byte edge root kind made = (made.root ∙ root, rw (← root, ← kind) made.leads)
 
--- what is marked of a leaf, if those are that take the byte, is whether its set has it
-takes_members : (nodes : List Node) (byte : ℕ) (takers : List Bool) → AreTakers nodes byte takers → (c : ℕ) (members : List Bool) → slice_get nodes c ≡ Some (Set members) → has_mark takers c ≡ byte_is_in (Some byte) members
-takes_members nodes byte takers are c members is = same_truth (has_mark takers c) (byte_is_in (Some byte) members)
-    (λ h. let set = (are c (Set members) is).0 h in rw (same_set members set.0 set.1) set.2) (λ h. (are c (Set members) is).1 (members, refl, h))
+-- The state with whose row an act begins.
 
--- the same leaves of two rows take the byte
-pub shared_leaves : (nodes : List Node) (m byte : ℕ) (one other takers first second : List Bool) → length nodes ≡ m → AreTakers nodes byte takers → ((c : ℕ) → c < m → has_mark first c ≡ (has_mark one c && has_mark takers c)) →
-    ((c : ℕ) → c < m → has_mark second c ≡ (has_mark other c && has_mark takers c)) → AgreeBelow m first second → (c : ℕ) (members : List Bool) → slice_get nodes c ≡ Some (Set members) →
-    (bits m other c && byte_is_in (Some byte) members) ≡ (bits m one c && byte_is_in (Some byte) members)
-shared_leaves nodes m byte one other takers first second long are here there agree c members is =
-    let lt : c < m = omega (arith, slice_get_within nodes c (Set members) is, long) in
-    rw (bits_here m other c lt, bits_here m one c lt, ← takes_members nodes byte takers are c members is) (sym (there c lt) ∙ sym (agree c lt) ∙ here c lt)
+-- one that follows from no leaf
+pub base_alone : (act : Act) (before after : List Bool) (a : PassState) → ((c : ℕ) → has_mark before c ≡ has_mark after c) →
+    RowFollows (nodes_of act.way act.prepared.now) act.root act.way.mirrored act.way.all_starts (null_in act.prepared.now.nodes act.kind) (λ c. false) a.entered a.ended → IsBase act before after a
+base_alone act before after a same follows = record { took = λ c. false; follows = follows; others = λ c there. same c }
 
--- what is known of one state is true of another of which the same leaves take the byte
-pub made_shared : (act : Act) (a b : PassState) (byte : ℕ) (edge : Bool) (leaves : ℕ → Bool) → a.root ≡ act.root → at_edge act.way.mirrored act.kind ≡ edge →
-    ((c : ℕ) (members : List Bool) → slice_get (nodes_of act.way act.prepared.now) c ≡ Some (Set members) → (a.entered c && byte_is_in (Some byte) members) ≡ (leaves c && byte_is_in (Some byte) members)) →
-    LeadsOn (nodes_of act.way act.prepared.now) act.way a byte edge b → IsMade act byte leaves b
-made_shared act a b byte edge leaves root end same leads =
-    let on : RowLeadsTo (nodes_of act.way act.prepared.now) act.root act.way.mirrored a.entered (Some byte) (at_edge act.way.mirrored act.kind) act.way.all_starts b.entered b.ended = rw (← root, end) leads.1 in
-    record { root = leads.0 ∙ root; comes_next = λ w s p took. on w s p (λ c members there is. rw (same c members is) (took c members there is)) }
-
--- of a place where no pass begins: whether it is at the edge
-pub at_one_edge : (mirrored : Bool) (kind : PlaceKind) → at_begin mirrored kind ≡ false → at_edge mirrored kind ≡ (kind.begin || kind.end)
-at_one_edge mirrored kind past = search rules
+-- that to which a state leads of which fewer leaves took the byte
+pub base_next : (act : Act) (byte : ℕ) (edge : Bool) (leaves takers before after : List Bool) (a b : PassState) → a.root ≡ act.root → act.kind ≡ edge_kind act.way.mirrored edge → act.root < length act.prepared.now.nodes → IsArena (nodes_of act.way act.prepared.now) →
+    a.entered ≡ bits (length act.prepared.now.nodes) leaves → AreTakers (nodes_of act.way act.prepared.now) byte takers →
+    ((c : ℕ) → c < length act.prepared.now.nodes → has_mark before c ≡ ((has_mark leaves c && has_mark takers c) || has_mark after c)) → LeadsOn act.prepared.now act.way a byte edge b → IsBase act before after b
+base_next act byte edge leaves takers before after a b root kind inside arena entered are others leads =
+    let e = act.prepared.now in
+    let nodes = nodes_of act.way e in
+    let long = seen-length act.way.mirrored e in
+    let took = leads.1.0 in
+    record {
+      took = took;
+      follows = subst (λ (r : ℕ). RowFollows nodes r act.way.mirrored act.way.all_starts (null_in e.nodes act.kind) took b.entered b.ended) root (subst (λ (k : PlaceKind). RowFollows nodes a.root act.way.mirrored act.way.all_starts (null_in e.nodes k) took b.entered b.ended) (sym kind) leads.1.2);
+      others = λ c there.
+          let lt : c < length e.nodes = omega (arith, InTree-inside nodes arena act.root c there, inside) in
+          let node = node_at nodes c (omega (arith, lt, long)) in
+          let law = leads.1.1 c node.0 (subst (λ (r : ℕ). InTree nodes r c) (sym root) there) node.1 in
+          let shown : bits (length e.nodes) leaves c ≡ has_mark leaves c = bits_here (length e.nodes) leaves c lt in
+          let here : a.entered c ≡ bits (length e.nodes) leaves c = ap (λ (f : ℕ → Bool). f c) entered in
+          let same : took c ≡ (has_mark leaves c && has_mark takers c) = same_truth _ _
+          (λ h. let taken = law.0 h in and_from _ _ (sym shown ∙ sym here ∙ taken.0) ((are c node.0 node.1).1 taken.1))
+          (λ h. let parts = and_parts _ _ h in law.1 (here ∙ shown ∙ parts.0, (are c node.0 node.1).0 parts.1)) in
+          rw same (others c lt);
+    }
 
 -- What a code names.
 
@@ -256,7 +306,7 @@ module _ (p : WrittenExpression) (t : Table) (table : IsTable p t) (offset byte 
   pub cell_there : offset + k < length t.cells.items
   cell_there = search rules
 
-  pub known_cell : (v : ℕ) → byte < 256 → v ≡ slice_index_or t.cells.items (offset + k) v → 0 < v → NamesState (length p.nodes) t (LeadsOn (nodes_of t.way p) t.way (state_of (length p.nodes) t (offset / 2 ^ t.layout.shift)) byte edge) v
+  pub known_cell : (v : ℕ) → byte < 256 → v ≡ slice_index_or t.cells.items (offset + k) v → 0 < v → NamesState (length p.nodes) t (LeadsOn p t.way (state_of (length p.nodes) t (offset / 2 ^ t.layout.shift)) byte edge) v
   known_cell v small is some = let same = get_or_default t.cells.items (offset + k) v 0 cell_there in grind (arith, names_map)
 
 -- a list of one element alone, and none beyond it
@@ -284,13 +334,6 @@ roomy_fewer k m t few roomy layout small tight = search rules
 pub behind_states : (count room q : ℕ) → leaves_row room ≤ q → count < room → IsApart 2 count q
 behind_states count room q behind some = (omega (arith, behind), λ e. omega (arith, behind, e, some), λ e. omega (arith, behind, e, some))
 
--- a number is one of two, and tells the kind of a place where no pass begins
-pub two_numbers : (kind : PlaceKind) → start_number kind < 2
-two_numbers kind = search rules
-
-pub same_kind : (mirrored : Bool) (kind other : PlaceKind) → at_begin mirrored kind ≡ false → at_begin mirrored other ≡ false → start_number kind ≡ start_number other → kind ≡ other
-same_kind mirrored kind other past past' same = search rules
-
 -- the rows of no state change where one is made
 module _ (p : WrittenExpression) (t : Table) (rows : List (List Bool)) (keeps : KeepsRows (IsApart 2 t.count) t.rows rows) where
   abbrev with_rows : Table
@@ -304,7 +347,7 @@ module _ (p : WrittenExpression) (t : Table) (rows : List (List Bool)) (keeps : 
       let old = table.room in
       let same = λ (q : ℕ) (behind : leaves_row t.room ≤ q). keeps.same q (behind_states t.count t.room q behind some) in
       table_more p t with_rows same_states refl table (search rules) (λ q low. inl low) (λ q k low near some. inl (low, refl)) (λ root kind. inl refl)
-      (λ kind past h. rw (same (start_row t.room kind) (omega arith)) (table.behind.0 kind past h), λ byte lt low h. rw (same (takers_row t.room (slice_index_or t.layout.classes byte 0)) (omega arith)) (table.behind.1 byte lt low h))
+      (λ byte lt low h. rw (same (takers_row t.room (slice_index_or t.layout.classes byte 0)) (omega arith)) (table.takers byte lt low h)) (origin_more p t with_rows same_states refl refl table.origin)
 
   pub names_rows : (P : PassState → Type 0) (v : ℕ) → NamesState (length p.nodes) t P v → NamesState (length p.nodes) with_rows P v
   names_rows P v n = names_more p t with_rows same_states refl P v n
@@ -313,9 +356,9 @@ module _ (p : WrittenExpression) (t : Table) (rows : List (List Bool)) (keeps : 
   adds_rows new adds = record { shape = adds.shape; grows = adds.grows; kept = λ e q low. adds.kept e q low ∙ same_states.kept refl q low; full = adds.full; forgot = adds.forgot }
 
 -- nor where a row behind theirs is made
-module _ (p : WrittenExpression) (t : Table) (rows : List (List Bool)) (z : ℕ) (start : List Bool) (takers : ℕ) (behind : leaves_row t.room ≤ z) (keeps : KeepsRows (λ q. IsApart 2 t.count q × (q ≢ z)) t.rows rows) (few : t.count ≤ t.room) where
+module _ (p : WrittenExpression) (t : Table) (rows : List (List Bool)) (z takers : ℕ) (behind : leaves_row t.room ≤ z) (keeps : KeepsRows (λ q. IsApart 2 t.count q × (q ≢ z)) t.rows rows) (few : t.count ≤ t.room) where
   abbrev with_notes : Table
-  with_notes = record t { rows = rows; has_start = start; has_takers = takers }
+  with_notes = record t { rows = rows; has_takers = takers }
 
   same_row : (q x : ℕ) → q < t.count → (x ≡ leaves_row q) ⊎ (x ≡ ends_row q) → row_of rows x ≡ row_of t.rows x
   same_row q x low (inl e) = keeps.same x ((omega (arith, e), λ n. omega (arith, e, n, low), λ n. omega (arith, e, n, low)), λ n. omega (arith, e, n, low, few, behind))
@@ -330,8 +373,5 @@ module _ (p : WrittenExpression) (t : Table) (rows : List (List Bool)) (z : ℕ)
     forgot = λ ne. absurd (ne refl);
   }
 
-  pub table_notes : IsTable p t → HasNotes p with_notes → IsTable p with_notes
-  table_notes table notes = let old = table.room in table_more p t with_notes noted_states refl table (search rules) (λ q low. inl low) (λ q k low near some. inl (low, refl)) (λ root kind. inl refl) notes
-
-  pub adds_notes : (new : Table) → AddsStates (length p.nodes) with_notes new → AddsStates (length p.nodes) t new
-  adds_notes new adds = record { shape = adds.shape; grows = adds.grows; kept = λ e q low. adds.kept e q low ∙ noted_states.kept refl q low; full = adds.full; forgot = adds.forgot }
+  pub table_notes : IsTable p t → HasTakers p with_notes → IsTable p with_notes
+  table_notes table right = let old = table.room in table_more p t with_notes noted_states refl table (search rules) (λ q low. inl low) (λ q k low near some. inl (low, refl)) (λ root kind. inl refl) right (origin_more p t with_notes noted_states refl refl table.origin)

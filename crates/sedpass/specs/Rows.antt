@@ -10,7 +10,7 @@ use Rattle.sedtext.specs.Reach.{Starts, HasSpan, IsStart, Enters, one_start}
 use Rattle.sedtext.specs.Matching.{byte_is_in}
 use Rattle.sedtext.specs.Places.{IsPlace}
 use Rattle.sedtext.specs.Words.{AgreeBelow, row_of}
-use Rattle.sedpass.specs.Regions.{EndsPastIn}
+use Rattle.sedpass.specs.Regions.{EndsPastIn, IsSetAt}
 use Rattle.sedpass.specs.declared.nodes.PlaceKind.{PlaceKind}
 use Rattle.sedpass.specs.declared.rows.Way.{Way}
 
@@ -111,10 +111,6 @@ StartsAfter null node y c = IsPart node c × IsTrue (entered_by false null (λ n
 abbrev pub EndsAfter : (ℕ → Bool) → Node → ℕ → Type 0
 EndsAfter null node y = IsTrue (ended_by (λ members. false) null (λ n. eqb n y) node)
 
--- whether the byte that came is one of these, if the leaf x was entered
-abbrev pub takes_at : List Bool → Option ℕ → ℕ → List Bool → Bool
-takes_at leaves byte x members = has_mark leaves x && byte_is_in byte members
-
 -- the node is a leaf whose set has the byte
 abbrev pub TakenBy : Option ℕ → Node → Type 0
 TakenBy byte node = (members : List Bool) × (node ≡ Set members) × IsTrue (byte_is_in byte members)
@@ -123,11 +119,19 @@ TakenBy byte node = (members : List Bool) × (node ≡ Set members) × IsTrue (b
 abbrev pub AreTakers : List Node → ℕ → List Bool → Type 0
 AreTakers nodes byte marks = (c : ℕ) (node : Node) → slice_get nodes c ≡ Some node → IsTrue (has_mark marks c) ↔ TakenBy (Some byte) node
 
--- Nodes in r are marked only if the byte or their parts say so; and if the byte says so, or their parts below y do, they are.
-pub record EndsUpTo (nodes : List Node) (r : ℕ) (leaves : List Bool) (byte : Option ℕ) (null : ℕ → Bool) (ended : List Bool) (y : ℕ) : Type 0 where
+-- the marks show which leaves in r took the byte: those entered whose set has it
+abbrev pub TookBy : List Node → ℕ → (ℕ → Bool) → Option ℕ → (ℕ → Bool) → Type 0
+TookBy nodes r entered byte took = (c : ℕ) (node : Node) → InTree nodes r c → slice_get nodes c ≡ Some node → IsTrue (took c) ↔ (IsTrue (entered c) × TakenBy byte node)
+
+-- only leaves in r are marked
+abbrev pub MarkLeaves : List Node → ℕ → List Bool → Type 0
+MarkLeaves nodes r marks = (c : ℕ) → c < length nodes → IsTrue (has_mark marks c) → InTree nodes r c × IsSetAt nodes c
+
+-- Nodes in r are marked only if they took the byte or their parts say so; and if they did, or their parts below y say so, they are.
+pub record EndsUpTo (nodes : List Node) (r : ℕ) (took null : ℕ → Bool) (ended : List Bool) (y : ℕ) : Type 0 where
   pub inside : (x : ℕ) → x < length nodes → IsTrue (has_mark ended x) → InTree nodes r x
-  pub just : (x : ℕ) (node : Node) → slice_get nodes x ≡ Some node → IsTrue (has_mark ended x) → IsTrue (ended_by (takes_at leaves byte x) null (has_mark ended) node)
-  pub closed : (x : ℕ) (node : Node) → InTree nodes r x → slice_get nodes x ≡ Some node → IsTrue (ended_by (takes_at leaves byte x) null (λ c. nat_lt c y && has_mark ended c) node) → IsTrue (has_mark ended x)
+  pub just : (x : ℕ) (node : Node) → slice_get nodes x ≡ Some node → IsTrue (has_mark ended x) → IsTrue (ended_by (λ members. took x) null (has_mark ended) node)
+  pub closed : (x : ℕ) (node : Node) → InTree nodes r x → slice_get nodes x ≡ Some node → IsTrue (ended_by (λ members. took x) null (λ c. nat_lt c y && has_mark ended c) node) → IsTrue (has_mark ended x)
 
 -- Parts in r are marked only if their nodes say so; and if nodes from y on do, or parts that ended below z, they are.
 pub record EntersDownTo (nodes : List Node) (r : ℕ) (first : Bool) (null : ℕ → Bool) (ended entered : List Bool) (y z : ℕ) : Type 0 where
@@ -150,19 +154,25 @@ pub record RowOfPlace (nodes : List Node) (w : List ℕ) (r : ℕ) (s : Starts) 
   pub leaves : (c : ℕ) → IsTrue (entered c) ↔ LeafAt nodes w r s p c
   pub ends : (c : ℕ) → IsTrue (ended c) ↔ EndKept nodes w r s keeps p c
 
--- the first of the marks show which leaves a match that begins at the place enters there, if the null strings are so
-abbrev pub IsStartRow : List Node → ℕ → (ℕ → Bool) → List Bool → Type 0
-IsStartRow nodes r null marks = (w : List ℕ) (p : ℕ) → AreNull nodes w p null → (c : ℕ) → c < length nodes → IsTrue (has_mark marks c) ↔ LeafAt nodes w r (one_start p) p c
+-- The row of a place as it follows from which leaves took the byte, and from whether the root begins there: nodes end as their parts
+-- do, and parts begin as their nodes do, or where others end. Null strings are as `null` says.
+pub record RowFollows (nodes : List Node) (r : ℕ) (keeps first : Bool) (null took entered ended : ℕ → Bool) : Type 0 where
+  pub begins : ℕ → Bool
+  pub ends : ℕ → Bool
+  pub root : begins r ≡ first
+  pub down : (x c : ℕ) (node : Node) → InTree nodes r x → slice_get nodes x ≡ Some node → IsPart node c → begins c ≡ entered_by (begins x) null ends node c
+  pub up : (x : ℕ) (node : Node) → InTree nodes r x → slice_get nodes x ≡ Some node → ends x ≡ ended_by (λ members. took x) null ends node
+  pub leaves : (c : ℕ) → IsTrue (entered c) ↔ (InTree nodes r c × IsTrue (begins c) × IsSetAt nodes c)
+  pub ended_is : (c : ℕ) → IsTrue (ended c) ↔ (InTree nodes r c × (((IsTrue keeps ⊎ (c ≡ r)) × IsTrue (ends c)) ⊎ ((c ≡ r) × IsTrue first × IsTrue (null r))))
 
--- the first m of the marks are those of the row of that number, or none where there is none
-abbrev pub IsLaid : ℕ → Option ℕ → List (List Bool) → List Bool → Type 0
-IsLaid m None rows marks = (c : ℕ) → c < m → has_mark marks c ≡ false
-IsLaid m (Some q) rows marks = AgreeBelow m marks (row_of rows q)
+-- the row follows where the leaves before were entered, and this byte came
+abbrev pub RowLeadsTo : List Node → ℕ → Bool → (ℕ → Bool) → (ℕ → Bool) → Option ℕ → Bool → (ℕ → Bool) → (ℕ → Bool) → Type 0
+RowLeadsTo nodes r keeps null before byte first entered ended = (took : ℕ → Bool) × TookBy nodes r before byte took × RowFollows nodes r keeps first null took entered ended
 
--- from the leaves that were entered this byte leads to the row, at a place that is the text's end or not, and a start or not
-abbrev pub RowLeadsTo : List Node → ℕ → Bool → (ℕ → Bool) → Option ℕ → Bool → Bool → (ℕ → Bool) → (ℕ → Bool) → Type 0
-RowLeadsTo nodes r keeps entered byte end start after after_ended = (w : List ℕ) (s : Starts) (p : ℕ) → ShowTook nodes w r s (p + 1) byte entered →
-    (IsTrue end ↔ (p + 1 ≡ length w)) → (IsTrue start ↔ IsStart s (p + 1)) → RowOfPlace nodes w r s keeps (p + 1) after after_ended
+-- the marks of a row of the state of that number, or none where there is none
+abbrev pub marks_of : Option ℕ → (ℕ → ℕ) → List (List Bool) → ℕ → Bool
+marks_of None row rows c = false
+marks_of (Some q) row rows c = has_mark (row_of rows (row q)) c
 
 -- a pass from a place of the kind begins with the row
 abbrev pub IsFirstRow : List Node → ℕ → Bool → Bool → Bool → (ℕ → Bool) → (ℕ → Bool) → Type 0

@@ -1,12 +1,12 @@
 -- Private to the proofs: no contract that `sedmatch` makes public cites what is here.
 -- A table of the passes of one way: its states, its cells, and the codes by which they name states.
-use Rattle.std.specs.Prelude.{◌||◌, ◌≡◌, ℕ, ◌+◌, ◌*◌, ◌/◌, ◌^◌, ◌<◌, ◌≤◌, ◌↔◌, Bool, true, false, eqb, List, length, slice_index_or, Some, IsTrue, vec_capacity}
+use Rattle.std.specs.Prelude.{◌&&◌, ◌||◌, not, IfSome, Option, ◌≡◌, ℕ, ◌+◌, ◌*◌, ◌/◌, ◌^◌, ◌<◌, ◌≤◌, ◌↔◌, Bool, true, false, eqb, List, length, slice_index_or, Some, IsTrue, vec_capacity}
 use Rattle.std.specs.Int.{bit_at, from_bool}
 use Rattle.sedre.specs.Arena.{IsExpr}
 use Rattle.sedre.specs.declared.types.Node.{Node}
-use Rattle.sedtext.specs.Reach.{CanEnd, IsStart, Marked, Starts}
+use Rattle.sedtext.specs.Reach.{Starts}
 use Rattle.sedtext.specs.Words.{row_of}
-use Rattle.sedpass.specs.Rows.{nodes_of, at_begin, at_edge, bits, leaves_row, ends_row, AreNull, InTree, RowOfPlace, RowLeadsTo, IsFirstRow, IsStartRow, AreTakers, root_of}
+use Rattle.sedpass.specs.Rows.{nodes_of, at_begin, at_edge, bits, leaves_row, ends_row, RowOfPlace, IsFirstRow, RowFollows, RowLeadsTo, InTree, AreTakers, has_mark, root_of}
 use Rattle.sedpass.specs.Prepared.{null_in}
 use Rattle.sedpass.specs.declared.nodes.PlaceKind.{PlaceKind}
 use Rattle.sedre.specs.Tree.{WrittenExpression}
@@ -66,24 +66,34 @@ HasRow root entered ended a = (a.root ≡ root) × (a.entered ≡ entered) × (a
 abbrev pub StateAt : List Node → List ℕ → Starts → Bool → ℕ → PassState → Type 0
 StateAt nodes w s keeps p a = RowOfPlace nodes w a.root s keeps p a.entered a.ended
 
+-- the kind of a place after a byte, which is the text's edge where passes go, or isn't
+abbrev pub edge_kind : Bool → Bool → PlaceKind
+edge_kind mirrored edge = record { begin = edge && mirrored; end = edge && not mirrored }
+
 -- this byte leads from the one state to the other, where the text's edge comes after it, or doesn't
-abbrev pub LeadsOn : List Node → Way → PassState → ℕ → Bool → PassState → Type 0
-LeadsOn nodes way a byte edge b = (b.root ≡ a.root) × RowLeadsTo nodes a.root way.mirrored a.entered (Some byte) edge way.all_starts b.entered b.ended
+abbrev pub LeadsOn : WrittenExpression → Way → PassState → ℕ → Bool → PassState → Type 0
+LeadsOn e way a byte edge b = (b.root ≡ a.root) ×
+    RowLeadsTo (nodes_of way e) a.root way.mirrored (null_in e.nodes (edge_kind way.mirrored edge)) a.entered (Some byte) way.all_starts b.entered b.ended
 
 -- a pass for the root begins in the state, at places of the kind
 abbrev pub BeginsIn : List Node → Way → ℕ → PlaceKind → PassState → Type 0
 BeginsIn nodes way root kind a = (a.root ≡ root) × IsFirstRow nodes root way.mirrored (at_begin way.mirrored kind) (at_edge way.mirrored kind) a.entered a.ended
 
--- the rows of the state are those of a place of the act's kind, if the nodes that ended there are marked, and it is a start or not
-abbrev pub MakesRow : Act → Bool → List (List Bool) → ℕ → Type 0
-MakesRow act first rows state = let nodes = nodes_of act.way act.prepared.now in let m = length act.prepared.now.nodes in
-    (w : List ℕ) (s : Starts) (p : ℕ) → AreNull nodes w p (null_in act.prepared.now.nodes act.kind) → Marked (row_of rows 1) (InTree nodes act.root) (λ c. CanEnd nodes w act.root s c p) → (IsTrue first ↔ IsStart s p) →
-    RowOfPlace nodes w act.root s act.way.mirrored p (bits m (row_of rows (leaves_row state))) (bits m (row_of rows (ends_row state)))
+-- the rows of the state of that number follow, for an act, from the leaves that took the byte
+abbrev pub RowIs : Act → Bool → (ℕ → Bool) → List (List Bool) → ℕ → Type 0
+RowIs act first took rows state = let m = length act.prepared.now.nodes in
+    RowFollows (nodes_of act.way act.prepared.now) act.root act.way.mirrored first (null_in act.prepared.now.nodes act.kind) took (bits m (row_of rows (leaves_row state))) (bits m (row_of rows (ends_row state)))
 
 -- the state has the root of an act, and the row to which that leads from the leaves entered before and a byte
 pub record IsMade (act : Act) (byte : ℕ) (leaves : ℕ → Bool) (a : PassState) : Type 0 where
   pub root : a.root ≡ act.root
-  pub comes_next : RowLeadsTo (nodes_of act.way act.prepared.now) act.root act.way.mirrored leaves (Some byte) (at_edge act.way.mirrored act.kind) act.way.all_starts a.entered a.ended
+  pub leads : RowLeadsTo (nodes_of act.way act.prepared.now) act.root act.way.mirrored (null_in act.prepared.now.nodes act.kind) leaves (Some byte) act.way.all_starts a.entered a.ended
+
+-- the row of the state follows from some leaves that took the byte, and the marks are those of the others
+pub record IsBase (act : Act) (before after : List Bool) (a : PassState) : Type 0 where
+  pub took : ℕ → Bool
+  pub follows : RowFollows (nodes_of act.way act.prepared.now) act.root act.way.mirrored act.way.all_starts (null_in act.prepared.now.nodes act.kind) took a.entered a.ended
+  pub others : (c : ℕ) → InTree (nodes_of act.way act.prepared.now) act.root c → has_mark before c ≡ (took c || has_mark after c)
 
 -- Codes.
 
@@ -106,7 +116,7 @@ HasNewRow m t root = HasRow root (state_of m t t.count).entered (state_of m t t.
 
 -- the state comes after the one whose cells begin at the offset, and this byte, where the text's edge comes after it, or doesn't
 abbrev pub IsNext : WrittenExpression → Table → (offset byte : ℕ) → Bool → PassState → Type 0
-IsNext e t offset byte edge = LeadsOn (nodes_of t.way e) t.way (state_of (length e.nodes) t (offset / 2 ^ t.layout.shift)) byte edge
+IsNext e t offset byte edge = LeadsOn e t.way (state_of (length e.nodes) t (offset / 2 ^ t.layout.shift)) byte edge
 
 -- Cells.
 
@@ -117,7 +127,7 @@ cell_of t q k = slice_index_or t.cells.items (q * 2 ^ t.layout.shift + k) 0
 -- each byte of the column leads from the state of number q to this one
 abbrev pub LeadsBy : WrittenExpression → Table → ℕ → ℕ → PassState → Type 0
 LeadsBy e t q k b = (byte : ℕ) (edge : Bool) → byte < 256 → IsColumn t.layout byte edge k →
-    LeadsOn (nodes_of t.way e) t.way (state_of (length e.nodes) t q) byte edge b
+    LeadsOn e t.way (state_of (length e.nodes) t q) byte edge b
 
 -- Beginnings.
 
@@ -163,30 +173,23 @@ pub record HasRoom (m : ℕ) (t : Table) : Type 0 where
 abbrev pub IsRoomy : ℕ → Table → Type 0
 IsRoomy m t = (layout : Layout) → layout.shift ≤ 8 → 2 ^ layout.shift ≤ 4 * (m + 1) → HasRoom m (record t { layout = layout; count = 0 })
 
--- which of two rows serves places of the kind, of which none is where passes begin: that of places between the edges, or at one
-abbrev pub start_number : PlaceKind → ℕ
-start_number kind = from_bool (kind.begin || kind.end)
+-- a place that is no edge of the text
+abbrev pub middle : PlaceKind
+middle = record { begin = false; end = false }
 
-abbrev pub start_row : ℕ → PlaceKind → ℕ
-start_row room kind = leaves_row room + start_number kind
-
--- these show, if that is noted, which leaves a match that begins at such a place enters there
-abbrev pub HasStarts : WrittenExpression → Table → Type 0
-HasStarts e t = (kind : PlaceKind) → at_begin t.way.mirrored kind ≡ false → IsTrue (slice_index_or t.has_start (start_number kind) false) →
-    IsStartRow (nodes_of t.way e) (root_of e) (null_in e.nodes kind) (row_of t.rows (start_row t.room kind))
+-- the row of the state follows where no leaf took a byte, at such a place
+abbrev pub HasOrigin : WrittenExpression → Table → Type 0
+HasOrigin e t = IfSome t.origin (λ q. (q < t.count) × ((state_of (length e.nodes) t q).root ≡ root_of e) ×
+    RowFollows (nodes_of t.way e) (root_of e) t.way.mirrored t.way.all_starts (null_in e.nodes middle) (λ c. false) (state_of (length e.nodes) t q).entered (state_of (length e.nodes) t q).ended)
 
 -- the row of the leaves that take bytes of a class
 abbrev pub takers_row : ℕ → ℕ → ℕ
-takers_row room class = leaves_row room + 2 + class
+takers_row room class = leaves_row room + class
 
 -- of each class of bytes for which that is noted a row shows which leaves take them
 abbrev pub HasTakers : WrittenExpression → Table → Type 0
 HasTakers e t = (byte : ℕ) → byte < 256 → let class = slice_index_or t.layout.classes byte 0 in
     class < 128 → IsTrue (eqb (bit_at t.has_takers class) 1) → AreTakers (nodes_of t.way e) byte (row_of t.rows (takers_row t.room class))
-
--- what the rows behind those of the states show is right
-abbrev pub HasNotes : WrittenExpression → Table → Type 0
-HasNotes e t = HasStarts e t × HasTakers e t
 
 -- what a table says is right for the expression: of each state, each filled cell, and each beginning of this epoch
 pub record IsTable (e : WrittenExpression) (t : Table) : Type 0 where
@@ -197,7 +200,8 @@ pub record IsTable (e : WrittenExpression) (t : Table) : Type 0 where
   pub filled : (q k : ℕ) → q < t.count → k < 2 * t.layout.columns → 0 < cell_of t q k → NamesState (length e.nodes) t (LeadsBy e t q k) (cell_of t q k)
   pub begun : (root : ℕ) (kind : PlaceKind) → MayBegin e t.way root → (beginning_of t (beginning_at t.way.all_starts root kind)).epoch ≡ t.epoch →
       NamesState (length e.nodes) t (BeginsIn (nodes_of t.way e) t.way root kind) (beginning_of t (beginning_at t.way.all_starts root kind)).code
-  pub behind : HasNotes e t
+  pub takers : HasTakers e t
+  pub origin : HasOrigin e t
 
 -- what never changes
 abbrev pub SameRoom : Table → Table → Type 0

@@ -5,20 +5,20 @@
 //! there, over the marks that are set alone. A node's parts have lower numbers, so that one loop each way meets all of them. Rows of
 //! marks contain what acts work on: the first two what is found out of a place, and then two for each state, so that a row is made
 //! where it is kept.
-ghost use Rattle.std.specs.Prelude.{◌≡◌, ◌≢◌, ℕ, Bool, List, Option, false, ◌+◌, ◌-◌, ◌*◌, ◌<◌, ◌≤◌, ◌↔◌, ◌⊎◌, ◌||◌, ◌&&◌, length, IfSome, IsTrue, Some, slice_get};
+ghost use Rattle.std.specs.Prelude.{◌≡◌, ◌≢◌, ℕ, Bool, false, ◌+◌, ◌-◌, ◌*◌, ◌<◌, ◌≤◌, ◌↔◌, ◌||◌, ◌&&◌, length, IfSome, IsTrue, None, Some, slice_get};
+ghost use Rattle.std.specs.Option.{is_none};
 ghost use Rattle.sedre.specs.Steps.{Takes, TakesAtLeast, TakesExactly};
-ghost use Rattle.sedtext.specs.Reach.{IsStart, CanEnd, Marked, Starts};
 ghost use Rattle.sedtext.specs.Words.{KeepsRows, row_of};
 ghost use Rattle.sedpass.specs.Prepared.{null_in};
 ghost use Rattle.sedpass.specs.Regions.{IsSetAt};
-ghost use Rattle.sedpass.specs.Rows.{nodes_of, at_begin, at_edge, bits, has_mark, root_of, RowOfPlace, InTree, AddsMarks, AreNull, AreTakers, AreWide, EndsAfter, EndsUpTo, EntersDownTo, IsLaid, IsStartRow, ShowTook, StartsAfter, StartsWith, TakenBy, IsApart, leaves_row, ends_row};
-ghost use Rattle.sedpass.specs.Table.{MakesRow};
+ghost use Rattle.sedpass.specs.Rows.{nodes_of, has_mark, marks_of, root_of, AddsMarks, AreTakers, AreWide, EndsAfter, EndsUpTo, EntersDownTo, MarkLeaves, StartsAfter, StartsWith, TakenBy, TookBy, IsApart, leaves_row, ends_row};
+ghost use Rattle.sedpass.specs.Table.{RowIs, edge_kind};
 ghost use Rattle.sedre.specs.Arena.{IsPart};
 ghost use Rattle.sedre.specs.declared.types.Node.{Node};
 
 use crate::nodes::{PlaceKind, Prepared};
 use sedre::{Node, Steps};
-use sedtext::counted::Rows;
+use sedtext::counted::{Blend, Rows};
 
 /// In which way a pass goes.
 #[derive(Clone, Copy)]
@@ -88,14 +88,22 @@ pub fn mark_takers(act: Act, byte: u8, row: usize, rows: &mut Rows, steps: &mut 
     }
 }
 
-/// The leaves that were entered in a state and take the byte that came have ended. `takers` is the row of the leaves that take it, where
-/// there is one and the root is the expression's.
-fn take(act: Act, byte: u8, takers: Option<usize>, state: usize, rows: &mut Rows, steps: &mut Steps)
+/// The leaves that were entered in a state and take the byte that came have ended, and nothing else. `takers` is the row of the leaves
+/// that take it, where there is one and the root is the expression's.
+pub fn take(
+    act: Act,
+    byte: u8,
+    takers: Option<usize>,
+    state: usize,
+    rows: &mut Rows,
+    steps: &mut Steps,
+)
     requires root { act.root < length act.prepared.now.nodes }
     requires wide { AreWide (length act.prepared.now.nodes) state rows.old }
     requires takers { IfSome takers (λ q. (2 ≤ q) × (q < length rows.old) × (act.root ≡ root_of act.prepared.now) × AreTakers (nodes_of act.way act.prepared.now) byte (row_of rows.old q)) }
     ensures keeps { KeepsRows (λ q. q ≢ 1) rows.old rows.new }
-    ensures ended { (null : ℕ → Bool) → EndsUpTo (nodes_of act.entry.way act.entry.prepared.now) act.entry.root (row_of rows.old (leaves_row state)) (Some byte) null (row_of rows.new 1) 0 }
+    ensures took { TookBy (nodes_of act.entry.way act.entry.prepared.now) act.entry.root (has_mark (row_of rows.old (leaves_row state))) (Some byte) (has_mark (row_of rows.new 1)) }
+    ensures leaves { MarkLeaves (nodes_of act.entry.way act.entry.prepared.now) act.entry.root (row_of rows.new 1) }
     ensures cost { Takes steps.old steps.new (4 * length act.entry.prepared.now.nodes) }
     ensures fewer { IfSome takers (λ q. Takes steps.old steps.new (length act.entry.prepared.now.nodes)) }
     ensures counts { TakesAtLeast steps.old steps.new (length act.entry.prepared.now.nodes) }
@@ -103,7 +111,7 @@ fn take(act: Act, byte: u8, takers: Option<usize>, state: usize, rows: &mut Rows
     let nodes = act.prepared.nodes();
     let (leaves, low, end) = (leaves_row(state), act.prepared.low(act.root), act.root + 1);
     if let Some(row) = takers {
-        rows.intersect(ENDED, leaves, row, nodes, steps);
+        rows.blend(Blend::Both, ENDED, leaves, row, nodes, steps);
         return;
     }
     rows.clear(ENDED, nodes, steps);
@@ -120,7 +128,7 @@ pub fn forget(act: Act, rows: &mut Rows, steps: &mut Steps)
     requires root { act.root < length act.prepared.now.nodes }
     requires wide { AreWide (length act.prepared.now.nodes) 0 rows.old }
     ensures keeps { KeepsRows (λ q. 2 ≤ q) rows.old rows.new }
-    ensures none { (c : ℕ) → c < length act.entry.prepared.now.nodes → has_mark (row_of rows.new 1) c ≡ false }
+    ensures ended { EndsUpTo (nodes_of act.entry.way act.entry.prepared.now) act.entry.root (λ c. false) (null_in act.entry.prepared.now.nodes act.entry.kind) (row_of rows.new 1) act.entry.root }
     ensures entered { EntersDownTo (nodes_of act.entry.way act.entry.prepared.now) act.entry.root false (null_in act.entry.prepared.now.nodes act.entry.kind)
         (row_of rows.new 1) (row_of rows.new 0) (act.entry.root + 1) (act.entry.root + 1) }
     ensures cost { Takes steps.old steps.new (2 * length act.entry.prepared.now.nodes) }
@@ -159,32 +167,19 @@ fn follow(act: Act, y: usize, rows: &mut Rows, steps: &mut Steps)
     }
 }
 
-/// From the leaves up: which nodes end here after at least one byte, and which parts begin here since those before them end. `byte` is
-/// the one that came, `takers` the row of the leaves that take it, if there is one; the state is that of the place before it.
-pub fn ascend(
-    act: Act,
-    byte: u8,
-    takers: Option<usize>,
-    state: usize,
-    rows: &mut Rows,
-    steps: &mut Steps,
-)
+/// From the leaves that took a byte up: which nodes end here after at least one byte, and which parts begin here since those before them
+/// end.
+pub fn ascend(act: Act, rows: &mut Rows, steps: &mut Steps)
     requires root { act.root < length act.prepared.now.nodes }
-    requires wide { AreWide (length act.prepared.now.nodes) state rows.old }
-    requires takers { IfSome takers (λ q. (2 ≤ q) × (q < length rows.old) × (act.root ≡ root_of act.prepared.now) × AreTakers (nodes_of act.way act.prepared.now) byte (row_of rows.old q)) }
+    requires wide { AreWide (length act.prepared.now.nodes) 0 rows.old }
+    requires leaves { MarkLeaves (nodes_of act.way act.prepared.now) act.root (row_of rows.old 1) }
     ensures keeps { KeepsRows (λ q. 2 ≤ q) rows.old rows.new }
-    ensures ended { let nodes = nodes_of act.entry.way act.entry.prepared.now in
-        (w : List ℕ) (s : Starts) (place : ℕ) → AreNull nodes w place (null_in act.entry.prepared.now.nodes act.entry.kind) →
-        ShowTook nodes w act.entry.root s place (Some byte) (has_mark (row_of rows.old (leaves_row state))) →
-        Marked (row_of rows.new 1) (InTree nodes act.entry.root) (λ c. CanEnd nodes w act.entry.root s c place) }
-    ensures inside { (c : ℕ) → c < length act.entry.prepared.now.nodes → IsTrue (has_mark (row_of rows.new 1) c) → InTree (nodes_of act.entry.way act.entry.prepared.now) act.entry.root c }
+    ensures ended { EndsUpTo (nodes_of act.entry.way act.entry.prepared.now) act.entry.root (has_mark (row_of rows.old 1)) (null_in act.entry.prepared.now.nodes act.entry.kind) (row_of rows.new 1) act.entry.root }
     ensures entered { EntersDownTo (nodes_of act.entry.way act.entry.prepared.now) act.entry.root false (null_in act.entry.prepared.now.nodes act.entry.kind)
         (row_of rows.new 1) (row_of rows.new 0) (act.entry.root + 1) (act.entry.root + 1) }
-    ensures cost { Takes steps.old steps.new (10 * length act.entry.prepared.now.nodes - 4) }
-    ensures fewer { IfSome takers (λ q. Takes steps.old steps.new (7 * length act.entry.prepared.now.nodes - 4)) }
-    ensures counts { TakesAtLeast steps.old steps.new (2 * length act.entry.prepared.now.nodes) }
+    ensures cost { Takes steps.old steps.new (6 * length act.entry.prepared.now.nodes - 4) }
+    ensures counts { TakesAtLeast steps.old steps.new (length act.entry.prepared.now.nodes) }
 {
-    take(act, byte, takers, state, rows, steps);
     rows.clear(ENTERED, act.prepared.nodes(), steps);
     let low = act.prepared.low(act.root);
     let mut y = rows.next_set(ENDED, low, act.root, steps);
@@ -226,69 +221,100 @@ fn enter(act: Act, x: usize, leaves: usize, rows: &mut Rows, steps: &mut Steps)
     }
 }
 
-/// The row of the nodes that end in a state: all that do where passes are mirrored, and the root as the null string too, where it begins.
-fn close(act: Act, first: bool, ends: usize, rows: &mut Rows, steps: &mut Steps)
+/// The row of the nodes that end in a state: all that do where passes are mirrored, and the root as the null string too, where it begins;
+/// and those of the state that it begins with, if there is one.
+fn close(
+    act: Act,
+    first: bool,
+    base: Option<usize>,
+    ends: usize,
+    rows: &mut Rows,
+    steps: &mut Steps,
+)
     requires root { act.root < length act.prepared.now.nodes }
     requires ends { 2 ≤ ends }
     requires there { ends < length rows.old }
     requires wide { AreWide (length act.prepared.now.nodes) 0 rows.old }
+    requires base { IfSome base (λ q. (q ≤ 65536) × (ends_row q < length rows.old) × (ends_row q ≢ ends)) }
     ensures keeps { KeepsRows (λ q. q ≢ ends) rows.old rows.new }
-    ensures others { (c : ℕ) → c < length act.entry.prepared.now.nodes → (c ≡ act.entry.root → ⊥) → has_mark (row_of rows.new ends) c ≡ (act.entry.way.mirrored && has_mark (row_of rows.old 1) c) }
-    ensures own { has_mark (row_of rows.new ends) act.entry.root ≡ (has_mark (row_of rows.old 1) act.entry.root || (first && null_in act.entry.prepared.now.nodes act.entry.kind act.entry.root)) }
+    ensures others { (c : ℕ) → c < length act.entry.prepared.now.nodes → (c ≡ act.entry.root → ⊥) →
+        has_mark (row_of rows.new ends) c ≡ (marks_of base ends_row rows.old c || (act.entry.way.mirrored && has_mark (row_of rows.old 1) c)) }
+    ensures own { has_mark (row_of rows.new ends) act.entry.root ≡
+        (marks_of base ends_row rows.old act.entry.root || (has_mark (row_of rows.old 1) act.entry.root || ((first && is_none base) && null_in act.entry.prepared.now.nodes act.entry.kind act.entry.root))) }
     ensures cost { Takes steps.old steps.new (length act.entry.prepared.now.nodes + 3) }
     ensures counts { TakesAtLeast steps.old steps.new (length act.entry.prepared.now.nodes) }
 {
     let nodes = act.prepared.nodes();
-    if act.way.mirrored {
-        rows.intersect(ends, ENDED, ENDED, nodes, steps);
-    } else {
-        rows.clear(ends, nodes, steps);
-    }
-    let end = rows.get(ENDED, act.root, steps)
-        || (first && act.prepared.null_at(act.root, act.kind, steps));
+    let known = match base {
+        Some(state) => {
+            let row = ends_row(state);
+            let how = if act.way.mirrored {
+                Blend::Either
+            } else {
+                Blend::First
+            };
+            rows.blend(how, ends, row, ENDED, nodes, steps);
+            rows.get(row, act.root, steps)
+        }
+        None => {
+            let how = if act.way.mirrored {
+                Blend::First
+            } else {
+                Blend::Without
+            };
+            rows.blend(how, ends, ENDED, ENDED, nodes, steps);
+            first && act.prepared.null_at(act.root, act.kind, steps)
+        }
+    };
+    let end = known || rows.get(ENDED, act.root, steps);
     rows.set(ends, act.root, end, steps);
 }
 
-/// Begins a row of leaves, of so many marks: by those of another row, if there is one.
-fn lay(nodes: usize, start: Option<usize>, leaves: usize, rows: &mut Rows, steps: &mut Steps)
+/// Begins a row of leaves, of so many marks: by those of a state, if there is one.
+fn lay(nodes: usize, base: Option<usize>, leaves: usize, rows: &mut Rows, steps: &mut Steps)
     requires leaves { leaves < length rows.old }
     requires wide { (q : ℕ) → q < length rows.old → nodes ≤ length (row_of rows.old q) }
-    requires start { IfSome start (λ q. (q < length rows.old) × (q ≢ leaves)) }
+    requires base { IfSome base (λ q. (q ≤ 65536) × (leaves_row q < length rows.old) × (leaves_row q ≢ leaves)) }
     ensures keeps { KeepsRows (λ q. q ≢ leaves) rows.old rows.new }
-    ensures laid { IsLaid nodes start rows.old (row_of rows.new leaves) }
+    ensures laid { (c : ℕ) → c < nodes → has_mark (row_of rows.new leaves) c ≡ marks_of base leaves_row rows.old c }
     ensures cost { TakesExactly steps.old steps.new nodes }
 {
-    match start {
-        Some(row) => rows.intersect(leaves, row, row, nodes, steps),
+    match base {
+        Some(state) => {
+            let row = leaves_row(state);
+            rows.blend(Blend::Both, leaves, row, row, nodes, steps)
+        }
         None => rows.clear(leaves, nodes, steps),
     }
 }
 
-/// From the root down: the row of this place, as that of the state. `first` says whether the root begins here; `start` is the row of
-/// the leaves that its beginning enters, where that is known.
+/// From the root down: the row of this place, as that of the state. `first` says whether the root begins here; with the row of the state
+/// `base`, if there is one, the row begins, and the root with that alone.
 pub fn descend(
     act: Act,
     first: bool,
-    start: Option<usize>,
+    base: Option<usize>,
     state: usize,
     rows: &mut Rows,
     steps: &mut Steps,
 )
     requires root { act.root < length act.prepared.now.nodes }
     requires wide { AreWide (length act.prepared.now.nodes) state rows.old }
-    requires inside { (c : ℕ) → c < length act.prepared.now.nodes → IsTrue (has_mark (row_of rows.old 1) c) → InTree (nodes_of act.way act.prepared.now) act.root c }
-    requires start { IfSome start (λ q. (q < length rows.old) × IsApart 2 state q × IsTrue first × IsStartRow (nodes_of act.way act.prepared.now) act.root (null_in act.prepared.now.nodes act.kind) (row_of rows.old q)) }
+    requires base { IfSome base (λ q. q < state) }
     requires entered { EntersDownTo (nodes_of act.way act.prepared.now) act.root false (null_in act.prepared.now.nodes act.kind) (row_of rows.old 1) (row_of rows.old 0) (act.root + 1) (act.root + 1) }
     ensures keeps { KeepsRows (IsApart 1 state) rows.old rows.new }
-    ensures row { MakesRow act.entry first rows.new state }
+    ensures alone { base ≡ None → (took : ℕ → Bool) → EndsUpTo (nodes_of act.entry.way act.entry.prepared.now) act.entry.root took (null_in act.entry.prepared.now.nodes act.entry.kind) (row_of rows.old 1) act.entry.root →
+        RowIs act.entry first took rows.new state }
+    ensures added { IfSome base (λ q. (other took : ℕ → Bool) → RowIs act.entry first other rows.old q → EndsUpTo (nodes_of act.entry.way act.entry.prepared.now) act.entry.root took (null_in act.entry.prepared.now.nodes act.entry.kind) (row_of rows.old 1) act.entry.root →
+        RowIs act.entry first (λ c. other c || took c) rows.new state) }
     ensures cost { Takes steps.old steps.new (7 * length act.entry.prepared.now.nodes + 5) }
     ensures counts { TakesAtLeast steps.old steps.new (2 * length act.entry.prepared.now.nodes) }
 {
     let (leaves, ends) = (leaves_row(state), ends_row(state));
-    close(act, first, ends, rows, steps);
+    close(act, first, base, ends, rows, steps);
     let nodes = act.prepared.nodes();
-    lay(nodes, start, leaves, rows, steps);
-    let begun = first & start.is_none();
+    lay(nodes, base, leaves, rows, steps);
+    let begun = first & base.is_none();
     rows.set(ENTERED, act.root, begun, steps);
     let low = act.prepared.low(act.root);
     let mut x = rows.last_set(ENTERED, low, act.root + 1, steps);
@@ -300,8 +326,7 @@ pub fn descend(
 
 /// The kind of a place after a byte: it is not where a pass begins, mirrored or not, and maybe where it ends.
 pub fn edge_kind(mirrored: bool, edge: bool) -> PlaceKind
-    ensures begin { at_begin mirrored result ≡ false }
-    ensures end { at_edge mirrored result ≡ edge }
+    ensures { result ≡ edge_kind mirrored edge }
 {
     PlaceKind {
         begin: edge & mirrored,

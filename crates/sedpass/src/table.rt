@@ -3,21 +3,21 @@
 //! A state is the row of a place and the root of its pass, so one table serves all regions of an expression. A cell is
 //! filled when it is first asked for, by one act. A full table is emptied, and the pass goes on: so an unlucky text costs
 //! an act and a state for each byte, never more.
-ghost use Rattle.std.specs.Prelude.{◌≡◌, ℕ, ◌+◌, ◌-◌, ◌*◌, ◌/◌, ◌^◌, ◌<◌, ◌≤◌, length, IfOk, IfSome, IsTrue, None, eqb, false, ◌≢◌, vec_len};
+ghost use Rattle.std.specs.Prelude.{◌≡◌, ◌&&◌, ◌||◌, ℕ, ◌+◌, ◌-◌, ◌*◌, ◌/◌, ◌^◌, ◌<◌, ◌≤◌, length, IfOk, IfSome, IsTrue, None, is_some, eqb, false, ◌≢◌, vec_len};
 ghost use Rattle.std.specs.Int.{bit_at};
 ghost use Rattle.sedre.specs.Steps.{Takes, TakesAtLeast};
 ghost use Rattle.sedtext.specs.Words.{KeepsRows, row_of};
-ghost use Rattle.sedpass.specs.Prepared.{null_in};
-ghost use Rattle.sedpass.specs.Rows.{AreTakers, IsStartRow, at_begin, nodes_of, bits, leaves_row, root_of};
-ghost use Rattle.sedpass.specs.Table.{MakesRow, state_of, start_number, start_row, takers_row, HasNewRow, IsMade, BeginsIn, NamesState, IsNext, IsOffset, beginning_at, MayBegin, IsRoomy, IsTable, SameRoom, SameShape, AddsStates, Codes};
+ghost use Rattle.sedpass.specs.Rows.{AreTakers, nodes_of, IsApart, bits, has_mark, leaves_row, root_of};
+ghost use Rattle.sedpass.specs.Table.{IsBase, middle, state_of, takers_row, HasNewRow, IsMade, BeginsIn, NamesState, edge_kind, IsNext, IsOffset, beginning_at, MayBegin, IsRoomy, IsTable, SameRoom, SameShape, AddsStates, Codes};
 
 use crate::cells::{Layout, MOST_CELLS, StateFlags, code_of, empty_cells, offset_of};
 use crate::nodes::{PlaceKind, Prepared};
 use crate::rows::{
-    Act, ENDED, ENTERED, Way, ascend, descend, edge_kind, ends_row, forget, leaves_row, mark_takers,
+    Act, ENDED, ENTERED, Way, ascend, descend, edge_kind, ends_row, forget, leaves_row,
+    mark_takers, take,
 };
 use sedre::Steps;
-use sedtext::counted::Rows;
+use sedtext::counted::{Blend, Rows};
 use std::alloc::{AllocError, Global};
 
 /// From this epoch on no beginning is noted or trusted: a table that comes to the greatest number goes to and fro between
@@ -65,32 +65,14 @@ pub struct Table {
     index: Vec<Slot>,
     /// For each root and kind of place where a pass begins.
     pub beginnings: Vec<Beginning>,
-    /// Whether the first row behind those of the states has the leaves that a match enters where it begins, at a place between the edges,
-    /// and the second those at the edge to which passes go.
-    has_start: [bool; 2],
-    /// A bit for each class of bytes that has cells: whether a row after these has the leaves that take them.
+    /// A bit for each class of bytes that has cells: whether a row behind those of the states has the leaves that take them.
     has_takers: u128,
-    /// The number of a state in which nothing but a match's beginning goes on. A wrong one costs time, never an answer.
-    origin: usize,
+    /// The state at places between the edges where nothing but a match's beginning goes on, if there is one yet.
+    origin: Option<usize>,
 }
 
-/// With fewer nodes what a match's beginning enters is found out anew at each place.
+/// With fewer nodes each act finds out anew what a match's beginning leads to.
 const MANY_NODES: usize = 16;
-
-/// Which of the two rows serves places of a kind, of which none is where passes begin.
-fn start_number(kind: PlaceKind) -> usize
-    ensures { result ≡ start_number kind }
-{
-    usize::from(kind.begin | kind.end)
-}
-
-/// The row of the leaves that a match enters where it begins, at places of a kind.
-fn start_row(room: usize, kind: PlaceKind) -> usize
-    requires room { room ≤ 65535 }
-    ensures { result ≡ start_row room kind }
-{
-    leaves_row(room) + start_number(kind)
-}
 
 /// Whether a class is among those with these bits.
 fn has_class(classes: u128, class: usize) -> bool
@@ -114,7 +96,7 @@ fn takers_row(room: usize, class: usize) -> usize
     requires class { class < 256 }
     ensures { result ≡ takers_row room class }
 {
-    leaves_row(room) + 2 + class
+    leaves_row(room) + class
 }
 
 /// The epoch after one, which no beginning noted so far has.
@@ -164,9 +146,8 @@ impl Table {
             // An odd number and one: by a power of two only a digest's last bits would count.
             index: vec![in alloc; Slot { epoch: 0, state: 0 }; 2 * room + 2]?,
             beginnings: vec![in alloc; Beginning { epoch: 0, code: 0 }; kinds]?,
-            has_start: [false; 2],
             has_takers: 0,
-            origin: 0,
+            origin: None,
         })
     }
 
@@ -178,8 +159,8 @@ impl Table {
     {
         let _nodes = prepared.nodes();
         self.layout = Layout::new(prepared);
-        self.has_start = [false; 2];
         self.has_takers = 0;
+        self.origin = None;
         self.count = 0;
         self.epoch = next_epoch(self.epoch);
     }
@@ -193,6 +174,7 @@ impl Table {
         ensures shape { SameShape self.old self.new }
         ensures rows { self.new.rows ≡ self.old.rows }
     {
+        self.origin = None;
         self.count = 0;
         self.epoch = next_epoch(self.epoch);
     }
@@ -291,56 +273,6 @@ impl Table {
         code_of(flags, state << self.layout.shift)
     }
 
-    /// The row of the leaves that a match enters where it begins, if it is there and about an act's place.
-    fn start_for(&self, act: Act) -> Option<usize>
-        requires table { IsTable act.prepared.now self.now }
-        requires way { act.way ≡ self.now.way }
-        requires past { at_begin act.way.mirrored act.kind ≡ false }
-        ensures { IfSome result (λ q. (q ≡ start_row self.now.room act.entry.kind) × IsTrue act.entry.way.all_starts ×
-            IsStartRow (nodes_of act.entry.way act.entry.prepared.now) act.entry.root (null_in act.entry.prepared.now.nodes act.entry.kind) (row_of self.now.rows q)) }
-    {
-        let known = self.has_start[start_number(act.kind)];
-        if known & act.way.all_starts & (act.root == act.prepared.root()) {
-            Some(start_row(self.room, act.kind))
-        } else {
-            None
-        }
-    }
-
-    /// Keeps the leaves of the row that is being made as those that a match enters where it begins, if nothing ended there. Gives whether
-    /// so it is, between the edges.
-    fn note_start(&mut self, act: Act, steps: &mut Steps) -> bool
-        requires table { IsTable act.prepared.now self.old }
-        requires room { self.old.count < self.old.room }
-        requires way { act.way ≡ self.old.way }
-        requires root { act.root < length act.prepared.now.nodes }
-        requires past { at_begin act.way.mirrored act.kind ≡ false }
-        requires row { MakesRow act act.way.all_starts self.old.rows self.old.count }
-        ensures table { IsTable act.entry.prepared.now self.new }
-        ensures same { (then : Table) → AddsStates (length act.entry.prepared.now.nodes) self.new then → AddsStates (length act.entry.prepared.now.nodes) self.old then }
-        ensures rows { KeepsRows (λ q. q < leaves_row self.old.room) self.old.rows self.new.rows }
-        ensures count { self.new.count ≡ self.old.count }
-        ensures shape { SameShape self.old self.new }
-        ensures cost { Takes steps.old steps.new (2 * length act.entry.prepared.now.nodes) }
-        ensures few { length act.entry.prepared.now.nodes < 16 → steps.new ≡ steps.old }
-    {
-        let nodes = act.prepared.nodes();
-        if !act.way.all_starts || nodes < MANY_NODES || act.root != act.prepared.root() {
-            return false;
-        }
-        if !self.rows.is_clear(ENDED, nodes, steps) {
-            return false;
-        }
-        let number = start_number(act.kind);
-        if self.has_start[number] {
-            return number == 0;
-        }
-        let (row, leaves) = (start_row(self.room, act.kind), leaves_row(self.count));
-        self.rows.intersect(row, leaves, leaves, nodes, steps);
-        self.has_start[number] = true;
-        number == 0
-    }
-
     /// The row of the leaves that take a byte, which is made unless it is there; none with few nodes, where the byte's class has no row,
     /// and where the root of the act isn't the expression's.
     fn find_takers(&mut self, act: Act, byte: u8, steps: &mut Steps) -> Option<usize>
@@ -351,7 +283,7 @@ impl Table {
         ensures same { (then : Table) → AddsStates (length act.entry.prepared.now.nodes) self.new then → AddsStates (length act.entry.prepared.now.nodes) self.old then }
         ensures count { self.new.count ≡ self.old.count }
         ensures shape { SameShape self.old self.new }
-        ensures takers { IfSome result (λ q. (leaves_row self.new.room < q) × (q < length self.new.rows) × (act.entry.root ≡ root_of act.entry.prepared.now) ×
+        ensures takers { IfSome result (λ q. (leaves_row self.new.room ≤ q) × (q < length self.new.rows) × (act.entry.root ≡ root_of act.entry.prepared.now) ×
             AreTakers (nodes_of act.entry.way act.entry.prepared.now) byte (row_of self.new.rows q) × (16 ≤ length act.entry.prepared.now.nodes)) }
         ensures cost { Takes steps.old steps.new (2 * length act.entry.prepared.now.nodes) }
         ensures none { result ≡ None → steps.new ≡ steps.old }
@@ -369,53 +301,99 @@ impl Table {
         Some(row)
     }
 
-    /// The code of the state to which an act leads from the state `from`, if it is known of the origin and the same leaves take the byte
-    /// there. `takers` is the row of those that take it, if there is one.
-    fn shared(
+    /// Takes off those of the leaves that took a byte that take it where the origin's are entered, if they all took it. `takers` is the
+    /// row of the leaves that take it.
+    fn take_off(
+        &mut self,
+        prepared: &Prepared,
+        origin: usize,
+        takers: usize,
+        steps: &mut Steps,
+    ) -> bool
+        requires table { IsTable prepared.now self.old }
+        requires room { self.old.count < self.old.room }
+        requires origin { origin < self.old.count }
+        requires takers { (leaves_row self.old.room ≤ takers) × (takers < length self.old.rows) }
+        ensures table { IsTable prepared.now self.new }
+        ensures same { (then : Table) → AddsStates (length prepared.now.nodes) self.new then → AddsStates (length prepared.now.nodes) self.old then }
+        ensures rows { KeepsRows (λ q. IsApart 2 self.old.count q) self.old.rows self.new.rows }
+        ensures count { self.new.count ≡ self.old.count }
+        ensures shape { SameShape self.old self.new }
+        ensures others { let m = length prepared.now.nodes in let origin_took = λ (c : ℕ). (has_mark (row_of self.old.rows (leaves_row origin)) c && has_mark (row_of self.old.rows takers) c) in
+            IsTrue result → (c : ℕ) → c < m → has_mark (row_of self.old.rows 1) c ≡ (origin_took c || has_mark (row_of self.new.rows 1) c) }
+        ensures less { (c : ℕ) → c < length prepared.now.nodes → IsTrue (has_mark (row_of self.new.rows 1) c) → IsTrue (has_mark (row_of self.old.rows 1) c) }
+        ensures none { result ≡ false → row_of self.new.rows 1 ≡ row_of self.old.rows 1 }
+        ensures cost { Takes steps.old steps.new (4 * length prepared.now.nodes) }
+    {
+        let (nodes, left) = (prepared.nodes(), leaves_row(self.count));
+        let rows = &mut self.rows;
+        rows.blend(
+            Blend::Both,
+            ENTERED,
+            leaves_row(origin),
+            takers,
+            nodes,
+            steps,
+        );
+        rows.blend(Blend::Without, left, ENTERED, ENDED, nodes, steps);
+        if !rows.is_clear(left, nodes, steps) {
+            return false;
+        }
+        rows.blend(Blend::Without, ENDED, ENDED, ENTERED, nodes, steps);
+        true
+    }
+
+    /// The state with whose row an act can begin, if there is one: that to which the origin leads by the byte, where this is known, or the
+    /// origin itself. The leaves are taken off from which its row follows. `takers` is the row of the leaves that take the byte.
+    fn base(
         &mut self,
         act: Act,
         byte: u8,
         takers: Option<usize>,
-        from: usize,
         steps: &mut Steps,
-    ) -> Option<u32>
+    ) -> Option<usize>
         requires table { IsTable act.prepared.now self.old }
         requires way { act.way ≡ self.old.way }
-        requires past { at_begin act.way.mirrored act.kind ≡ false }
+        requires root { act.root < length act.prepared.now.nodes }
+        requires kind { act.kind ≡ edge_kind act.way.mirrored (act.kind.begin || act.kind.end) }
         requires room { self.old.count < self.old.room }
-        requires from { from < self.old.room }
-        requires takers { IfSome takers (λ q. (leaves_row self.old.room < q) × (q < length self.old.rows) × AreTakers (nodes_of act.way act.prepared.now) byte (row_of self.old.rows q)) }
+        requires takers { IfSome takers (λ q. (leaves_row self.old.room ≤ q) × (q < length self.old.rows) × (act.root ≡ root_of act.prepared.now) ×
+            AreTakers (nodes_of act.way act.prepared.now) byte (row_of self.old.rows q)) }
         ensures table { IsTable act.entry.prepared.now self.new }
         ensures same { (then : Table) → AddsStates (length act.entry.prepared.now.nodes) self.new then → AddsStates (length act.entry.prepared.now.nodes) self.old then }
-        ensures rows { KeepsRows (λ q. 2 ≤ q) self.old.rows self.new.rows }
+        ensures rows { KeepsRows (λ q. IsApart 2 self.old.count q) self.old.rows self.new.rows }
         ensures count { self.new.count ≡ self.old.count }
         ensures shape { SameShape self.old self.new }
-        ensures names { IfSome result (λ v. NamesState (length act.entry.prepared.now.nodes) self.new
-            (IsMade act.entry byte (bits (length act.entry.prepared.now.nodes) (row_of self.old.rows (leaves_row from)))) v) }
-        ensures cost { Takes steps.old steps.new (3 * length act.entry.prepared.now.nodes) }
-        ensures none { takers ≡ None → steps.new ≡ steps.old }
-        ensures counts { IfSome result (λ v. TakesAtLeast steps.old steps.new (2 * length act.entry.prepared.now.nodes)) }
+        ensures base { IfSome result (λ q. (q < self.new.count) × IsBase act.entry (row_of self.old.rows 1) (row_of self.new.rows 1) (state_of (length act.entry.prepared.now.nodes) self.new q)) }
+        ensures less { (c : ℕ) → c < length act.entry.prepared.now.nodes → IsTrue (has_mark (row_of self.new.rows 1) c) → IsTrue (has_mark (row_of self.old.rows 1) c) }
+        ensures none { result ≡ None → row_of self.new.rows 1 ≡ row_of self.old.rows 1 }
+        ensures cost { Takes steps.old steps.new (4 * length act.entry.prepared.now.nodes) }
+        ensures few { takers ≡ None → steps.new ≡ steps.old }
     {
-        let takers = takers?;
-        let origin = self.origin;
-        if origin >= self.count || self.roots[origin] != act.root {
-            return None;
-        }
+        let (takers, origin) = (takers?, self.origin?);
         let edge = act.kind.begin | act.kind.end;
         let code = self.known(act.prepared, origin << self.layout.shift, byte, edge);
         if code == 0 {
-            return None;
+            return if edge { None } else { Some(origin) };
         }
-        let nodes = act.prepared.nodes();
-        self.rows
-            .intersect(ENDED, leaves_row(from), takers, nodes, steps);
-        self.rows
-            .intersect(ENTERED, leaves_row(origin), takers, nodes, steps);
-        if self.rows.same(ENDED, ENTERED, nodes, steps) {
-            Some(code)
+        if self.take_off(act.prepared, origin, takers, steps) {
+            Some(self.state_at(offset_of(code)))
         } else {
             None
         }
+    }
+
+    /// Whether no leaf took the byte, at a place between the edges, in an act that has a row of takers.
+    fn is_alone(&self, act: Act, takers: Option<usize>, steps: &mut Steps) -> bool
+        requires table { IsTable act.prepared.now self.now }
+        ensures alone { IsTrue result → IsTrue (is_some takers) × (act.entry.kind ≡ middle) × ((c : ℕ) → c < length act.entry.prepared.now.nodes → has_mark (row_of self.now.rows 1) c ≡ false) }
+        ensures cost { Takes steps.old steps.new (length act.entry.prepared.now.nodes) }
+        ensures few { takers ≡ None → steps.new ≡ steps.old }
+    {
+        if takers.is_none() | act.kind.begin | act.kind.end {
+            return false;
+        }
+        self.rows.is_clear(ENDED, act.prepared.nodes(), steps)
     }
 
     /// Makes the state to which an act leads from the state `from`, whose row is there, and a byte; in an emptied table if there is no
@@ -424,7 +402,7 @@ impl Table {
         requires table { IsTable act.prepared.now self.old }
         requires root { act.root < length act.prepared.now.nodes }
         requires way { act.way ≡ self.old.way }
-        requires past { at_begin act.way.mirrored act.kind ≡ false }
+        requires kind { act.kind ≡ edge_kind act.way.mirrored (act.kind.begin || act.kind.end) }
         requires from { from < self.old.room }
         ensures codes { Codes act.entry.prepared.now self.old self.new
             (IsMade act.entry byte (bits (length act.entry.prepared.now.nodes) (row_of self.old.rows (leaves_row from)))) result }
@@ -433,17 +411,15 @@ impl Table {
     {
         self.make_room(act.prepared);
         let takers = self.find_takers(act, byte, steps);
-        if let Some(code) = self.shared(act, byte, takers, from, steps) {
-            return code;
-        }
+        take(act, byte, takers, from, &mut self.rows, steps);
+        let alone = self.is_alone(act, takers, steps);
+        let base = self.base(act, byte, takers, steps);
+        ascend(act, &mut self.rows, steps);
         let to = self.count;
-        let start = self.start_for(act);
-        ascend(act, byte, takers, from, &mut self.rows, steps);
-        descend(act, act.way.all_starts, start, to, &mut self.rows, steps);
-        let alone = self.note_start(act, steps);
+        descend(act, act.way.all_starts, base, to, &mut self.rows, steps);
         let code = self.intern(act.prepared, act.root, steps);
         if alone {
-            self.origin = self.state_at(offset_of(code));
+            self.origin = Some(self.state_at(offset_of(code)));
         }
         code
     }

@@ -1,5 +1,5 @@
 -- Marks as words of 64, and the lowest bits of words.
-use Rattle.sedtext.proofs.Words.{◌%◌, ◌&&◌, ◌*◌, ◌+◌, ◌-◌, ◌/◌, ◌<◌, ◌^◌, ◌↔◌, ◌∙◌, ◌≡◌, ◌≢◌, ◌≤◌, ◌⊎◌, [], arith, bit_and, bit_at, bit_at-lt, bit_at-trailing_zeros, bit_at-zero, bit_at_and, Bool, cases_eq, cases_lt, eqb}
+use Rattle.sedtext.proofs.Words.{◌%◌, ◌&&◌, ◌*◌, ◌+◌, ◌-◌, ◌/◌, ◌<◌, ◌^◌, ◌↔◌, ◌∙◌, ◌≡◌, ◌≢◌, ◌≤◌, ◌⊎◌, [], arith, bit_and, bit_at, bit_at_not, bit_at_or, bit_not, bit_or, blended, Blend, not, ◌||◌, bit_at-lt, bit_at-trailing_zeros, bit_at-zero, bit_at_and, Bool, cases_eq, cases_lt, eqb}
 use Rattle.sedtext.proofs.Words.{eqb-true, false, get_or-map-range_with_len, get_or-replicate, get_or-set_other, get_or-set_same, get_or_default, get_or_past, Inside, is_set, IsTrue, KeepsRows, length}
 use Rattle.sedtext.proofs.Words.{length-map-range_with_len, length-replicate, length-set, List, mul-le-mul_left, replicate, row_at, row_of, rows_of, same_lists, slice_index_or, slice_set, tabulated, trailing_zeros, w64, ℕ}
 
@@ -30,8 +30,15 @@ pub marks_none : (marks : List Bool) (count x word from least : ℕ) → ((k : �
     ((i : ℕ) → from ≤ i → i < least → bit_at word i ≡ 0) → least ≤ 64 → (c : ℕ) → 64 * x + from ≤ c → c < 64 * x + least → c < count → slice_index_or marks c false ≡ false
 marks_none marks count x word from least mine none few c low high under = let k = c - 64 * x in grind (arith, mine k, none k)
 
-both_bits : (a b k : ℕ) → eqb (bit_at (bit_and a b) k) 1 ≡ (eqb (bit_at a k) 1 && eqb (bit_at b k) 1)
+-- the bits of two words
+pub both_bits : (a b k : ℕ) → eqb (bit_at (bit_and a b) k) 1 ≡ (eqb (bit_at a k) 1 && eqb (bit_at b k) 1)
 both_bits a b k = grind (arith, bit_at_and a b k, bit_at-lt a k, bit_at-lt b k)
+
+pub either_bits : (a b k : ℕ) → eqb (bit_at (bit_or a b) k) 1 ≡ (eqb (bit_at a k) 1 || eqb (bit_at b k) 1)
+either_bits a b k = grind (arith, bit_at_or a b k, bit_at-lt a k, bit_at-lt b k)
+
+pub other_bits : (a b k : ℕ) → b < 2 ^ 64 → k < 64 → eqb (bit_at (bit_and a (bit_not w64 b)) k) 1 ≡ (eqb (bit_at a k) 1 && not (eqb (bit_at b k) 1))
+other_bits a b k small low = grind (arith, bit_at_and a (bit_not w64 b) k, bit_at_not w64 b k small low, bit_at-lt a k, bit_at-lt b k)
 
 -- one bit is written
 pub bit_put : (words : List ℕ) (c x b old word : ℕ) (v : Bool) → c ≡ 64 * x + b → x < length words → b < 64 → old ≡ slice_index_or words x 0 → eqb (bit_at word b) 1 ≡ v →
@@ -90,13 +97,14 @@ pub marked_same : (words other : List ℕ) (base from i : ℕ) → slice_index_o
 unfolding is_set
 marked_same words other base from i same = grind arith
 
--- where a word has the bits of two others, its marks are those that both have
-pub marked_both : (words other : List ℕ) (base one two i : ℕ) → slice_index_or words (base + i / 64) 0 ≡ bit_and (slice_index_or other (one + i / 64) 0) (slice_index_or other (two + i / 64) 0) →
-    is_set words (64 * base + i) ≡ (is_set other (64 * one + i) && is_set other (64 * two + i))
-marked_both words other base one two i both =
+-- where a word's bits are made of those of two others, its marks are made so of theirs
+pub marked_blend : (how : Blend) (words other : List ℕ) (base one two i : ℕ) →
+    ((k : ℕ) → k < 64 → eqb (bit_at (slice_index_or words (base + i / 64) 0) k) 1 ≡ blended how (eqb (bit_at (slice_index_or other (one + i / 64) 0) k) 1) (eqb (bit_at (slice_index_or other (two + i / 64) 0) k) 1)) →
+    is_set words (64 * base + i) ≡ blended how (is_set other (64 * one + i)) (is_set other (64 * two + i))
+marked_blend how words other base one two i made =
     let k = i % 64 in
     let bit = λ (ws : List ℕ) (from : ℕ). set_at ws (64 * from + i) (from + i / 64) k (omega arith) (omega arith) in
-    rw (bit words base, bit other one, bit other two, both) (both_bits (slice_index_or other (one + i / 64) 0) (slice_index_or other (two + i / 64) 0) k)
+    rw (bit words base, bit other one, bit other two) (made k (omega arith))
 
 -- a row whose words are the same is the same
 row_kept : (words after : List ℕ) (width marks q : ℕ) → marks ≤ 64 * width →

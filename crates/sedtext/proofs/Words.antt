@@ -8,10 +8,10 @@ pub use Rattle.std.proofs.lemmas.List.{append-nil, get_or-drop, get_or-map, get_
 pub use Rattle.std.proofs.lemmas.List.Elements.{All-append, All-nil, All-pop, All-push}
 pub use Rattle.std.proofs.lemmas.List.FromFn.{get_or-map-range_with_len, length-map-range_with_len}
 pub use Rattle.std.proofs.lemmas.Nat.{and_le_l, and_mask, one_shl}
-pub use Rattle.std.proofs.lemmas.Nat.Bits.{bit_at-lt, bit_at-trailing_zeros, bit_at-zero, bit_at_above, bit_at_and, bit_at_clear_other, bit_at_clear_same, bit_at_ones, bit_at_ones_above, bit_at_or, bit_at_set_other, bit_at_set_same}
+pub use Rattle.std.proofs.lemmas.Nat.Bits.{bit_at-lt, bit_at-trailing_zeros, bit_at-zero, bit_at_above, bit_at_and, bit_at_clear_other, bit_at_clear_same, bit_at_not, bit_at_ones, bit_at_ones_above, bit_at_or, bit_at_set_other, bit_at_set_same}
 pub use Rattle.std.proofs.lemmas.Option.{IfSome_then, get_or_from_slice_get, gets, none-some, slice_get-get_or, slice_get_read, slice_get_within}
 pub use Rattle.std.proofs.lemmas.Simd.{bit_mask_l, bitmask_splat, Each1-from_get_or, Each1-get_or, get_or-chunk, get_or-swz_l_below, get_or-zip2, length-swz_l, length-zip2, mask_l-lt, swz_l, SwzOk-from_below}
-pub use Rattle.std.specs.Int.{bit_at, trailing_zeros}
+pub use Rattle.std.specs.Int.{bit_at, bit_not, trailing_zeros}
 pub use Rattle.std.specs.List.{All, AllWithin, range_with_len}
 pub use Rattle.std.specs.Prelude.{◌==◌, is_some, ltb, option_map, slice_get, slice_index, slice_index_or, slice_set, unwrap_or, Vec}
 pub use Rattle.std.specs.Simd.Lanes.{mask_l, top, zip2}
@@ -48,7 +48,8 @@ pub use Rattle.sedtext.specs.Hints.{AllBegin, AreHints, CanBegin, IsRequired, Na
 pub use Rattle.sedtext.specs.Runs.{IsRun, RunBegins, SetRepeats}
 pub use Rattle.sedtext.specs.Sieve.{AllPass, HasLanes, IsMarked, MarksPlaces, NoneBefore, PassesSieve}
 pub use Rattle.sedtext.specs.Spans.{CopiesLead, IsIn, IsLeftmostLongest, Matches, no_copy, NotFound, one_more, SomeFound}
-pub use Rattle.sedtext.specs.Words.{KeepsRows, row_of}
+pub use Rattle.sedtext.specs.Words.{KeepsRows, blended, row_of}
+pub use Rattle.sedtext.specs.declared.counted.rows.Blend.{Blend}
 unfoldable pub use Rattle.sedtext.specs.Words.{row_at, rows_of, tabulated}
 pub use Rattle.sedtext.specs.declared.hints.Begins.TheVariants.{Before, With}
 pub use Rattle.sedtext.specs.declared.counted.nibbles.TheConstants.{UPPER}

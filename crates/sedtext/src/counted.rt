@@ -14,7 +14,7 @@ pub mod set_finder;
 pub mod sieve;
 
 use memchr::memchr;
-pub use rows::{Marks, Rows};
+pub use rows::{Blend, Marks, Rows};
 use sedre::Steps;
 use std::marker::Model;
 

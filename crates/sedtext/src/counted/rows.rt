@@ -1,8 +1,8 @@
 //! Marks, and rows of them: one for each of several states.
-ghost use Rattle.std.specs.Prelude.{◌≡◌, ◌≢◌, ℕ, Bool, List, ◌+◌, ◌-◌, ◌*◌, ◌^◌, ◌<◌, ◌≤◌, length, min, slice_index_or, slice_set, replicate, IfOk, IsTrue, ◌↔◌, ◌&&◌, false, eqb};
+ghost use Rattle.std.specs.Prelude.{◌≡◌, ◌≢◌, ℕ, Bool, List, ◌+◌, ◌-◌, ◌*◌, ◌^◌, ◌<◌, ◌≤◌, length, min, slice_index_or, slice_set, replicate, IfOk, IsTrue, ◌↔◌, false, eqb};
 ghost use Rattle.sedtext.specs.Places.{Ascending};
 ghost use Rattle.std.specs.Int.{bit_at};
-ghost use Rattle.sedtext.specs.Words.{AgreeBelow, KeepsRows, rows_of, row_of};
+ghost use Rattle.sedtext.specs.Words.{AgreeBelow, KeepsRows, blended, rows_of, row_of};
 ghost use Rattle.sedre.specs.Steps.{CostsWithin, TakesExactly};
 
 use sedre::Steps;
@@ -62,6 +62,33 @@ impl Marks {
         ensures cost { TakesExactly steps.old steps.new 1 }
     {
         self.row.set(0, i, mark, steps);
+    }
+}
+
+/// How marks are made of those of two rows.
+#[derive(Clone, Copy)]
+pub enum Blend {
+    /// Those of both.
+    Both,
+    /// Those of either.
+    Either,
+    /// Those of the first that the second hasn't.
+    Without,
+    /// Those of the first.
+    First,
+}
+
+impl Blend {
+    /// The bits that are so of two words.
+    fn word(self, one: u64, other: u64) -> u64
+        ensures { (k : ℕ) → k < 64 → eqb (bit_at result k) 1 ≡ blended self (eqb (bit_at one k) 1) (eqb (bit_at other k) 1) }
+    {
+        match self {
+            Blend::Both => one & other,
+            Blend::Either => one | other,
+            Blend::Without => one & !other,
+            Blend::First => one,
+        }
     }
 }
 
@@ -197,10 +224,11 @@ impl Rows {
         true
     }
 
-    /// Marks in a row those of the first `count` that are set in both of two others, a word at a time; those after them in the row may
-    /// change too. With itself a row is copied so. Counts a look for each of the `count`.
-    pub fn intersect(
+    /// Makes the first `count` marks of a row of those of two others, a word at a time; those after them in the row may change too.
+    /// Counts a look for each of the `count`.
+    pub fn blend(
         &mut self,
+        how: Blend,
         row: usize,
         one: usize,
         other: usize,
@@ -213,16 +241,15 @@ impl Rows {
         requires inside { count ≤ length (row_of self.old row) }
         requires in_one { count ≤ length (row_of self.old one) }
         requires in_other { count ≤ length (row_of self.old other) }
-        requires apart { (row ≢ one) × (row ≢ other) }
         ensures keeps { KeepsRows (λ q. q ≢ row) self.old self.new }
-        ensures both { (c : ℕ) → c < count → slice_index_or (row_of self.new row) c false ≡ (slice_index_or (row_of self.old one) c false && slice_index_or (row_of self.old other) c false) }
+        ensures marks { (c : ℕ) → c < count → slice_index_or (row_of self.new row) c false ≡ blended how (slice_index_or (row_of self.old one) c false) (slice_index_or (row_of self.old other) c false) }
         ensures cost { TakesExactly steps.old steps.new count }
     {
         steps.add(count);
         let (to, first, second) = (self.width * row, self.width * one, self.width * other);
         let words = &mut self.words;
         for x in 0..count.div_ceil(64) {
-            let word = words[first + x] & words[second + x];
+            let word = how.word(words[first + x], words[second + x]);
             words[to + x] = word;
         }
     }

@@ -1,10 +1,11 @@
 use Rattle.std.specs.Option.{is_none}
-use Rattle.sedpass.proofs.Words.{Bool, Option, false, is_some, not, true, EntersDownTo, IfSome, IsLaid, IsStartRow, ◌&&◌, ap, arith, InTree, IsApart, IsCounted, IsTrue, KeepsRows, TakesAtLeast, length, has_mark, nodes_of, null_in, refl, row_of, seen-arena, seen-length, slice_set, ℕ, ◌+◌, ◌-◌, ◌<◌, ◌∙◌, ◌≡◌, ◌≢◌, ◌≤◌}
+use Rattle.sedpass.proofs.Words.{rules, Bool, Option, false, is_some, not, true, EntersDownTo, IfSome, RowFollows, RowIs, EndsUpTo, bits, leaves_row, ends_row, marks_of, row_of, None, Some, sym, List, ◌||◌, ◌&&◌, ap, arith, InTree, IsApart, IsCounted, IsTrue, KeepsRows, TakesAtLeast, length, has_mark, nodes_of, null_in, refl, seen-arena, seen-length, slice_set, ℕ, ◌+◌, ◌-◌, ◌<◌, ◌∙◌, ◌≡◌, ◌≢◌, ◌≤◌}
 use Rattle.std.proofs.lemmas.Option.{IfSome_then}
-use Rattle.sedpass.proofs.StartLemmas.{leaf_found}
-use Rattle.sedpass.proofs.ActLemmas.{down_skip, down_step, enters_first, leaves_none, leaves_skip, leaves_step, row_shown, still_marked}
+use Rattle.sedpass.proofs.FollowLemmas.{marks_kept, nothing, row_added}
+use Rattle.sedpass.proofs.ActLemmas.{down_skip, down_step, enters_first, leaves_none, leaves_skip, leaves_step, still_marked}
 use Rattle.sedpass.proofs.FactLemmas.{inside_seen}
-use Rattle.sedpass.proofs.RowLemmas.{InTree-inside, keeps_then, still_wide}
+use Rattle.sedpass.proofs.RowLemmas.{InTree-inside, bits_here, keeps_then, still_wide}
+use Rattle.sedpass.proofs.rows.descend.Goals.{After-loop-x}
 use Rattle.sedpass.proofs.rows.descend.Goals as goal
 
 no_row : (b : Bool) (o : Option ℕ) → is_some o ≡ not b → b ≡ is_none o
@@ -42,7 +43,7 @@ loop-x-init c =
       order = c.last_set-x.ensures.order;
       wide = still_wide (IsApart 1 c.args.state) m c.args.state _ _ keeps c.requires.wide;
       keeps = keeps;
-      ends = record { others = λ n lt ne. rw last (c.close.ensures.others n (omega (arith, lt, seen-length act.way.mirrored e)) ne); own = rw last c.close.ensures.own };
+      ends = record { others = λ n lt ne. rw last (c.close.ensures.others n (omega (arith, lt, seen-length act.way.mirrored e)) ne); own = rw (last, no_row c.is_none.result c.args.base c.is_none.ensures) c.close.ensures.own };
       set = c.last_set-x.ensures.set;
       entered = down_skip nodes r arena begun null (row_of c.args.rows.now 1) (r + 1) entered x (r + 1) none starts;
       leaves = leaves_skip nodes (row_of new leaves) entered (row_of new leaves) x (r + 1) c.last_set-x.ensures.order.1 none
@@ -92,29 +93,58 @@ loop-x-preserved c =
       counts = omega arith;
     }
 
-pub returns-clause-row : goal.returns-clause-row
-returns-clause-row c w s place nulls marked begins =
+-- what the scans found, besides the marks of a row
+found : (c : After-loop-x) (first : Bool) (took other before before_ended : ℕ → Bool) → RowFollows (nodes_of c.args.act.way c.args.act.prepared.now) c.args.act.root c.args.act.way.mirrored first (null_in c.args.act.prepared.now.nodes c.args.act.kind) other before before_ended →
+    EndsUpTo (nodes_of c.args.act.way c.args.act.prepared.now) c.args.act.root took (null_in c.args.act.prepared.now.nodes c.args.act.kind) (row_of c.args.rows.now 1) c.args.act.root →
+    ((n : ℕ) → n < length c.args.act.prepared.now.nodes → marks_of c.args.base leaves_row c.args.rows.now n ≡ before n) → ((n : ℕ) → n < length c.args.act.prepared.now.nodes → marks_of c.args.base ends_row c.args.rows.now n ≡ before_ended n) →
+    RowIs c.args.act (first || (c.args.first && is_none c.args.base)) (λ n. other n || took n) c.loop-x.rows c.args.state
+found c first took other before before_ended follows up leaf_same end_same =
     let act = c.args.act in
-    let ended = rw (c.loop-x.invariant.keeps.same 1 (omega arith, λ n. omega (arith, n), λ n. omega (arith, n))) at marked in
     let r = act.root in
     let e = act.prepared.now in
     let nodes = nodes_of act.way e in
     let null = null_in e.nodes act.kind in
+    let long = seen-length act.way.mirrored e in
     let arena = seen-arena act.way.mirrored e c.nodes-nodes.ensures.expr.arena in
-    let inside = inside_seen act.way.mirrored e r c.requires.root in
     let low = c.low-low.result in
     let at : c.loop-x.x ≡ low = omega (arith, c.loop-x.invariant.order, c.loop-x-test.false) in
     let all : (n : ℕ) → InTree nodes r n → low ≤ n = λ n there. ((c.low-low.ensures.range act.way.mirrored n).1 there).0 in
-    let last = row_of c.args.rows.now 1 in
-    let entered = row_of c.loop-x.rows 0 in
     let leaves = c.leaves_row-leaves.result in
     let some : 1 < leaves = omega (arith, c.leaves_row-leaves.ensures) in
     let base : row_of c.set.new.self leaves ≡ row_of c.lay.new.rows leaves = c.set.ensures.keeps.same leaves (λ n. omega (arith, n, some)) in
-    let laid : IsLaid (length nodes) c.args.start c.close.new.rows (row_of c.set.new.self leaves) = rw (base, seen-length act.way.mirrored e, ← c.nodes-nodes.ensures.value) c.lay.ensures.laid in
-    let down : EntersDownTo nodes r (c.args.first && is_none c.args.start) null last entered low (r + 1) = rw (no_row c.is_none.result c.args.start c.is_none.ensures) at (rw at at c.loop-x.invariant.entered) in
-    let starts : IfSome c.args.start (λ q. IsTrue c.args.first × IsStartRow nodes r null (row_of c.close.new.rows q)) =
-    IfSome_then c.args.start c.requires.start (λ q is. (is.2, rw (c.close.ensures.keeps.same q (λ n. is.1.2 (n ∙ c.ends_row-ends.ensures))) is.3)) in
-    let leaf = leaf_found nodes w r place s arena inside null nulls c.args.first begins last entered ended low all c.close.new.rows (row_of c.set.new.self leaves) (row_of c.loop-x.rows leaves) (rw at at c.loop-x.invariant.leaves) c.args.start down laid starts in
-    rw (← c.leaves_row-leaves.ensures, ← c.ends_row-ends.ensures, ← seen-length act.way.mirrored e)
-    (row_shown nodes w r place s arena inside act.way.mirrored c.args.first null nulls begins last ended
-    (λ n lt h. c.requires.inside n (omega (arith, lt, seen-length act.way.mirrored e)) h) (row_of c.loop-x.rows leaves) (row_of c.loop-x.rows c.ends_row-ends.result) leaf c.loop-x.invariant.ends)
+    let kept = c.loop-x.invariant.ends in
+    let down : EntersDownTo nodes r (c.args.first && is_none c.args.base) null (row_of c.args.rows.now 1) (row_of c.loop-x.rows 0) low (r + 1) = rw (no_row c.is_none.result c.args.base c.is_none.ensures) at (rw at at c.loop-x.invariant.entered) in
+    let there : IfSome c.args.base (λ q. row_of c.close.new.rows (leaves_row q) ≡ row_of c.args.rows.now (leaves_row q)) = IfSome_then c.args.base c.requires.base (λ q low. c.close.ensures.keeps.same (leaves_row q) (λ n. omega (arith, n, low, c.ends_row-ends.ensures))) in
+    let laid : (n : ℕ) → n < length nodes → has_mark (row_of c.set.new.self leaves) n ≡ before n = λ n lt. let few : n < length e.nodes = omega (arith, lt, long) in
+    rw base (c.lay.ensures.laid n (omega (arith, few, c.nodes-nodes.ensures.value)) ∙ marks_kept c.args.base leaves_row c.args.rows.now c.close.new.rows n there ∙ leaf_same n few) in
+    rw (← c.leaves_row-leaves.ensures, ← c.ends_row-ends.ensures, ← long)
+    (row_added nodes r arena (inside_seen act.way.mirrored e r c.requires.root) act.way.mirrored first (c.args.first && is_none c.args.base) null took other before before_ended follows
+    (row_of c.args.rows.now 1) (row_of c.loop-x.rows 0) (row_of c.set.new.self leaves) (row_of c.loop-x.rows leaves) (row_of c.loop-x.rows c.ends_row-ends.result) low all up down (rw at at c.loop-x.invariant.leaves) laid
+    (record { others = λ n lt ne. rw (← end_same n (omega (arith, lt, long))) (kept.others n lt ne); own = rw (← end_same r c.requires.root, ← no_row c.is_none.result c.args.base c.is_none.ensures) kept.own }))
+
+more_none : (b : Bool) → (b || (b && false)) ≡ b
+more_none true = refl
+more_none false = refl
+
+all_none : (b : Bool) → (b && true) ≡ b
+all_none true = refl
+all_none false = refl
+
+-- with the row of a state
+added : (c : After-loop-x) (base : Option ℕ) → c.args.base ≡ base → IfSome base (λ q. (other took : ℕ → Bool) → RowIs c.args.act c.args.first other c.args.rows.now q →
+    EndsUpTo (nodes_of c.args.act.way c.args.act.prepared.now) c.args.act.root took (null_in c.args.act.prepared.now.nodes c.args.act.kind) (row_of c.args.rows.now 1) c.args.act.root →
+    RowIs c.args.act c.args.first (λ n. other n || took n) c.loop-x.rows c.args.state)
+added c None is = search rules
+added c (Some q) is = λ other took row up.
+    let from = found c c.args.first took other _ _ row up (λ n lt. rw is (sym (bits_here _ _ n lt))) (λ n lt. rw is (sym (bits_here _ _ n lt))) in
+    rw (is, more_none c.args.first) at from
+
+pub returns-clause-alone : goal.returns-clause-alone
+returns-clause-alone c none took up =
+    let act = c.args.act in
+    let e = act.prepared.now in
+    let from = found c false took (λ n. false) (λ n. false) (λ n. false) (nothing (nodes_of act.way e) act.root act.way.mirrored (null_in e.nodes act.kind)) up (λ n lt. rw none refl) (λ n lt. rw none refl) in
+    rw (none, all_none c.args.first) at from
+
+pub returns-clause-added : goal.returns-clause-added
+returns-clause-added c = added c c.args.base refl

@@ -29,7 +29,7 @@ loop-place-preserved c =
       offset = new.0;
       meets = λ a i low start follows.
           let on = old.meets a i low start follows in (
-            follows_next c.args.subject.prepared.now c.args.subject.text.now c.loop-place.forward_one c.next-code.new.self a i place _ c.loop-place.offset c.offset_of-offset.result _ old.forward_one.forwards old.forward_one.single next.codes.adds.shape (omega (arith, old.order.0, start)) c.byte-byte.ensures.byte
+            follows_next c.args.subject.prepared.now c.args.subject.text.now c.loop-place.forward_one c.next-code.new.self a i place _ c.loop-place.offset c.offset_of-offset.result _ old.forward_one.table.expr (old.forward_one.table.roots _ old.offset.0) old.forward_one.forwards old.forward_one.single next.codes.adds.shape (omega (arith, old.order.0, start)) c.byte-byte.ensures.byte
                 (rw (← c.len-length.ensures.is) (eqb-true (place + 1) c.len-length.result, eq-eqb (place + 1) c.len-length.result)) new.1 on.0,
             holds_on _ c.args.from place on.1 ((met (goal.at.loop-place-preserved c).After-meets a i on.0).0 c.if-not-meets.false),
           );

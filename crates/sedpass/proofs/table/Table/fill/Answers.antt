@@ -10,7 +10,7 @@ leads c =
     let table = c.requires.table in
     let offset = c.requires.offset in
     codes_map _ _ _ _ _ c.make-next.result
-    (λ b. leads_on _ (state_of (length c.args.prepared.now.nodes) T (c.args.offset / 2 ^ T.layout.shift)) b c.args.byte c.args.edge (search (rules, get_or_default)) c.edge_kind.ensures.end) (rw c.state_at-state.ensures at c.make-next.ensures.codes)
+    (λ b. leads_on _ (state_of (length c.args.prepared.now.nodes) T (c.args.offset / 2 ^ T.layout.shift)) b c.args.byte c.args.edge (search (rules, get_or_default)) c.edge_kind.ensures) (rw c.state_at-state.ensures at c.make-next.ensures.codes)
 
 pub index_mut-requires : goal.index_mut-requires
 index_mut-requires c =

@@ -1,5 +1,5 @@
-use Rattle.sedpass.proofs.Words.{IsApart, KeepsRows, arith, cases_eq, get_or-set_other, inl, inr, slice_index_or, slice_set, start_row, takers_row, true, ◌≢◌, ◌∙◌, sym}
-use Rattle.sedpass.proofs.TableLemmas.{table_notes, takers_alike, two_numbers}
+use Rattle.sedpass.proofs.Words.{IsApart, KeepsRows, arith, cases_eq, get_or-set_other, inl, inr, slice_index_or, slice_set, takers_row, true, ◌≢◌, ◌∙◌, sym}
+use Rattle.sedpass.proofs.TableLemmas.{table_notes, takers_alike}
 use Rattle.sedpass.proofs.table.Table.find_takers.Goals.{After-mark_takers}
 use Rattle.sedpass.proofs.table.Table.find_takers.Goals as goal
 
@@ -15,10 +15,9 @@ returns-then-not-has_class-clause-table c =
     let table = c.requires.table in
     let z = c.takers_row-row.result in
     let rest = c.mark_takers.ensures.keeps.same in
-    table_notes e t c.mark_takers.new.rows z t.has_start c.with_class-self.result (omega (arith, c.takers_row-row.ensures)) (keeps (goal.at.returns-then-not-has_class-clause-table c).After-mark_takers) (omega (arith, table.room.count)) table (
-      λ kind past h. rw (rest (start_row t.room kind) (λ n. omega (arith, n, two_numbers kind, c.takers_row-row.ensures))) (table.behind.0 kind past h),
-      λ byte lt small h. let other = slice_index_or t.layout.classes byte 0 in elim (cases_eq other class) [
-        | inl e' ↦ rw (e', ← c.takers_row-row.ensures) (takers_alike t.way e t.layout.classes c.args.byte byte _ table.layout.classes c.ranges.byte.fits lt (sym e') (rw c.requires.way at c.mark_takers.ensures.takers))
-        | inr ne ↦ rw (rest (takers_row t.room other) (λ n. omega (arith, n, ne, c.takers_row-row.ensures))) (table.behind.1 byte lt small (rw (c.with_class-self.ensures.others other small ne) at h))
-      ],
+    table_notes e t c.mark_takers.new.rows z c.with_class-self.result (omega (arith, c.takers_row-row.ensures)) (keeps (goal.at.returns-then-not-has_class-clause-table c).After-mark_takers) (omega (arith, table.room.count)) table (
+    λ byte lt small h. let other = slice_index_or t.layout.classes byte 0 in elim (cases_eq other class) [
+      | inl e' ↦ rw (e', ← c.takers_row-row.ensures) (takers_alike t.way e t.layout.classes c.args.byte byte _ table.layout.classes c.ranges.byte.fits lt (sym e') (rw c.requires.way at c.mark_takers.ensures.takers))
+      | inr ne ↦ rw (rest (takers_row t.room other) (λ n. omega (arith, n, ne, c.takers_row-row.ensures))) (table.takers byte lt small (rw (c.with_class-self.ensures.others other small ne) at h))
+    ]
     )

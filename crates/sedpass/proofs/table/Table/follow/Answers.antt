@@ -36,7 +36,7 @@ loop-at-preserved-then-is_plain c =
       after = omega (arith, old.after);
       within = omega (arith, c.loop-at-test.true);
       over = old.over;
-      passes = λ start pass. rw old.over (goes_further p t w start c.args.to c.byte-byte.result cell at (record { offset = next; place = at.place + 1; end = at.end; over = false }) c.loop-at-test.true c.requires.to
+      passes = λ start pass. rw old.over (goes_further p t w start c.args.to c.byte-byte.result cell at (record { offset = next; place = at.place + 1; end = at.end; over = false }) c.requires.table.expr c.loop-at-test.true c.requires.to
           (old.passes start pass) one.byte names (λ after within named last. arrive_plain p t w start (at.place + 1) cell next at.end (record { ends = false; dead = false }) c.requires.table after within shows none named last plain));
       looks = omega (arith, one.cost, old.looks, old.after, c.requires.to);
     }
@@ -49,7 +49,7 @@ loop-at-preserved c =
     let one = c.byte-byte.ensures in
     let same : c.plain_offset.result ≡ c.loop-at.at.offset = omega (arith, c.plain_offset.ensures, old.code) in
     let passes : (start : ℕ) → PassIs c.args.prepared.now c.args.self.now c.args.text.now start c.args.from → PassIs c.args.prepared.now c.args.self.now c.args.text.now start c.arrive-at.result =
-    λ start pass. goes_further c.args.prepared.now c.args.self.now c.args.text.now start c.args.to c.byte-byte.result c.known-cell.result c.loop-at.at c.arrive-at.result c.loop-at-test.true c.requires.to (old.passes start pass) one.byte
+    λ start pass. goes_further c.args.prepared.now c.args.self.now c.args.text.now start c.args.to c.byte-byte.result c.known-cell.result c.loop-at.at c.arrive-at.result c.requires.table.expr c.loop-at-test.true c.requires.to (old.passes start pass) one.byte
     (rw same at (c.known-cell.ensures (omega (arith, c.if-cell-eq0.false)))) (next.passes start) in
     search (rules, old, next, one, passes, c.plain_code-code-else-is_plain.ensures)
 
@@ -60,5 +60,5 @@ returns-clause-passes c start pass =
       | else-loop-at-test w ↦ rw w.at-is before
       | then-loop-at-test+else-is_plain+then-cell-eq0 w ↦ rw w.at-is before
       | then-loop-at-test+else-is_plain+else-cell-eq0+then-at w ↦ let same : w.plain_offset.result ≡ c.loop-at.at.offset = omega (arith, w.plain_offset.ensures, c.loop-at.invariant.code) in rw w.at-is (goes_further c.args.prepared.now c.args.self.now c.args.text.now start c.args.to w.byte-byte.result w.known-cell.result c.loop-at.at w.arrive-at.result
-          w.loop-at-test.true c.requires.to before w.byte-byte.ensures.byte (rw same at (w.known-cell.ensures (omega (arith, w.if-cell-eq0.false)))) (w.arrive-at.ensures.passes start))
+          c.requires.table.expr w.loop-at-test.true c.requires.to before w.byte-byte.ensures.byte (rw same at (w.known-cell.ensures (omega (arith, w.if-cell-eq0.false)))) (w.arrive-at.ensures.passes start))
     ]

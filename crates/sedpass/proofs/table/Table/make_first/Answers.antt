@@ -1,6 +1,7 @@
-use Rattle.sedpass.proofs.Words.{◌≡◌, ◌≤◌, ◌∙◌, CanEnd, InTree, IsApart, KeepsRows, Marked, Starts, arith, nodes_of, refl, row_of, seen-arena, sym, true≢false, List, ℕ}
-use Rattle.sedpass.proofs.FactLemmas.{null_shows}
-use Rattle.sedpass.proofs.RowLemmas.{InTree-inside, keeps_then, none_ends}
+use Rattle.sedpass.proofs.Words.{◌≡◌, ◌↔◌, ◌≤◌, Bool, Enters-from, InTree, IsApart, IsTrue, KeepsRows, Set, Some, Starts, Took, arith, false, null_in, slice_get, true, nodes_of, refl, row_of, seen-arena, sym, true≢false, List, ℕ}
+use Rattle.sedpass.proofs.FactLemmas.{inside_seen, null_shows}
+use Rattle.sedpass.proofs.FollowLemmas.{row_of_place}
+use Rattle.sedpass.proofs.RowLemmas.{keeps_then}
 use Rattle.sedpass.proofs.TableLemmas.{adds_rows, names_map, table_rows}
 use Rattle.sedpass.proofs.table.Table.make_first.Goals.{After-descend}
 use Rattle.sedpass.proofs.table.Table.make_first.Goals as goal
@@ -20,12 +21,15 @@ returns-clause-codes c =
     let arena = seen-arena act.way.mirrored e c.intern.ensures.codes.table.expr.arena in
     let nulls = null_shows act.way.mirrored e act.kind in
     let codes = c.intern.ensures.codes in
-    let kept : row_of c.descend.new.rows 1 ≡ row_of c.forget.new.rows 1 = c.descend.ensures.keeps.same 1 (omega arith, λ n. omega (arith, n), λ n. omega (arith, n)) in
-    let none : (w : List ℕ) (s : Starts) → Marked (row_of c.forget.new.rows 1) (InTree nodes act.root) (λ n. CanEnd nodes w act.root s n s.first) = λ w s n there.
-    let low = InTree-inside nodes arena act.root n there in
-    (λ h. absurd (true≢false (sym h ∙ c.forget.ensures.none n (omega (arith, low, c.requires.root)))), λ end. absurd (none_ends nodes w act.root n s end)) in
+    let row = c.descend.ensures.alone refl (λ n. false) c.forget.ensures.ended in
+    let none : (w : List ℕ) (s : Starts) (n : ℕ) (members : List Bool) → InTree nodes act.root n → slice_get nodes n ≡ Some (Set members) → IsTrue false ↔ Took nodes w act.root s s.first n members = λ w s n members there is.
+    (λ h. absurd (true≢false (sym h)), λ took. absurd (omega (arith, took.1, Enters-from nodes w act.root s n took.0 took.2))) in
     record {
       table = codes.table;
       adds = c.make_room.ensures.adds c.intern.new.self (adds_rows e c.make_room.new.self c.descend.new.rows (keeps (goal.at.returns-clause-codes c).After-descend) c.intern.new.self codes.adds);
-      names = names_map _ _ _ _ _ (λ a has. (has.0, λ w s there some. rw (has.1, has.2) (c.descend.ensures.row w s s.first (nulls w s.first there) (rw kept (none w s)) (λ h. (omega arith, some), λ h. refl)))) codes.names;
+      names = names_map _ _ _ _ _ (λ a has. (
+        has.0,
+        λ w s there some. rw (has.1, has.2)
+            (row_of_place nodes w act.root s.first s arena (inside_seen act.way.mirrored e act.root c.requires.root) act.way.mirrored true (null_in e.nodes act.kind) (λ n. false) (nulls w s.first there) ((λ h. (omega arith, some)), (λ h. refl)) (none w s) _ _ row),
+      )) codes.names;
     }

@@ -39,7 +39,7 @@ loop-here-preserved-then-not-here c =
     let m = length c.args.prepared.now.nodes in
     let cost : c.next-code.new.steps + 40 * m * c.args.at ≤ c.args.steps.now + 40 * m * (c.arrive-here-then-not-here.result.place + 1) =
     rw at.place (omega (arith, i.cost.1, up.cost.1, byte.cost.0.1, next.cost.1, pass_grows _ _ _ i.table.expr.arena.nonempty up.after)) in
-    let passes : PassIs c.args.prepared.now c.next-code.new.self c.args.text.now c.args.at c.arrive-here-then-not-here.result = goes_on _ _ _ _ _ _ _ (nat_eq place last) _ _ next.codes.adds.shape.0 (up.passes c.args.at i.passes) byte.byte
+    let passes : PassIs c.args.prepared.now c.next-code.new.self c.args.text.now c.args.at c.arrive-here-then-not-here.result = goes_on _ _ _ _ _ _ _ (nat_eq place last) _ _ c.requires.table.expr next.codes.adds.shape.0 (up.passes c.args.at i.passes) byte.byte
     ((λ h. omega (arith, eqb-true place last h, is, inside)), (λ e. eq-eqb place last (omega (arith, e, is)))) next.codes.names (at.passes c.args.at) in
     search (rules, next.codes, same_shape c.args.self.now c.loop-here.self c.next-code.new.self i.shape next.codes.adds.shape, at, passes, cost, i, up, byte, next)
 

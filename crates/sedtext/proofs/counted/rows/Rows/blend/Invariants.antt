@@ -1,0 +1,10 @@
+use Rattle.sedtext.proofs.Words.{◌+◌, ◌<◌, ◌≡◌, ◌≤◌, bit_at, blended, eqb, length, slice_index_or, ℕ}
+use Rattle.sedtext.proofs.counted.rows.Rows.blend.Given as goal
+
+abbrev pub invariant-loop-x : goal.invariant-loop-x
+invariant-loop-x l = record {
+  long : length l.words.items ≡ length l.initial.words.items;
+  met : (k : ℕ) → k < l.x → (i : ℕ) → i < 64 → eqb (bit_at (slice_index_or l.words.items (l.to + k) 0) i) 1 ≡ blended l.how (eqb (bit_at (slice_index_or l.initial.words.items (l.first + k) 0) i) 1) (eqb (bit_at (slice_index_or l.initial.words.items (l.second + k) 0) i) 1);
+  before : (k : ℕ) → k < l.to → slice_index_or l.words.items k 0 ≡ slice_index_or l.initial.words.items k 0;
+  rest : (k : ℕ) → l.to + l.x ≤ k → slice_index_or l.words.items k 0 ≡ slice_index_or l.initial.words.items k 0;
+}
