@@ -121,10 +121,6 @@ first_square m n start s a t some looks each =
     let few : 193 * n + 48 ≤ 64 * (n + 1) * (n + 1) = grind (arith, common_steps) in
     (omega (arith, looks.0, each.0), omega (arith, looks.1, each.1, search_long m n start, mul-le-mul_left n some, mul-le-mul_left m few, mul-le-mul_left (m * (64 * (n + 1) * (n + 1))) some))
 
--- and of all that the searches in a text may take together it is a part
-pub first_takes : (m n start s a t : ℕ) → 1 ≤ m → CostsWithin s a n 0 → Takes a t (search_cost m n start) → Takes s t (193 * m * (n + 1))
-first_takes m n start s a t some looks each = (omega (arith, looks.0, each.0), omega (arith, looks.1, each.1, search_long m n start, mul-le-mul_left n some))
-
 pub first_due : (m n : ℕ) (last : Option ℕ) (old mid new : Occurrences) (r : Option (ℕ × ℕ)) (s t : ℕ) → 1 ≤ m → (last ≡ None → IsTrue old.is_fresh) →
     (IsTrue old.is_fresh → owed_behind m n mid.seeking 0 + 43 * m ≤ 308 * m * (n + 1)) → new.is_fresh ≡ false → CostsWithin s t (owed_search m n last mid.seeking) (owed_after_search (owed_behind m n new.seeking) r) →
     (last ≡ None → Takes s t (193 * m * (n + 1))) → last ≡ None → TakesFirst m n new s t r

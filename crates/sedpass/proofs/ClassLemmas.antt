@@ -12,10 +12,6 @@ key_of classes members byte = 2 * at classes byte + from_bool (has members byte)
 abbrev pub AreGiven : (ℕ → ℕ) → List ℕ → List ℕ → ℕ → ℕ → Type 0
 AreGiven key numbers of count n = (b : ℕ) → b < n → (key b < 512) × (at of b ≡ at numbers (key b)) × (at of b < count)
 
--- a set parts classes
-pub finer : (classes : List ℕ) (members : List Bool) (numbers of : List ℕ) (count : ℕ) → length of ≡ 256 → count ≤ 256 → IsNumbering numbers count → AreGiven (key_of classes members) numbers of count 256 → IsFiner classes members of count
-finer classes members numbers of count wide few numbering given = search rules
-
 -- the first n of the sets part the classes, and no other byte has the class of one that is marked
 pub record AreParted (sets : List (List Bool)) (n : ℕ) (of : List ℕ) (count : ℕ) (alone : List Bool) : Type 0 where
   pub wide : length of ≡ 256

@@ -185,13 +185,6 @@ bits_agree m marks other agree = search rules
 pub row_took : (nodes : List Node) (w : List ℕ) (r p : ℕ) (s : Starts) (keeps : Bool) (entered before : ℕ → Bool) (byte : Option ℕ) → SameBytes nodes (slice_get w p) byte → RowOfPlace nodes w r s keeps p entered before → ShowTook nodes w r s (p + 1) byte entered
 row_took nodes w r p s keeps entered before byte bytes row c members inside is = search rules
 
-pub took_bits : (nodes : List Node) (w : List ℕ) (r p : ℕ) (s : Starts) (m : ℕ) (leaves : List Bool) (byte : Option ℕ) → length nodes ≡ m → ShowTook nodes w r s p byte (bits m leaves) → ShowTook nodes w r s p byte (has_mark leaves)
-took_bits nodes w r p s m leaves byte long took c members inside is = rw (← bits_here m leaves c (omega (arith, slice_get_within nodes c (Set members) is, long))) (took c members inside is)
-
--- none has ended at the first start
-pub none_ends : (nodes : List Node) (w : List ℕ) (r c : ℕ) (s : Starts) → CanEnd nodes w r s c s.first → ⊥
-none_ends nodes w r c s end = omega (arith, end.1, Enters-from nodes w r s c end.0 end.2)
-
 -- Rows of marks.
 
 pub keeps_then : (P Q R : ℕ → Type 0) (a b c : List (List Bool)) → ((q : ℕ) → R q → P q × Q q) → KeepsRows P a b → KeepsRows Q b c → KeepsRows R a c

@@ -1,5 +1,5 @@
 -- Tables of states.
-use Rattle.sedpass.proofs.Words.{InTree, at_begin, at_edge, seen-arena, Starts, IsStart, IsPlace, RowOfPlace, StateAt, Took, true≢false, byte_is_in, slice_get, middle, root_of, ◌≡◌, ℕ, ◌+◌, ◌*◌, ◌/◌, ◌%◌, ◌^◌, ◌<◌, ◌≤◌, ◌⊎◌, ◌↔◌, Bool, true, false, List, length, Option, Some, IsTrue, refl, sym, ap, ◌∙◌, subst, inl, inr, arith, min, mul-le-mul_left, slice_index_or, slice_set, replicate, rules, vec_capacity, Vec, Global, get_or_past, length-replicate, same_from_place, shl-shr, shl_whole, with_item, pow-le-pow_right, cases_eq, cases_lt, get_or-replicate, get_or-set_same, get_or-set_other, get_or_default, IsExpr, WrittenExpression, seen, old_node, KeepsRows, row_of, StateFlags, PlaceKind, Way, Beginning, Table, IsApart, nodes_of, leaves_row, ends_row, SameBytes, PassState, HasRows, state_of, FlagsShow, HasNewRow, IsMade, LeadsOn, BeginsIn, NamesState, IsNext, IsOffset, cell_of, LeadsBy, kind_number, beginning_at, beginning_of, MayBegin, HasRoom, IsRoomy, IsTable, SameRoom, SameShape, AddsStates, Codes, code_of, column_at, IsLayout, IsColumn, Layout, Act, length-set, takers_row, AreTakers, ◌≢◌, Set, ◌||◌, ◌&&◌, has_mark, bits, HasTakers, HasOrigin, IsBase, RowFollows, null_in, edge_kind, None, IsArena, seen-length, node_at, and_from, and_parts}
+use Rattle.sedpass.proofs.Words.{InTree, at_begin, at_edge, seen-arena, Starts, IsStart, IsPlace, RowOfPlace, StateAt, Took, true≢false, byte_is_in, slice_get, middle, root_of, ◌≡◌, ℕ, ◌+◌, ◌*◌, ◌/◌, ◌%◌, ◌^◌, ◌<◌, ◌≤◌, ◌⊎◌, ◌↔◌, Bool, true, false, List, length, Option, Some, IsTrue, refl, sym, ap, ◌∙◌, subst, inl, inr, arith, min, mul-le-mul_left, slice_index_or, slice_set, replicate, rules, vec_capacity, Vec, Global, get_or_past, length-replicate, same_from_place, shl-shr, shl_whole, with_item, pow-le-pow_right, cases_eq, cases_lt, get_or-replicate, get_or-set_same, get_or-set_other, get_or_default, IsExpr, WrittenExpression, seen, old_node, KeepsRows, row_of, StateFlags, PlaceKind, Way, Beginning, Table, IsApart, nodes_of, leaves_row, ends_row, SameBytes, PassState, HasRows, state_of, FlagsShow, HasNewRow, IsMade, LeadsOn, BeginsIn, NamesState, IsNext, IsOffset, cell_of, LeadsBy, kind_number, beginning_at, beginning_of, MayBegin, HasRoom, IsRoomy, IsTable, SameRoom, SameShape, AddsStates, Codes, code_of, column_at, IsLayout, IsColumn, Layout, Act, length-set, takers_row, AreTakers, ◌≢◌, Set, ◌||◌, ◌&&◌, has_mark, bits, HasTakers, HasOrigin, IsOrigin, IfSome, IsBase, RowFollows, null_in, edge_kind, None, IsArena, seen-length, node_at, and_from, and_parts}
 use Rattle.sedpass.specs.Classes.{AreAlike}
 use Rattle.sedpass.proofs.ActLemmas.{same_truth}
 use Rattle.sedpass.proofs.LeaveLemmas.{twice}
@@ -134,17 +134,13 @@ module _ (p : WrittenExpression) (t t' : Table) (adds : AddsStates (length p.nod
 
   -- the origin is one still
   pub origin_more : t'.origin ≡ t.origin → HasOrigin p t → HasOrigin p t'
-  origin_more same has = rw same (IfSome_then t.origin has (λ q is. let kept = adds.kept epoch q is.0 in let up = (adds.grows epoch).0 in let low = is.0 in (
-    omega arith,
-    ap (λ (a : PassState). a.root) kept ∙ is.1,
-    subst (λ (a : PassState). RowFollows (nodes_of t'.way p) (root_of p) t'.way.mirrored t'.way.all_starts (null_in p.nodes middle) (λ c. false) a.entered a.ended) (sym kept)
-        (subst (λ (x : Way). RowFollows (nodes_of x p) (root_of p) x.mirrored x.all_starts (null_in p.nodes middle) (λ c. false) (state_of m t q).entered (state_of m t q).ended) (sym adds.shape.0) is.2),
-  )))
+  origin_more same has = subst (λ (o : Option ℕ). IfSome o (NamesState m t' (IsOrigin p t'.way))) (sym same)
+      (IfSome_then t.origin has (λ v names. names_map m t' (IsOrigin p t.way) (IsOrigin p t'.way) v (λ a is. subst (λ (x : Way). IsOrigin p x a) (sym adds.shape.0) is) (names_more (IsOrigin p t.way) v names)))
 
   -- the table is right, if each state, cell and beginning is that isn't as it was
   pub table_more : IsTable p t → HasRoom m t' → ((q : ℕ) → q < t'.count → (q < t.count) ⊎ ((state_of m t' q).root < m)) →
       ((q k : ℕ) → q < t'.count → k < 2 * t.layout.columns → 0 < cell_of t' q k → ((q < t.count) × (cell_of t' q k ≡ cell_of t q k)) ⊎ NamesState m t' (LeadsBy p t' q k) (cell_of t' q k)) →
-      ((root : ℕ) (kind : PlaceKind) → (beginning_of t' (beginning_at t.way.all_starts root kind) ≡ beginning_of t (beginning_at t.way.all_starts root kind)) ⊎ Begun t' t'.way root kind) → HasTakers p t' → HasOrigin p t' → IsTable p t'
+      ((root : ℕ) (kind : PlaceKind) → (beginning_of t' (beginning_at t.way.all_starts root kind) ≡ beginning_of t (beginning_at t.way.all_starts root kind)) ⊎ Begun t' t'.way root kind) → HasTakers p t' → (t'.origin ≡ t.origin) ⊎ HasOrigin p t' → IsTable p t'
   table_more table room roots cells begins takers origin = let narrow = λ (k : ℕ). subst (λ (l : Layout). k < 2 * l.columns) adds.shape.2 in record {
     expr = table.expr;
     room = room;
@@ -156,7 +152,7 @@ module _ (p : WrittenExpression) (t t' : Table) (adds : AddsStates (length p.nod
     ];
     begun = λ root kind. elim (begins root kind) [ inl old ↦ begun_more root kind old (table.begun root kind) | inr new ↦ new ];
     takers = takers;
-    origin = origin;
+    origin = elim origin [ inl same ↦ origin_more same table.origin | inr new ↦ new ];
   }
 
 -- one element is set
@@ -164,18 +160,18 @@ one_set : {A : Type 0} (d : A) (items : List A) (at : ℕ) (x : A) (i : ℕ) →
 one_set d items at x i inside = search (rules, cases_eq i at, get_or-set_same, get_or-set_other)
 
 -- what a table names, where other cells and beginnings are noted, and an origin
-module _ (p : WrittenExpression) (t : Table) (cells : Vec ℕ Global) (beginnings : Vec Beginning Global) (origin : Option ℕ) (P Q : PassState → Type 0) (v : ℕ) (up : (a : PassState) → P a → Q a) where
+module _ (p : WrittenExpression) (t : Table) (cells : Vec ℕ Global) (beginnings : Vec Beginning Global) (links : Vec ℕ Global) (origin : Option ℕ) (P Q : PassState → Type 0) (v : ℕ) (up : (a : PassState) → P a → Q a) where
   abbrev noted : Table
-  noted = record t { cells = cells; beginnings = beginnings; origin = origin }
+  noted = record t { cells = cells; beginnings = beginnings; links = links; origin = origin }
 
-  names_noted : NamesState (length p.nodes) t P v → NamesState (length p.nodes) noted Q v
+  pub names_noted : NamesState (length p.nodes) t P v → NamesState (length p.nodes) noted Q v
   names_noted n = record { to = n.to; there = n.there; flags = n.flags; shown = n.shown; code = n.code; is = up (state_of (length p.nodes) t n.to) n.is }
 
   coded : (old : Table) → SameShape t noted → Codes p old t P v → IsTable p noted → Codes p old noted Q v
   coded old same codes table = let adds = codes.adds in search (rules, names_noted)
 
 pub codes_map : (p : WrittenExpression) (old t : Table) (P Q : PassState → Type 0) (v : ℕ) → ((a : PassState) → P a → Q a) → Codes p old t P v → Codes p old t Q v
-codes_map p old t P Q v up codes = coded p t t.cells t.beginnings t.origin P Q v up old (refl, refl, refl, refl, refl) codes codes.table
+codes_map p old t P Q v up codes = coded p t t.cells t.beginnings t.links t.origin P Q v up old (refl, refl, refl, refl, refl) codes codes.table
 
 module _ (p : WrittenExpression) (old t : Table) where
   -- one more cell is filled
@@ -190,16 +186,16 @@ module _ (p : WrittenExpression) (old t : Table) where
       let there = offset_more p old t codes.adds epoch offset from in
       let narrow : k < 2 * t.layout.columns = search rules in
       let inside : offset + k < length t.cells.items = omega (arith, there.1, cell_inside size q k t.count (2 * t.layout.columns) (length t.cells.items) there.0 narrow table.layout.fits has.cells) in
-      let here = names_noted p t cells t.beginnings t.origin (IsNext p t offset byte edge) (LeadsBy p t q k) v
+      let here = names_noted p t cells t.beginnings t.links t.origin (IsNext p t offset byte edge) (LeadsBy p t q k) v
       (λ b on o end few at.
       let one = column_apart t.layout.columns (slice_index_or t.layout.classes byte 0) (slice_index_or t.layout.classes o 0) edge end column.0 at.0 (sym column.1 ∙ at.1) in
       leads_same p t.way (state_of (length p.nodes) t q) b byte o end (table.layout.classes o byte few small one.0) (subst (λ x. IsNext p t offset byte x b) (sym one.1) on))
       (names_moved p old t codes.adds epoch (λ w a b. LeadsOn p w a byte edge b) offset v from.0 codes.names) in
-      coded p t cells t.beginnings t.origin _ _ v (λ a is. is) old (refl, refl, refl, refl, refl) codes (table_more p t _ (search rules) refl table (search (rules, length-set)) (λ x low. inl low)
+      coded p t cells t.beginnings t.links t.origin _ _ v (λ a is. is) old (refl, refl, refl, refl, refl) codes (table_more p t _ (search rules) refl table (search (rules, length-set)) (λ x low. inl low)
       (λ x j less near some. elim (one_set 0 t.cells.items (offset + k) v (x * size + j) inside) [
         | inl e ↦ let at = same_from_place x j q k size (omega arith) (omega arith) (omega (arith, e.0, there.1)) in inr (rw (e.1, at.1, at.0) here)
         | inr other ↦ inl (less, other)
-      ]) (λ root kind. inl refl) table.takers table.origin)
+      ]) (λ root kind. inl refl) table.takers (inl refl))
 
   -- one more beginning is noted
   pub note_beginning : (root code : ℕ) (kind : PlaceKind) → MayBegin p old.way root → t.epoch < 4294967294 → Codes p old t (BeginsIn (nodes_of old.way p) old.way root kind) code →
@@ -216,21 +212,28 @@ module _ (p : WrittenExpression) (old t : Table) where
       let past : (i : ℕ) → (slice_index_or beginnings.items i none).epoch ≤ t.epoch = λ i. let e = one i in search (rules, has.past) in
       let early : (i : ℕ) → (slice_index_or beginnings.items i none).epoch < 4294967294 = λ i. let e = one i in search (rules, has.early) in
       let long : (x : ℕ) (other : PlaceKind) → x < t.marks → beginning_at t.way.all_starts x other < length beginnings.items = λ x other low. omega (arith, length-set t.beginnings.items at fresh, has.begins x other low) in
-      coded p t t.cells beginnings t.origin _ _ code (λ a is. is) old (refl, refl, refl, refl, refl) codes (table_more p t _ (search rules) refl table (search rules) (λ x low. inl low) (λ q k low near some. inl (low, refl))
+      coded p t t.cells beginnings t.links t.origin _ _ code (λ a is. is) old (refl, refl, refl, refl, refl) codes (table_more p t _ (search rules) refl table (search rules) (λ x low. inl low) (λ q k low near some. inl (low, refl))
       (λ x other. elim (one (beginning_at t.way.all_starts x other)) [
         | inl e ↦ inr (λ may' now.
             let same : (x ≡ root) × (other ≡ kind) = let at = e.0 in search (rules, few_kinds) in
-            rw (ap (λ (b : Beginning). b.code) e.1, same.0, same.1) (names_noted p t t.cells beginnings t.origin _ (BeginsIn (nodes_of t.way p) t.way root kind) code (λ a. subst (λ (way : Way). BeginsIn (nodes_of way p) way root kind a) (sym codes.adds.shape.0)) codes.names))
+            rw (ap (λ (b : Beginning). b.code) e.1, same.0, same.1) (names_noted p t t.cells beginnings t.links t.origin _ (BeginsIn (nodes_of t.way p) t.way root kind) code (λ a. subst (λ (way : Way). BeginsIn (nodes_of way p) way root kind a) (sym codes.adds.shape.0)) codes.names))
         | inr old ↦ inl old
-      ]) table.takers table.origin)
+      ]) table.takers (inl refl))
 
--- another state is the origin
-pub with_origin : (p : WrittenExpression) (old t : Table) (P : PassState → Type 0) (v q : ℕ) → Codes p old t P v → HasOrigin p (record t { origin = Some q }) → Codes p old (record t { origin = Some q }) P v
-with_origin p old t P v q codes origin =
+-- what is noted of states changes nothing else
+pub with_links : (p : WrittenExpression) (old t : Table) (P : PassState → Type 0) (v : ℕ) (links : Vec ℕ Global) → length links.items ≡ t.room → Codes p old t P v → Codes p old (record t { links = links }) P v
+with_links p old t P v links long codes =
     let table = codes.table in
     let has = table.room in
-    coded p t t.cells t.beginnings (Some q) P P v (λ a is. is) old (refl, refl, refl, refl, refl) codes
-    (table_more p t _ (search rules) refl table (search rules) (λ x low. inl low) (λ x k low near some. inl (low, refl)) (λ root kind. inl refl) table.takers origin)
+    coded p t t.cells t.beginnings links t.origin P P v (λ a is. is) old (refl, refl, refl, refl, refl) codes
+    (table_more p t _ (search rules) refl table (search rules) (λ x low. inl low) (λ x k low near some. inl (low, refl)) (λ root kind. inl refl) table.takers (inl refl))
+
+pub with_origin : (p : WrittenExpression) (old t : Table) (P : PassState → Type 0) (v : ℕ) → Codes p old t P v → HasOrigin p (record t { origin = Some v }) → Codes p old (record t { origin = Some v }) P v
+with_origin p old t P v codes origin =
+    let table = codes.table in
+    let has = table.room in
+    coded p t t.cells t.beginnings t.links (Some v) P P v (λ a is. is) old (refl, refl, refl, refl, refl) codes
+    (table_more p t _ (search rules) refl table (search rules) (λ x low. inl low) (λ x k low near some. inl (low, refl)) (λ root kind. inl refl) table.takers (inr origin))
 
 -- no state was added
 pub adds_none : (m : ℕ) (t : Table) → AddsStates m t t
@@ -250,9 +253,9 @@ leads_on act a b byte edge root kind made = (made.root ∙ root, rw (← root, �
 -- The state with whose row an act begins.
 
 -- one that follows from no leaf
-pub base_alone : (act : Act) (before after : List Bool) (a : PassState) → ((c : ℕ) → has_mark before c ≡ has_mark after c) →
+pub base_alone : (act : Act) (before after : List Bool) (a : PassState) → a.root ≡ act.root → ((c : ℕ) → has_mark before c ≡ has_mark after c) →
     RowFollows (nodes_of act.way act.prepared.now) act.root act.way.mirrored act.way.all_starts (null_in act.prepared.now.nodes act.kind) (λ c. false) a.entered a.ended → IsBase act before after a
-base_alone act before after a same follows = record { took = λ c. false; follows = follows; others = λ c there. same c }
+base_alone act before after a root same follows = record { root = root; took = λ c. false; follows = follows; others = λ c there. same c }
 
 -- that to which a state leads of which fewer leaves took the byte
 pub base_next : (act : Act) (byte : ℕ) (edge : Bool) (leaves takers before after : List Bool) (a b : PassState) → a.root ≡ act.root → act.kind ≡ edge_kind act.way.mirrored edge → act.root < length act.prepared.now.nodes → IsArena (nodes_of act.way act.prepared.now) →
@@ -264,6 +267,7 @@ base_next act byte edge leaves takers before after a b root kind inside arena en
     let long = seen-length act.way.mirrored e in
     let took = leads.1.0 in
     record {
+      root = leads.0 ∙ root;
       took = took;
       follows = subst (λ (r : ℕ). RowFollows nodes r act.way.mirrored act.way.all_starts (null_in e.nodes act.kind) took b.entered b.ended) root (subst (λ (k : PlaceKind). RowFollows nodes a.root act.way.mirrored act.way.all_starts (null_in e.nodes k) took b.entered b.ended) (sym kind) leads.1.2);
       others = λ c there.
@@ -318,9 +322,9 @@ pub none_noted : (items : List Beginning) (n : ℕ) → items ≡ replicate n (r
 none_noted items n is i = search (rules, same_all)
 
 -- a table that has all its parts, and no state, has all its room
-pub has_parts : (t : Table) → t.count ≡ 0 → HasRows t.room t.marks t.rows t.roots.items → t.layout.shift ≤ 8 → 2 ^ t.layout.shift ≤ 4 * (t.marks + 1) → t.room * min 256 (4 * (t.marks + 1)) ≤ vec_capacity t.cells → 2 ≤ length t.index.items →
+pub has_parts : (t : Table) → t.count ≡ 0 → HasRows t.room t.marks t.rows t.roots.items → t.layout.shift ≤ 8 → 2 ^ t.layout.shift ≤ 4 * (t.marks + 1) → t.room * min 256 (4 * (t.marks + 1)) ≤ vec_capacity t.cells → length t.links.items ≡ t.room → 2 ≤ length t.index.items →
     ((root : ℕ) (kind : PlaceKind) → root < t.marks → beginning_at t.way.all_starts root kind < length t.beginnings.items) → ((i : ℕ) → (beginning_of t i).epoch ≡ 0) → HasRoom t.marks t
-has_parts t none rows small tight reserved index begins noted = search (rules, pow-le-pow_right, mul-le-mul_left)
+has_parts t none rows small tight reserved links index begins noted = search (rules, pow-le-pow_right, mul-le-mul_left)
 
 -- a table has all its room again, after it served an expression
 pub roomy_still : (m : ℕ) (p : WrittenExpression) (t t' : Table) → IsRoomy m t → SameRoom t t' → IsTable p t' → IsRoomy m t'
@@ -347,10 +351,7 @@ module _ (p : WrittenExpression) (t : Table) (rows : List (List Bool)) (keeps : 
       let old = table.room in
       let same = λ (q : ℕ) (behind : leaves_row t.room ≤ q). keeps.same q (behind_states t.count t.room q behind some) in
       table_more p t with_rows same_states refl table (search rules) (λ q low. inl low) (λ q k low near some. inl (low, refl)) (λ root kind. inl refl)
-      (λ byte lt low h. rw (same (takers_row t.room (slice_index_or t.layout.classes byte 0)) (omega arith)) (table.takers byte lt low h)) (origin_more p t with_rows same_states refl refl table.origin)
-
-  pub names_rows : (P : PassState → Type 0) (v : ℕ) → NamesState (length p.nodes) t P v → NamesState (length p.nodes) with_rows P v
-  names_rows P v n = names_more p t with_rows same_states refl P v n
+      (λ byte lt low h. rw (same (takers_row t.room (slice_index_or t.layout.classes byte 0)) (omega arith)) (table.takers byte lt low h)) (inl refl)
 
   pub adds_rows : (new : Table) → AddsStates (length p.nodes) with_rows new → AddsStates (length p.nodes) t new
   adds_rows new adds = record { shape = adds.shape; grows = adds.grows; kept = λ e q low. adds.kept e q low ∙ same_states.kept refl q low; full = adds.full; forgot = adds.forgot }
@@ -374,4 +375,4 @@ module _ (p : WrittenExpression) (t : Table) (rows : List (List Bool)) (z takers
   }
 
   pub table_notes : IsTable p t → HasTakers p with_notes → IsTable p with_notes
-  table_notes table right = let old = table.room in table_more p t with_notes noted_states refl table (search rules) (λ q low. inl low) (λ q k low near some. inl (low, refl)) (λ root kind. inl refl) right (origin_more p t with_notes noted_states refl refl table.origin)
+  table_notes table right = let old = table.room in table_more p t with_notes noted_states refl table (search rules) (λ q low. inl low) (λ q k low near some. inl (low, refl)) (λ root kind. inl refl) right (inl refl)

@@ -91,6 +91,7 @@ pub record IsMade (act : Act) (byte : ℕ) (leaves : ℕ → Bool) (a : PassStat
 
 -- the row of the state follows from some leaves that took the byte, and the marks are those of the others
 pub record IsBase (act : Act) (before after : List Bool) (a : PassState) : Type 0 where
+  pub root : a.root ≡ act.root
   pub took : ℕ → Bool
   pub follows : RowFollows (nodes_of act.way act.prepared.now) act.root act.way.mirrored act.way.all_starts (null_in act.prepared.now.nodes act.kind) took a.entered a.ended
   pub others : (c : ℕ) → InTree (nodes_of act.way act.prepared.now) act.root c → has_mark before c ≡ (took c || has_mark after c)
@@ -117,6 +118,11 @@ HasNewRow m t root = HasRow root (state_of m t t.count).entered (state_of m t t.
 -- the state comes after the one whose cells begin at the offset, and this byte, where the text's edge comes after it, or doesn't
 abbrev pub IsNext : WrittenExpression → Table → (offset byte : ℕ) → Bool → PassState → Type 0
 IsNext e t offset byte edge = LeadsOn e t.way (state_of (length e.nodes) t (offset / 2 ^ t.layout.shift)) byte edge
+
+-- the state is one of the act's root, and the code that of the state to which the byte leads from it, at places of the act's kind
+abbrev pub LinksTo : Act → ℕ → Table → ℕ → ℕ → Type 0
+LinksTo act byte t q v = let m = length act.prepared.now.nodes in
+    (q < t.count) × ((state_of m t q).root ≡ act.root) × NamesState m t (LeadsOn act.prepared.now t.way (state_of m t q) byte (act.kind.begin || act.kind.end)) v
 
 -- Cells.
 
@@ -168,6 +174,7 @@ pub record HasRoom (m : ℕ) (t : Table) : Type 0 where
   -- no beginning is of a later epoch, nor of one of the last two
   pub past : (i : ℕ) → (beginning_of t i).epoch ≤ t.epoch
   pub early : (i : ℕ) → (beginning_of t i).epoch < 4294967294
+  pub links : length t.links.items ≡ t.room
 
 -- the table has all its room for expressions of at most m nodes, however the cells of a state are laid out
 abbrev pub IsRoomy : ℕ → Table → Type 0
@@ -178,9 +185,12 @@ abbrev pub middle : PlaceKind
 middle = record { begin = false; end = false }
 
 -- the row of the state follows where no leaf took a byte, at such a place
+abbrev pub IsOrigin : WrittenExpression → Way → PassState → Type 0
+IsOrigin e way a = (a.root ≡ root_of e) × RowFollows (nodes_of way e) (root_of e) way.mirrored way.all_starts (null_in e.nodes middle) (λ c. false) a.entered a.ended
+
+-- that state is named, if there is one
 abbrev pub HasOrigin : WrittenExpression → Table → Type 0
-HasOrigin e t = IfSome t.origin (λ q. (q < t.count) × ((state_of (length e.nodes) t q).root ≡ root_of e) ×
-    RowFollows (nodes_of t.way e) (root_of e) t.way.mirrored t.way.all_starts (null_in e.nodes middle) (λ c. false) (state_of (length e.nodes) t q).entered (state_of (length e.nodes) t q).ended)
+HasOrigin e t = IfSome t.origin (NamesState (length e.nodes) t (IsOrigin e t.way))
 
 -- the row of the leaves that take bytes of a class
 abbrev pub takers_row : ℕ → ℕ → ℕ

@@ -282,7 +282,7 @@ fn lay(nodes: usize, base: Option<usize>, leaves: usize, rows: &mut Rows, steps:
     match base {
         Some(state) => {
             let row = leaves_row(state);
-            rows.blend(Blend::Both, leaves, row, row, nodes, steps)
+            rows.blend(Blend::First, leaves, row, row, nodes, steps)
         }
         None => rows.clear(leaves, nodes, steps),
     }

@@ -3,12 +3,13 @@
 //! A state is the row of a place and the root of its pass, so one table serves all regions of an expression. A cell is
 //! filled when it is first asked for, by one act. A full table is emptied, and the pass goes on: so an unlucky text costs
 //! an act and a state for each byte, never more.
-ghost use Rattle.std.specs.Prelude.{◌≡◌, ◌&&◌, ◌||◌, ℕ, ◌+◌, ◌-◌, ◌*◌, ◌/◌, ◌^◌, ◌<◌, ◌≤◌, length, IfOk, IfSome, IsTrue, None, is_some, eqb, false, ◌≢◌, vec_len};
+ghost use Rattle.std.specs.Prelude.{◌≡◌, ◌&&◌, ◌||◌, ℕ, ◌+◌, ◌-◌, ◌*◌, ◌/◌, ◌^◌, ◌<◌, ◌≤◌, length, IfOk, IfSome, IsTrue, None, Some, is_some, eqb, false, ◌≢◌, vec_len};
 ghost use Rattle.std.specs.Int.{bit_at};
 ghost use Rattle.sedre.specs.Steps.{Takes, TakesAtLeast};
 ghost use Rattle.sedtext.specs.Words.{KeepsRows, row_of};
 ghost use Rattle.sedpass.specs.Rows.{AreTakers, nodes_of, IsApart, bits, has_mark, leaves_row, root_of};
-ghost use Rattle.sedpass.specs.Table.{IsBase, middle, state_of, takers_row, HasNewRow, IsMade, BeginsIn, NamesState, edge_kind, IsNext, IsOffset, beginning_at, MayBegin, IsRoomy, IsTable, SameRoom, SameShape, AddsStates, Codes};
+ghost use Rattle.sedpass.specs.declared.cells.StateFlags.{StateFlags};
+ghost use Rattle.sedpass.specs.Table.{IsBase, LinksTo, code_of, middle, state_of, takers_row, HasNewRow, IsMade, BeginsIn, NamesState, edge_kind, IsNext, IsOffset, beginning_at, MayBegin, IsRoomy, IsTable, SameRoom, SameShape, AddsStates, Codes};
 
 use crate::cells::{Layout, MOST_CELLS, StateFlags, code_of, empty_cells, offset_of};
 use crate::nodes::{PlaceKind, Prepared};
@@ -67,8 +68,10 @@ pub struct Table {
     pub beginnings: Vec<Beginning>,
     /// A bit for each class of bytes that has cells: whether a row behind those of the states has the leaves that take them.
     has_takers: u128,
-    /// The state at places between the edges where nothing but a match's beginning goes on, if there is one yet.
-    origin: Option<usize>,
+    /// For each state one of which fewer leaves may take a byte. A wrong number costs time, never an answer.
+    links: Vec<usize>,
+    /// The code of the state at places between the edges where nothing but a match's beginning goes on, if there is one yet.
+    origin: Option<u32>,
 }
 
 /// With fewer nodes each act finds out anew what a match's beginning leads to.
@@ -147,6 +150,7 @@ impl Table {
             index: vec![in alloc; Slot { epoch: 0, state: 0 }; 2 * room + 2]?,
             beginnings: vec![in alloc; Beginning { epoch: 0, code: 0 }; kinds]?,
             has_takers: 0,
+            links: vec![in alloc; 0; room]?,
             origin: None,
         })
     }
@@ -343,20 +347,51 @@ impl Table {
         true
     }
 
-    /// The state with whose row an act can begin, if there is one: that to which the origin leads by the byte, where this is known, or the
-    /// origin itself. The leaves are taken off from which its row follows. `takers` is the row of the leaves that take the byte.
+    /// The code of the state to which an act's byte leads from a state, if it is one of the act's root and this is known.
+    fn next_of(&self, act: Act, byte: u8, state: usize) -> Option<u32>
+        requires table { IsTable act.prepared.now self.now }
+        ensures { IfSome result (LinksTo act.entry byte self.now state) }
+    {
+        if state >= self.count || self.roots[state] != act.root {
+            return None;
+        }
+        let edge = act.kind.begin | act.kind.end;
+        let code = self.known(act.prepared, state << self.layout.shift, byte, edge);
+        if code == 0 { None } else { Some(code) }
+    }
+
+    /// A state of which fewer leaves may take an act's byte than of the state `from`, and the code of that to which it leads, if this is
+    /// known.
+    fn link(&self, act: Act, byte: u8, from: usize) -> Option<(usize, u32)>
+        requires table { IsTable act.prepared.now self.now }
+        requires from { from < self.now.room }
+        ensures { IfSome result (λ link. LinksTo act.entry byte self.now link.0 link.1) }
+    {
+        let link = self.links[from];
+        if let Some(code) = self.next_of(act, byte, link) {
+            return Some((link, code));
+        }
+        let origin = self.state_at(offset_of(self.origin?));
+        let code = self.next_of(act, byte, origin)?;
+        Some((origin, code))
+    }
+
+    /// The code of a state with whose row an act can begin, if there is one: that to which another one leads, where this is known, or the
+    /// origin's. The leaves are taken off from which its row follows. `takers` is the row of the leaves that take the byte.
     fn base(
         &mut self,
         act: Act,
         byte: u8,
         takers: Option<usize>,
+        from: usize,
         steps: &mut Steps,
-    ) -> Option<usize>
+    ) -> Option<u32>
         requires table { IsTable act.prepared.now self.old }
         requires way { act.way ≡ self.old.way }
         requires root { act.root < length act.prepared.now.nodes }
         requires kind { act.kind ≡ edge_kind act.way.mirrored (act.kind.begin || act.kind.end) }
         requires room { self.old.count < self.old.room }
+        requires from { from < self.old.room }
         requires takers { IfSome takers (λ q. (leaves_row self.old.room ≤ q) × (q < length self.old.rows) × (act.root ≡ root_of act.prepared.now) ×
             AreTakers (nodes_of act.way act.prepared.now) byte (row_of self.old.rows q)) }
         ensures table { IsTable act.entry.prepared.now self.new }
@@ -364,23 +399,53 @@ impl Table {
         ensures rows { KeepsRows (λ q. IsApart 2 self.old.count q) self.old.rows self.new.rows }
         ensures count { self.new.count ≡ self.old.count }
         ensures shape { SameShape self.old self.new }
-        ensures base { IfSome result (λ q. (q < self.new.count) × IsBase act.entry (row_of self.old.rows 1) (row_of self.new.rows 1) (state_of (length act.entry.prepared.now.nodes) self.new q)) }
+        ensures base { IfSome result (NamesState (length act.entry.prepared.now.nodes) self.new (IsBase act.entry (row_of self.old.rows 1) (row_of self.new.rows 1))) }
         ensures less { (c : ℕ) → c < length act.entry.prepared.now.nodes → IsTrue (has_mark (row_of self.new.rows 1) c) → IsTrue (has_mark (row_of self.old.rows 1) c) }
         ensures none { result ≡ None → row_of self.new.rows 1 ≡ row_of self.old.rows 1 }
         ensures cost { Takes steps.old steps.new (4 * length act.entry.prepared.now.nodes) }
-        ensures few { takers ≡ None → steps.new ≡ steps.old }
+        ensures few { takers ≡ None → (steps.new ≡ steps.old) × (result ≡ None) }
     {
-        let (takers, origin) = (takers?, self.origin?);
-        let edge = act.kind.begin | act.kind.end;
-        let code = self.known(act.prepared, origin << self.layout.shift, byte, edge);
-        if code == 0 {
-            return if edge { None } else { Some(origin) };
-        }
-        if self.take_off(act.prepared, origin, takers, steps) {
-            Some(self.state_at(offset_of(code)))
+        let takers = takers?;
+        let Some((link, code)) = self.link(act, byte, from) else {
+            // Its row follows from no leaf.
+            return if act.kind.begin | act.kind.end {
+                None
+            } else {
+                self.origin
+            };
+        };
+        if self.take_off(act.prepared, link, takers, steps) {
+            Some(code)
         } else {
             None
         }
+    }
+
+    /// The code of the state with whose row an act begins, if nothing else took the byte: then it leads there.
+    fn shared(&self, prepared: &Prepared, base: Option<u32>, steps: &mut Steps) -> Option<u32>
+        requires table { IsTable prepared.now self.now }
+        ensures shared { IfSome result (λ v. (base ≡ Some v) × ((c : ℕ) → c < length prepared.now.nodes → has_mark (row_of self.now.rows 1) c ≡ false)) }
+        ensures cost { Takes steps.old steps.new (length prepared.now.nodes) }
+        ensures counts { IfSome result (λ v. TakesAtLeast steps.old steps.new (length prepared.now.nodes)) }
+        ensures few { base ≡ None → steps.new ≡ steps.old }
+    {
+        let code = base?;
+        if self.rows.is_clear(ENDED, prepared.nodes(), steps) {
+            Some(code)
+        } else {
+            None
+        }
+    }
+
+    /// The number of the state with a code, if there is one.
+    fn named(&self, code: Option<u32>) -> Option<usize>
+        requires { self.now.layout.shift ≤ 8 }
+        ensures named { IfSome result (λ q. IfSome code (λ v. (o : ℕ) × (q ≡ o / 2 ^ self.now.layout.shift) ×
+            ((flags : StateFlags) (offset : ℕ) → offset < 536870912 → v ≡ code_of flags offset → o ≡ offset))) }
+        ensures none { result ≡ None → code ≡ None }
+        ensures some { code ≡ None → result ≡ None }
+    {
+        Some(self.state_at(offset_of(code?)))
     }
 
     /// Whether no leaf took the byte, at a place between the edges, in an act that has a row of takers.
@@ -413,13 +478,19 @@ impl Table {
         let takers = self.find_takers(act, byte, steps);
         take(act, byte, takers, from, &mut self.rows, steps);
         let alone = self.is_alone(act, takers, steps);
-        let base = self.base(act, byte, takers, steps);
+        let base = self.base(act, byte, takers, from, steps);
+        if let Some(code) = self.shared(act.prepared, base, steps) {
+            return code;
+        }
+        let base = self.named(base);
         ascend(act, &mut self.rows, steps);
         let to = self.count;
         descend(act, act.way.all_starts, base, to, &mut self.rows, steps);
         let code = self.intern(act.prepared, act.root, steps);
+        let state = self.state_at(offset_of(code));
+        self.links[state] = base.unwrap_or(state);
         if alone {
-            self.origin = Some(self.state_at(offset_of(code)));
+            self.origin = Some(code);
         }
         code
     }

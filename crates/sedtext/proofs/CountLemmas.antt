@@ -23,8 +23,3 @@ least_up s a b n before grows = omega (arith, before, grows)
 pub least_less : (s t n k : ℕ) → TakesAtLeast s t n → k ≤ n → TakesAtLeast s t k
 unfolding TakesAtLeast
 least_less s t n k before less = omega (arith, before, less)
-
--- as many looks as were counted, or fewer
-pub least_counted : (s t n m : ℕ) → TakesExactly s t n → m ≤ n → TakesAtLeast s t m
-unfolding TakesAtLeast IsCounted
-least_counted s t n m is few = omega (arith, is.1, few)

@@ -111,3 +111,19 @@ copy-requires-then-place-end-clause-there c =
     let low = passes.there.0 in
     let inside : q < length c.loop-place.table.rows = omega (arith, c.ends_row.ensures, c.state_at-state.ensures, low, room.count, room.rows.rows) in
     omega (arith, room.rows.long q inside, room.marks, c.nodes-nodes.ensures.value)
+
+pub copy-requires-clause-inside : goal.copy-requires-clause-inside
+copy-requires-clause-inside c =
+    let passes = c.loop-place.invariant.passes in
+    let block = (c.loop-place.place - 1) / (c.loop-place.table.room - 1) in
+    let low = passes.region.room.blocks block (omega (arith, div-mul-le_self (c.loop-place.place - 1) (c.loop-place.table.room - 1), passes.within, passes.region.inside)) in
+    omega (arith, c.nodes-nodes.ensures.value, passes.region.room.marks (2 * block) (omega (arith, low)))
+
+pub copy-requires-clause-there : goal.copy-requires-clause-there
+copy-requires-clause-there c =
+    let passes = c.loop-place.invariant.passes in
+    let room = passes.region.table.room in
+    let q = c.leaves_row.result in
+    let low = passes.there.0 in
+    let inside : q < length c.loop-place.table.rows = omega (arith, c.leaves_row.ensures, c.state_at-state.ensures, low, room.count, room.rows.rows) in
+    omega (arith, room.rows.long q inside, room.marks, c.nodes-nodes.ensures.value)

@@ -1,5 +1,4 @@
-use Rattle.std.proofs.lemmas.Option.{IfSome_then}
-use Rattle.sedpass.proofs.Words.{◌∙◌, get_or-set_other, ◌+◌, ◌*◌, ◌^◌, ◌<◌, ◌≤◌, length, refl, inl, inr, arith, rules, cases_eq, shl_whole, length-set}
+use Rattle.sedpass.proofs.Words.{◌+◌, ◌*◌, ◌^◌, ◌<◌, ◌≤◌, length, refl, inl, inr, arith, rules, cases_eq, shl_whole, length-set}
 use Rattle.sedpass.proofs.TableLemmas.{shifted, cell_inside, table_more}
 use Rattle.sedpass.proofs.table.Table.add.Goals as goal
 
@@ -18,4 +17,4 @@ returns-clause-table c =
       | inr ne ↦
           let less : q < T.count = omega (arith, ne) in
           inl (less, c.empty_cells.ensures.before (q * size + k) (omega (arith, cell_inside size q k T.count (2 * T.layout.columns) (T.count * size) less low t.layout.fits (omega arith), place)))
-    ]) (λ root kind. inl refl) t.takers (IfSome_then T.origin t.origin (λ q is. (omega (arith, is.0), get_or-set_other T.roots.items T.count q c.args.root 0 (λ e. omega (arith, e, is.0)) ∙ is.1, is.2)))
+    ]) (λ root kind. inl refl) t.takers (inl refl)

@@ -54,3 +54,8 @@ returns-clause-found c all = end_found c.args.prepared.now c.args.text.now c.arg
 
 pub returns-clause-passes : goal.returns-clause-passes
 returns-clause-passes c = end_passes c.args.prepared.now c.args.text.now c.args.at _ _ _ _ _ _ _ c.requires.from _ c.loop-here.invariant.passes.last (seen c) c.loop-here.invariant.counts
+
+pub loop-here-smaller : goal.loop-here-smaller
+loop-here-smaller c =
+    let moved = c.follow-here.ensures.moved (not-false c.follow-here.result.over c.if-not-here.false) in
+    omega (arith, moved, c.follow-here.ensures.within, c.len-last.ensures.is)

@@ -1,0 +1,18 @@
+use Rattle.sedpass.proofs.Words.{arith, get_or_default, refl, shl-shr, slice_index_or, ◌<◌, ◌≡◌}
+use Rattle.sedpass.proofs.TableLemmas.{shifted}
+use Rattle.sedpass.proofs.table.Table.next_of.Goals as goal
+
+pub known-code-requires-clause-offset : goal.known-code-requires-clause-offset
+known-code-requires-clause-offset c =
+    let t = c.args.self.now in
+    let shift = t.layout.shift in
+    let lt : c.args.state < t.count = omega (arith, c.if-state-self.false) in
+    rw (shifted c.args.state t.room shift (omega (arith, lt, c.requires.table.room.count)) c.requires.table.room.rows.few c.requires.table.layout.small, shl-shr c.args.state shift) (lt, refl)
+
+pub returns-else-code-eq0 : goal.returns-else-code-eq0
+returns-else-code-eq0 c =
+    let t = c.args.self.now in
+    let shift = t.layout.shift in
+    let lt : c.args.state < t.count = omega (arith, c.if-state-self.false) in
+    let next = rw (shifted c.args.state t.room shift (omega (arith, lt, c.requires.table.room.count)) c.requires.table.room.rows.few c.requires.table.layout.small, shl-shr c.args.state shift) at (c.known-code.ensures (omega (arith, c.if-code-eq0.false))) in
+    (lt, grind (arith, get_or_default, c.index.ensures, c.if-index-act.false, lt, c.requires.table.room.count, c.requires.table.room.rows.roots), next)
