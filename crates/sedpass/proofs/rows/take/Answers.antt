@@ -1,7 +1,6 @@
-use Rattle.sedpass.proofs.Words.{MarkLeaves, TookBy, has_mark, Some, arith, seen-length, size, tree_at, IsCounted, List, Bool, TakesAtLeast, length, nodes_of, row_of, ◌+◌, ◌<◌, ◌∙◌, ◌≡◌, ◌≢◌}
+use Rattle.sedpass.proofs.Words.{Some, arith, seen-length, size, tree_at, IsCounted, List, Bool, TakesAtLeast, length, nodes_of, row_of, ◌+◌, ◌<◌, ◌∙◌, ◌≡◌, ◌≢◌}
 use Rattle.sedpass.proofs.ActLemmas.{taken_all, taken_both, taken_skip, taken_step}
 use Rattle.sedpass.proofs.RowLemmas.{keeps_then, still_wide}
-use Rattle.sedpass.proofs.rows.take.Goals.{After-blend}
 use Rattle.sedpass.proofs.rows.take.Goals as goal
 
 pub loop-x-preserved : goal.loop-x-preserved
@@ -46,9 +45,9 @@ returns-clause-leaves c =
     (c.low-low.ensures.range act.way.mirrored) (rw past at c.loop-x.invariant.taken)).1
 
 -- by the row of takers
-found : (c : After-blend) → TookBy (nodes_of c.args.act.way c.args.act.prepared.now) c.args.act.root (has_mark (row_of c.args.rows.now c.leaves_row-leaves.result)) (Some c.args.byte) (has_mark (row_of c.blend.new.self 1)) ×
-    MarkLeaves (nodes_of c.args.act.way c.args.act.prepared.now) c.args.act.root (row_of c.blend.new.self 1)
-found c =
+
+pub returns-in-Some-clause-took : goal.returns-in-Some-clause-took
+returns-in-Some-clause-took c =
     let act = c.args.act in
     let e = act.prepared.now in
     let nodes = nodes_of act.way e in
@@ -56,12 +55,19 @@ found c =
     let long = seen-length act.way.mirrored e in
     let whole : size (tree_at e.nodes act.root) ≡ length e.nodes = rw told.2 c.nodes-nodes.ensures.expr.whole in
     let low : c.low-low.result ≡ 0 = omega (arith, c.low-low.ensures.size, whole, told.2, c.requires.root) in
-    taken_all nodes c.low-low.result act.root (row_of c.args.rows.now c.leaves_row-leaves.result) (Some c.args.byte) (row_of c.blend.new.self 1) (c.low-low.ensures.range act.way.mirrored)
-    (taken_both nodes c.low-low.result act.root (row_of c.args.rows.now c.leaves_row-leaves.result) (row_of c.args.rows.now c.in-Some.row) (row_of c.blend.new.self 1) c.args.byte low (omega (arith, long, told.2, c.requires.root)) told.3
-    (λ k lt. c.blend.ensures.marks k (omega (arith, lt, long, c.nodes-nodes.ensures.value))))
-
-pub returns-in-Some-clause-took : goal.returns-in-Some-clause-took
-returns-in-Some-clause-took c = rw (← c.leaves_row-leaves.ensures) (found (goal.at.returns-in-Some-clause-took c).After-blend).0
+    let both = taken_both nodes c.low-low.result act.root (row_of c.args.rows.now c.leaves_row-leaves.result) (row_of c.args.rows.now c.in-Some.row) (row_of c.blend.new.self 1) c.args.byte low (omega (arith, long, told.2, c.requires.root)) told.3
+    (λ k lt. c.blend.ensures.marks k (omega (arith, lt, long, c.nodes-nodes.ensures.value))) in
+    rw (← c.leaves_row-leaves.ensures) (taken_all nodes c.low-low.result act.root (row_of c.args.rows.now c.leaves_row-leaves.result) (Some c.args.byte) (row_of c.blend.new.self 1) (c.low-low.ensures.range act.way.mirrored) both).0
 
 pub returns-in-Some-clause-leaves : goal.returns-in-Some-clause-leaves
-returns-in-Some-clause-leaves c = (found (goal.at.returns-in-Some-clause-leaves c).After-blend).1
+returns-in-Some-clause-leaves c =
+    let act = c.args.act in
+    let e = act.prepared.now in
+    let nodes = nodes_of act.way e in
+    let told = rw c.in-Some.is at c.requires.takers in
+    let long = seen-length act.way.mirrored e in
+    let whole : size (tree_at e.nodes act.root) ≡ length e.nodes = rw told.2 c.nodes-nodes.ensures.expr.whole in
+    let low : c.low-low.result ≡ 0 = omega (arith, c.low-low.ensures.size, whole, told.2, c.requires.root) in
+    let both = taken_both nodes c.low-low.result act.root (row_of c.args.rows.now c.leaves_row-leaves.result) (row_of c.args.rows.now c.in-Some.row) (row_of c.blend.new.self 1) c.args.byte low (omega (arith, long, told.2, c.requires.root)) told.3
+    (λ k lt. c.blend.ensures.marks k (omega (arith, lt, long, c.nodes-nodes.ensures.value))) in
+    (taken_all nodes c.low-low.result act.root (row_of c.args.rows.now c.leaves_row-leaves.result) (Some c.args.byte) (row_of c.blend.new.self 1) (c.low-low.ensures.range act.way.mirrored) both).1
