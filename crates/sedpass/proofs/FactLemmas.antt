@@ -1,6 +1,6 @@
 -- What is found out of each node once, and what it means for passes.
 use Rattle.std.proofs.lemmas.List.{get_or_append_left}
-use Rattle.sedpass.proofs.Words.{◌∙◌, AreParents, IsPart, cases_eq, mirror_node, seen-node, slice_get_within, slice_index_or, sym}
+use Rattle.sedpass.proofs.Words.{SameNulls, cases_lt, not, null_at, ◌||◌, true≢false, ◌∙◌, AreParents, IsPart, cases_eq, mirror_node, seen-node, slice_get_within, slice_index_or, sym}
 use Rattle.sedpass.proofs.Words.{rules, ◌≡◌, ℕ, zero, suc, ◌+◌, ◌<◌, ◌≤◌, ◌⊎◌, ◌↔◌, Bool, true, false, ◌&&◌, List, [], ◌∷◌, ◌++◌, length, Some, IsTrue, refl, ap, inl, inr, arith, bit_and, bit_or, ◌||◌, slice_get, eqb, option_eq, bit_at_and, bit_at_or, bit_at-lt, cases_lt, same_Some, none-some, size, IsArena, IsExpr, IsPart, FollowsParts, mirror, seen, Node, Seq, Alt, Group, Star, Opt, tree_at-node, tree_at-mirror, seen-length, Matches, no_copy, IsPlace, Matches-forward, node_at, Facts, PlaceKind, either-iff, both-iff, Tree, byte_of, sequence, either_of, grouped, WrittenExpression, tree_of, tree_at, size_positive, nullable, null_in, null_at, is_one_set, IsFacts, AreFacts, IsShort, length_of, at_begin, at_edge, IsNodeRange, AreNull}
 use Rattle.sedpass.proofs.LengthLemmas.{sum_parts, same_parts}
 use Rattle.sedpass.proofs.RowLemmas.{part_mirror, not_true, range_of, mirror_range}
@@ -117,4 +117,13 @@ pub parents_more : (nodes : List Node) (arena : IsArena nodes) (old after : List
 parents_more nodes arena old after x node all is told others notes q c other lt is' part = elim (cases_eq q x) [
   | inl e ↦ let same : other ≡ node = search (rules, same_Some) in told c (rw (← same) part) ∙ sym e
   | inr ne ↦ others c (λ mine. ne (arena.once q x c other node is' is part mine)) ∙ get_or_append_left old (0 ∷ []) 0 c (omega (arith, all, lt, ne, arena.below q c other is' part)) ∙ notes q c other (omega (arith, lt, ne)) is' part
+]
+
+-- null strings are the same up to the next node
+pub nulls_more : (nodes : List Node) (mirrored told tells : Bool) (n : ℕ) (node : Node) (next : Facts) → IsArena nodes → slice_get nodes n ≡ Some node → IsFacts (tree_of (tree_at nodes) node) n next →
+    (tells ≡ false → null_at next.null mirrored (not mirrored) ≡ null_at next.null false false) → (told ≡ false → SameNulls nodes mirrored n) → (told || tells) ≡ false → SameNulls nodes mirrored (n + 1)
+nulls_more nodes mirrored true tells n node next arena is facts same old none x lt = absurd (true≢false none)
+nulls_more nodes mirrored false tells n node next arena is facts same old none x lt = elim (cases_lt x n) [
+  | inl low ↦ old refl x low
+  | inr high ↦ let e : x ≡ n = omega arith in rw (e, tree_at-node nodes n node arena is) (sym (facts.null mirrored (not mirrored)) ∙ same none ∙ facts.null false false)
 ]

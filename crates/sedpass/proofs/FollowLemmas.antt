@@ -66,6 +66,28 @@ took_same nodes r keeps first null took other entered ended same f = record {
   ended_is = f.ended_is;
 }
 
+-- where null strings are the same the same follows
+ended_null : (took : List Bool → Bool) (null other f : ℕ → Bool) (node : Node) → ((c : ℕ) → IsPart node c → other c ≡ null c) → ended_by took other f node ≡ ended_by took null f node
+ended_null took null other f (Seq a b) same = rw (same b.index (inr refl)) refl
+ended_null took null other f node same = grind arith
+
+entered_null : (here : Bool) (null other f : ℕ → Bool) (node : Node) (c : ℕ) → ((n : ℕ) → IsPart node n → other n ≡ null n) → entered_by here other f node c ≡ entered_by here null f node c
+entered_null here null other f (Seq a b) c same = rw (same a.index (inl refl)) refl
+entered_null here null other f node c same = grind arith
+
+pub null_same : (nodes : List Node) (r : ℕ) (keeps first : Bool) (null other took entered ended : ℕ → Bool) → IsArena nodes → r < length nodes → ((x : ℕ) → x < length nodes → other x ≡ null x) → RowFollows nodes r keeps first null took entered ended → RowFollows nodes r keeps first other took entered ended
+null_same nodes r keeps first null other took entered ended arena inside same f =
+    let below = λ (x c : ℕ) (node : Node) (there : InTree nodes r x) (is : slice_get nodes x ≡ Some node) (part : IsPart node c). same c (omega (arith, InTree-inside nodes arena r x there, inside, arena.below x c node is part)) in
+    record {
+      begins = f.begins;
+      ends = f.ends;
+      root = f.root;
+      down = λ x c node there is part. f.down x c node there is part ∙ sym (entered_null (f.begins x) null other f.ends node c (λ n at. below x n node there is at));
+      up = λ x node there is. f.up x node there is ∙ sym (ended_null (λ m. took x) null other f.ends node (λ n at. below x n node there is at));
+      leaves = f.leaves;
+      ended_is = λ c. rw (same r inside) (f.ended_is c);
+    }
+
 -- the marks of a state that is there still
 pub marks_kept : (base : Option ℕ) (row : ℕ → ℕ) (old new : List (List Bool)) (c : ℕ) → IfSome base (λ q. row_of new (row q) ≡ row_of old (row q)) → marks_of base row new c ≡ marks_of base row old c
 marks_kept None row old new c same = refl

@@ -1,10 +1,10 @@
 -- Tables of states.
-use Rattle.sedpass.proofs.Words.{InTree, at_begin, at_edge, seen-arena, Starts, IsStart, IsPlace, RowOfPlace, StateAt, Took, true≢false, byte_is_in, slice_get, middle, root_of, ◌≡◌, ℕ, ◌+◌, ◌*◌, ◌/◌, ◌%◌, ◌^◌, ◌<◌, ◌≤◌, ◌⊎◌, ◌↔◌, Bool, true, false, List, length, Option, Some, IsTrue, refl, sym, ap, ◌∙◌, subst, inl, inr, arith, min, mul-le-mul_left, slice_index_or, slice_set, replicate, rules, vec_capacity, Vec, Global, get_or_past, length-replicate, same_from_place, shl-shr, shl_whole, with_item, pow-le-pow_right, cases_eq, cases_lt, get_or-replicate, get_or-set_same, get_or-set_other, get_or_default, IsExpr, WrittenExpression, seen, old_node, KeepsRows, row_of, StateFlags, PlaceKind, Way, Beginning, Table, IsApart, nodes_of, leaves_row, ends_row, SameBytes, PassState, HasRows, state_of, FlagsShow, HasNewRow, IsMade, LeadsOn, BeginsIn, NamesState, IsNext, IsOffset, cell_of, LeadsBy, kind_number, beginning_at, beginning_of, MayBegin, HasRoom, IsRoomy, IsTable, SameRoom, SameShape, AddsStates, Codes, code_of, column_at, IsLayout, IsColumn, Layout, Act, length-set, takers_row, AreTakers, ◌≢◌, Set, ◌||◌, ◌&&◌, has_mark, bits, HasTakers, HasOrigin, IsOrigin, IfSome, IsBase, RowFollows, null_in, edge_kind, None, IsArena, seen-length, node_at, and_from, and_parts}
+use Rattle.sedpass.proofs.Words.{Node, SameNulls, cases_Bool, not, InTree, at_begin, at_edge, seen-arena, Starts, IsStart, IsPlace, RowOfPlace, StateAt, Took, true≢false, byte_is_in, slice_get, middle, root_of, ◌≡◌, ℕ, ◌+◌, ◌*◌, ◌/◌, ◌%◌, ◌^◌, ◌<◌, ◌≤◌, ◌⊎◌, ◌↔◌, Bool, true, false, List, length, Option, Some, IsTrue, refl, sym, ap, ◌∙◌, subst, inl, inr, arith, min, mul-le-mul_left, slice_index_or, slice_set, replicate, rules, vec_capacity, Vec, Global, get_or_past, length-replicate, same_from_place, shl-shr, shl_whole, with_item, pow-le-pow_right, cases_eq, cases_lt, get_or-replicate, get_or-set_same, get_or-set_other, get_or_default, IsExpr, WrittenExpression, seen, old_node, KeepsRows, row_of, StateFlags, PlaceKind, Way, Beginning, Table, IsApart, nodes_of, leaves_row, ends_row, SameBytes, PassState, HasRows, state_of, FlagsShow, HasNewRow, IsMade, LeadsOn, BeginsIn, NamesState, IsNext, IsOffset, cell_of, LeadsBy, kind_number, beginning_at, beginning_of, MayBegin, HasRoom, IsRoomy, IsTable, SameRoom, SameShape, AddsStates, Codes, code_of, column_at, IsLayout, IsColumn, Layout, Act, length-set, takers_row, AreTakers, ◌≢◌, Set, ◌||◌, ◌&&◌, has_mark, bits, HasTakers, HasOrigin, IsOrigin, IfSome, IsBase, RowFollows, null_in, edge_kind, None, IsArena, seen-length, node_at, and_from, and_parts}
 use Rattle.sedpass.specs.Classes.{AreAlike}
 use Rattle.sedpass.proofs.ActLemmas.{same_truth}
 use Rattle.sedpass.proofs.LeaveLemmas.{twice}
 use Rattle.sedpass.proofs.FactLemmas.{null_shows}
-use Rattle.sedpass.proofs.FollowLemmas.{row_of_place}
+use Rattle.sedpass.proofs.FollowLemmas.{null_same, row_of_place}
 use Rattle.sedpass.proofs.RowLemmas.{InTree-inside, bits_clear, bits_here, row_took}
 use Rattle.std.proofs.lemmas.Option.{IfSome_then}
 
@@ -67,6 +67,36 @@ leads_same e way a b byte other edge same leads =
         leads.1.2,
       ),
     )
+
+told : (end edge : Bool) → (end && true) ≡ (edge && true) → end ≡ edge
+told true true same = refl
+told true false same = same
+told false true same = same
+told false false same = refl
+
+edges_same : (nodes : List Node) (mirrored edge end : Bool) (x : ℕ) → null_in nodes (record { begin = mirrored; end = not mirrored }) x ≡ null_in nodes (record { begin = false; end = false }) x →
+    null_in nodes (edge_kind mirrored end) x ≡ null_in nodes (edge_kind mirrored edge) x
+edges_same nodes mirrored true true x same = refl
+edges_same nodes mirrored true false x same = sym same
+edges_same nodes mirrored false true x same = same
+edges_same nodes mirrored false false x same = refl
+
+-- nor does it matter whether the text's edge comes, where that tells nothing
+pub leads_any : (e : WrittenExpression) (way : Way) (a b : PassState) (byte : ℕ) (tells edge end : Bool) → IsArena (nodes_of way e) → a.root < length e.nodes → (tells ≡ false → SameNulls e.nodes way.mirrored (length e.nodes)) →
+    (end && tells) ≡ (edge && tells) → LeadsOn e way a byte edge b → LeadsOn e way a byte end b
+leads_any e way a b byte tells edge end arena inside alike same leads = elim (cases_Bool tells) [
+  | inl all ↦ let one : end ≡ edge = told end edge (rw all at same) in subst (λ (x : Bool). LeadsOn e way a byte x b) (sym one) leads
+  | inr none ↦
+      let null = alike none in (
+        leads.0,
+        (
+          leads.1.0,
+          leads.1.1,
+          null_same (nodes_of way e) a.root way.mirrored way.all_starts (null_in e.nodes (edge_kind way.mirrored edge)) (null_in e.nodes (edge_kind way.mirrored end)) leads.1.0 b.entered b.ended arena (omega (arith, inside, seen-length way.mirrored e))
+              (λ x lt. edges_same e.nodes way.mirrored edge end x (null x (omega (arith, lt, seen-length way.mirrored e)))) leads.1.2,
+        ),
+      )
+]
 
 -- the kind of the place is that of one that is no beginning, and maybe the edge
 kind_is : (mirrored edge : Bool) → (at_begin mirrored (edge_kind mirrored edge) ≡ false) × (at_edge mirrored (edge_kind mirrored edge) ≡ edge)
@@ -144,7 +174,7 @@ module _ (p : WrittenExpression) (t t' : Table) (adds : AddsStates (length p.nod
   table_more table room roots cells begins takers origin = let narrow = λ (k : ℕ). subst (λ (l : Layout). k < 2 * l.columns) adds.shape.2 in record {
     expr = table.expr;
     room = room;
-    layout = subst (λ l. IsLayout p.nodes l) (sym adds.shape.2) table.layout;
+    layout = subst (λ (l : Layout). IsLayout p.nodes t'.way.mirrored l) (sym adds.shape.2) (subst (λ (w : Way). IsLayout p.nodes w.mirrored t.layout) (sym adds.shape.0) table.layout);
     roots = search rules;
     filled = λ q k there column some. elim (cells q k there (narrow k column) some) [
       | inl old ↦ rw old.1 (names_map m t' (LeadsBy p t q k) (LeadsBy p t' q k) _ (leads_more q k old.0) (names_more (LeadsBy p t q k) _ (table.filled q k old.0 (narrow k column) (rw old.1 at some))))
@@ -188,8 +218,9 @@ module _ (p : WrittenExpression) (old t : Table) where
       let inside : offset + k < length t.cells.items = omega (arith, there.1, cell_inside size q k t.count (2 * t.layout.columns) (length t.cells.items) there.0 narrow table.layout.fits has.cells) in
       let here = names_noted p t cells t.beginnings t.links t.origin (IsNext p t offset byte edge) (LeadsBy p t q k) v
       (λ b on o end few at.
-      let one = column_apart t.layout.columns (slice_index_or t.layout.classes byte 0) (slice_index_or t.layout.classes o 0) edge end column.0 at.0 (sym column.1 ∙ at.1) in
-      leads_same p t.way (state_of (length p.nodes) t q) b byte o end (table.layout.classes o byte few small one.0) (subst (λ x. IsNext p t offset byte x b) (sym one.1) on))
+      let one = column_apart t.layout.columns (slice_index_or t.layout.classes byte 0) (slice_index_or t.layout.classes o 0) (edge && t.layout.edges) (end && t.layout.edges) column.0 at.0 (sym column.1 ∙ at.1) in
+      leads_same p t.way (state_of (length p.nodes) t q) b byte o end (table.layout.classes o byte few small one.0)
+      (leads_any p t.way (state_of (length p.nodes) t q) b byte t.layout.edges edge end (seen-arena t.way.mirrored p table.expr.arena) (table.roots q there.0) table.layout.edges one.1 on))
       (names_moved p old t codes.adds epoch (λ w a b. LeadsOn p w a byte edge b) offset v from.0 codes.names) in
       coded p t cells t.beginnings t.links t.origin _ _ v (λ a is. is) old (refl, refl, refl, refl, refl) codes (table_more p t _ (search rules) refl table (search (rules, length-set)) (λ x low. inl low)
       (λ x j less near some. elim (one_set 0 t.cells.items (offset + k) v (x * size + j) inside) [
@@ -240,7 +271,7 @@ pub adds_none : (m : ℕ) (t : Table) → AddsStates m t t
 adds_none m t = search rules
 
 -- a table that forgot all its states, in an epoch that no beginning has
-pub emptied : (p : WrittenExpression) (t : Table) (epoch takers : ℕ) → IsExpr p.nodes p.groups → HasRoom (length p.nodes) t → IsLayout p.nodes t.layout →
+pub emptied : (p : WrittenExpression) (t : Table) (epoch takers : ℕ) → IsExpr p.nodes p.groups → HasRoom (length p.nodes) t → IsLayout p.nodes t.way.mirrored t.layout →
     ((noted : ℕ) → noted ≤ t.epoch → noted < 4294967294 → noted < epoch) → HasTakers p (record t { has_takers = takers }) → IsTable p (record t { has_takers = takers; origin = None; count = 0; epoch = epoch })
 emptied p t epoch takers expr room layout later right =
     let past : (i : ℕ) → (beginning_of t i).epoch < epoch = λ i. later (beginning_of t i).epoch (room.past i) (room.early i) in
@@ -248,14 +279,14 @@ emptied p t epoch takers expr room layout later right =
 
 -- the state to which an act led
 pub leads_on : (act : Act) (a b : PassState) (byte : ℕ) (edge : Bool) → act.root ≡ a.root → act.kind ≡ edge_kind act.way.mirrored edge → IsMade act byte a.entered b → LeadsOn act.prepared.now act.way a byte edge b
-leads_on act a b byte edge root kind made = (made.root ∙ root, rw (← root, ← kind) made.leads)
+leads_on act a b byte edge root kind made = (made.root ∙ root, rw (← root, ← kind) made.comes_next)
 
 -- The state with whose row an act begins.
 
 -- one that follows from no leaf
 pub base_alone : (act : Act) (before after : List Bool) (a : PassState) → a.root ≡ act.root → ((c : ℕ) → has_mark before c ≡ has_mark after c) →
     RowFollows (nodes_of act.way act.prepared.now) act.root act.way.mirrored act.way.all_starts (null_in act.prepared.now.nodes act.kind) (λ c. false) a.entered a.ended → IsBase act before after a
-base_alone act before after a root same follows = record { root = root; took = λ c. false; follows = follows; others = λ c there. same c }
+base_alone act before after a root same follows = record { root = root; own_leaves = λ c. false; own_row = follows; others = λ c there. same c }
 
 -- that to which a state leads of which fewer leaves took the byte
 pub base_next : (act : Act) (byte : ℕ) (edge : Bool) (leaves takers before after : List Bool) (a b : PassState) → a.root ≡ act.root → act.kind ≡ edge_kind act.way.mirrored edge → act.root < length act.prepared.now.nodes → IsArena (nodes_of act.way act.prepared.now) →
@@ -268,8 +299,8 @@ base_next act byte edge leaves takers before after a b root kind inside arena en
     let took = leads.1.0 in
     record {
       root = leads.0 ∙ root;
-      took = took;
-      follows = subst (λ (r : ℕ). RowFollows nodes r act.way.mirrored act.way.all_starts (null_in e.nodes act.kind) took b.entered b.ended) root (subst (λ (k : PlaceKind). RowFollows nodes a.root act.way.mirrored act.way.all_starts (null_in e.nodes k) took b.entered b.ended) (sym kind) leads.1.2);
+      own_leaves = took;
+      own_row = subst (λ (r : ℕ). RowFollows nodes r act.way.mirrored act.way.all_starts (null_in e.nodes act.kind) took b.entered b.ended) root (subst (λ (k : PlaceKind). RowFollows nodes a.root act.way.mirrored act.way.all_starts (null_in e.nodes k) took b.entered b.ended) (sym kind) leads.1.2);
       others = λ c there.
           let lt : c < length e.nodes = omega (arith, InTree-inside nodes arena act.root c there, inside) in
           let node = node_at nodes c (omega (arith, lt, long)) in

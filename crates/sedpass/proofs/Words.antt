@@ -52,7 +52,7 @@ pub use Rattle.sedpass.specs.Classes.{IsFiner, IsNumbering}
 pub use Rattle.sedpass.specs.Decide.{AreTables, EndsRegion, HasBlank, HasDesk, HasNoKnownLength, HasSpace, IsAtEnd, IsCopyFrom, IsTaskReady, IsTurn, KeepsGroupDesk, KeepsGroupRoom, LooksAt, NodeMatches, NodeTurned, NoneSettled, Works, entered_at, flags_of, known_groups, match_cost, nodes_in, region_cost, spans_in, subject_text, task_cost, tasks_after, tasks_cost, then_cost, weights}
 pub use Rattle.sedpass.specs.Forwards.{Arrives, EndsBelow, IsPassEnd, LastBelow, PassIs, is_over, starts_of}
 pub use Rattle.sedpass.specs.Kept.{AllMarked, ComesDown, EdgesFrom, Follows, IsEdge, IsKept, IsLive, IsRegion, KeepsRegion, KeptAt, Meet, PassesDownTo, RowKept, SameKept, SameSpace, due_place, ends_shown, owed_region, starts_shown}
-pub use Rattle.sedpass.specs.Prepared.{AreFacts, AreParents, IsFacts, IsShort, holds, is_one_set, length_of, null_at, null_in, nullable, repeated_set, reported, same_of, sum_of}
+pub use Rattle.sedpass.specs.Prepared.{AreFacts, AreParents, IsFacts, IsShort, SameNulls, holds, is_one_set, length_of, null_at, null_in, nullable, repeated_set, reported, same_of, sum_of}
 pub use Rattle.sedpass.specs.Regions.{CanLeave, CeasesAt, EndsPastIn, EndsWith, IsLastIn, IsLastPart, IsRunOf, IsSetAt, MeetsAt, ReachesEnd, all_of, at_end, before_copies, before_right, in_group, last_of, repeated, with_end}
 pub use Rattle.sedpass.specs.Rows.{AddsMarks, AreNull, AreTakers, AreWide, EndKept, EndsAfter, EndsUpTo, EntersDownTo, InTree, IsApart, IsNodeRange, LeafAt, MarkLeaves, RowFollows, RowLeadsTo, RowOfPlace, SameBytes, ShowTook, TookBy, marks_of, StartsAfter, StartsWith, TakenBy, Took, at_begin, at_edge, bits, ended_by, ends_row, entered_by, is_tree, leaves_row, has_mark, nodes_of, part_of, root_of}
 pub use Rattle.sedpass.specs.Search.{LooksFrom, Searched, owed_after_search, owed_kept, owed_seeking, search_cost}

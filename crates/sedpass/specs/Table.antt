@@ -7,7 +7,7 @@ use Rattle.sedre.specs.declared.types.Node.{Node}
 use Rattle.sedtext.specs.Reach.{Starts}
 use Rattle.sedtext.specs.Words.{row_of}
 use Rattle.sedpass.specs.Rows.{nodes_of, at_begin, at_edge, bits, leaves_row, ends_row, RowOfPlace, IsFirstRow, RowFollows, RowLeadsTo, InTree, AreTakers, has_mark, root_of}
-use Rattle.sedpass.specs.Prepared.{null_in}
+use Rattle.sedpass.specs.Prepared.{SameNulls, null_in}
 use Rattle.sedpass.specs.declared.nodes.PlaceKind.{PlaceKind}
 use Rattle.sedre.specs.Tree.{WrittenExpression}
 use Rattle.sedpass.specs.declared.rows.Act.{Act}
@@ -30,17 +30,18 @@ column_at columns class false = class
 column_at columns class true = columns + class
 
 -- the cells of a state are few for the nodes, and have room; bytes of one class are in the same sets
-pub record IsLayout (nodes : List Node) (layout : Layout) : Type 0 where
+pub record IsLayout (nodes : List Node) (mirrored : Bool) (layout : Layout) : Type 0 where
   pub few : layout.columns ≤ length nodes + 1
   pub classes : AreAlike nodes layout.classes
   pub small : layout.shift ≤ 8
   pub tight : 2 ^ layout.shift ≤ 4 * (length nodes + 1)
   pub fits : 2 * layout.columns ≤ 2 ^ layout.shift
+  pub edges : layout.edges ≡ false → SameNulls nodes mirrored (length nodes)
 
 -- the column is the byte's
 abbrev pub IsColumn : Layout → ℕ → Bool → ℕ → Type 0
 IsColumn layout byte edge k =
-    (slice_index_or layout.classes byte 0 < layout.columns) × (k ≡ column_at layout.columns (slice_index_or layout.classes byte 0) edge)
+    (slice_index_or layout.classes byte 0 < layout.columns) × (k ≡ column_at layout.columns (slice_index_or layout.classes byte 0) (edge && layout.edges))
 
 -- States.
 
@@ -87,14 +88,14 @@ RowIs act first took rows state = let m = length act.prepared.now.nodes in
 -- the state has the root of an act, and the row to which that leads from the leaves entered before and a byte
 pub record IsMade (act : Act) (byte : ℕ) (leaves : ℕ → Bool) (a : PassState) : Type 0 where
   pub root : a.root ≡ act.root
-  pub leads : RowLeadsTo (nodes_of act.way act.prepared.now) act.root act.way.mirrored (null_in act.prepared.now.nodes act.kind) leaves (Some byte) act.way.all_starts a.entered a.ended
+  pub comes_next : RowLeadsTo (nodes_of act.way act.prepared.now) act.root act.way.mirrored (null_in act.prepared.now.nodes act.kind) leaves (Some byte) act.way.all_starts a.entered a.ended
 
 -- the row of the state follows from some leaves that took the byte, and the marks are those of the others
 pub record IsBase (act : Act) (before after : List Bool) (a : PassState) : Type 0 where
   pub root : a.root ≡ act.root
-  pub took : ℕ → Bool
-  pub follows : RowFollows (nodes_of act.way act.prepared.now) act.root act.way.mirrored act.way.all_starts (null_in act.prepared.now.nodes act.kind) took a.entered a.ended
-  pub others : (c : ℕ) → InTree (nodes_of act.way act.prepared.now) act.root c → has_mark before c ≡ (took c || has_mark after c)
+  pub own_leaves : ℕ → Bool
+  pub own_row : RowFollows (nodes_of act.way act.prepared.now) act.root act.way.mirrored act.way.all_starts (null_in act.prepared.now.nodes act.kind) own_leaves a.entered a.ended
+  pub others : (c : ℕ) → InTree (nodes_of act.way act.prepared.now) act.root c → has_mark before c ≡ (own_leaves c || has_mark after c)
 
 -- Codes.
 
@@ -205,7 +206,7 @@ HasTakers e t = (byte : ℕ) → byte < 256 → let class = slice_index_or t.lay
 pub record IsTable (e : WrittenExpression) (t : Table) : Type 0 where
   pub expr : IsExpr e.nodes e.groups
   pub room : HasRoom (length e.nodes) t
-  pub layout : IsLayout e.nodes t.layout
+  pub layout : IsLayout e.nodes t.way.mirrored t.layout
   pub roots : (q : ℕ) → q < t.count → (state_of (length e.nodes) t q).root < length e.nodes
   pub filled : (q k : ℕ) → q < t.count → k < 2 * t.layout.columns → 0 < cell_of t q k → NamesState (length e.nodes) t (LeadsBy e t q k) (cell_of t q k)
   pub begun : (root : ℕ) (kind : PlaceKind) → MayBegin e t.way root → (beginning_of t (beginning_at t.way.all_starts root kind)).epoch ≡ t.epoch →

@@ -27,9 +27,11 @@ pub struct StateFlags {
 pub struct Layout {
     /// The class of each byte: bytes of one class are in the same sets.
     pub classes: [u8; 256],
-    /// How many classes of bytes have cells: one each, and behind these one each for bytes after which the text's edge comes. What a
-    /// byte of another class leads to is found out anew each time.
+    /// How many classes of bytes have cells: one each, and behind these one each for bytes after which the text's edge comes, if that
+    /// tells something. What a byte of another class leads to is found out anew each time.
     pub columns: u16,
+    /// Whether the edge tells something for null strings.
+    pub edges: bool,
     /// The cells of a state begin at its number times this power of two.
     pub shift: u32,
 }
@@ -86,14 +88,15 @@ pub fn is_plain(code: u32) -> bool
 
 impl Layout {
     /// The cells of a state for an expression: few for each node, so that a new state costs little.
-    pub fn new(prepared: &Prepared) -> Layout
-        ensures { IsLayout prepared.now.nodes result }
+    pub fn new(prepared: &Prepared, mirrored: bool) -> Layout
+        ensures { IsLayout prepared.now.nodes mirrored result }
     {
         let classes = prepared.classes().count.min(prepared.nodes() + 1);
         let columns = classes.min(MOST_CELLS / 2);
         Layout {
             classes: prepared.classes().of,
             columns: columns as u16,
+            edges: prepared.edge_tells(mirrored),
             // the least such power that is no smaller than the cells
             shift: (2 * columns - 1).ilog2() + 1,
         }
@@ -108,6 +111,7 @@ impl Layout {
         if class >= columns {
             return None;
         }
+        let edge = edge & self.edges;
         Some(if edge { columns + class } else { class })
     }
 }

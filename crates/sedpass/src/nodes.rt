@@ -1,5 +1,5 @@
 //! An expression made ready for passes: what is found out of each node once, and the classes of bytes.
-ghost use Rattle.std.specs.Prelude.{◌≡◌, ℕ, List, Bool, false, cond, ◌+◌, ◌<◌, ◌≤◌, ◌↔◌, length, vec_capacity, Some, None, slice_get, slice_index_or, IfOk, IfSome, IsTrue};
+ghost use Rattle.std.specs.Prelude.{◌≡◌, ℕ, List, Bool, false, not, cond, ◌+◌, ◌<◌, ◌≤◌, ◌↔◌, length, vec_capacity, Some, None, slice_get, slice_index_or, IfOk, IfSome, IsTrue};
 ghost use Rattle.sedre.specs.Arena.{IsArena, IsExpr, IsPart};
 ghost use Rattle.sedre.specs.declared.types.Node.{Node};
 ghost use Rattle.sedre.specs.Tree.{expression_tree, tree_at, tree_of, Tree, any_copies, one_or_none, size};
@@ -8,7 +8,7 @@ ghost use Rattle.sedre.specs.Packed.{PartsBelow};
 ghost use Rattle.sedre.specs.Steps.{Takes, TakesExactly, TakesAtLeast};
 ghost use Rattle.sedtext.specs.Hints.{AreHints};
 ghost use Rattle.sedpass.specs.Classes.{AreClasses};
-ghost use Rattle.sedpass.specs.Prepared.{HasNodeRoom, IsAnalysis, holds, IsFacts, AreFacts, IsShort, is_one_set, null_at, null_in, sum_of, same_of};
+ghost use Rattle.sedpass.specs.Prepared.{HasNodeRoom, IsAnalysis, SameNulls, holds, IsFacts, AreFacts, IsShort, is_one_set, null_at, null_in, sum_of, same_of};
 ghost use Rattle.sedpass.specs.Regions.{IsRunOf, IsSetAt};
 ghost use Rattle.sedpass.specs.Rows.{IsNodeRange, root_of};
 
@@ -50,6 +50,18 @@ fn has_kind(kinds: u8, kind: PlaceKind) -> bool
     ensures { result ≡ null_at kinds kind.begin kind.end }
 {
     (kinds >> (u8::from(kind.begin) + 2 * u8::from(kind.end))) & 1 == 1
+}
+
+/// Whether these are other kinds at an edge of the text, its beginning or its end, than at places between the edges.
+fn edge_tells(kinds: u8, begin: bool) -> bool
+    ensures { result ≡ false → null_at kinds begin (not begin) ≡ null_at kinds false false }
+{
+    let edge = PlaceKind { begin, end: !begin };
+    let middle = PlaceKind {
+        begin: false,
+        end: false,
+    };
+    has_kind(kinds, edge) != has_kind(kinds, middle)
 }
 
 /// What is found out of a node once.
@@ -212,6 +224,10 @@ fn node_seen(node: Node, mirrored: bool) -> Node
 pub struct Analysis {
     /// What is known of each node.
     pub facts: Vec<Facts>,
+    /// Whether a node matches the null string at the text's beginning and not between its edges, or the other way about.
+    pub begin_tells: bool,
+    /// The same of its end.
+    pub end_tells: bool,
     /// For each node but the last that of which it is a part.
     pub parents: Vec<usize>,
     /// Classes of bytes: those of one class are in the same sets.
@@ -227,6 +243,8 @@ impl Analysis {
     {
         Ok(Analysis {
             facts: Vec::with_capacity(alloc, nodes)?,
+            begin_tells: false,
+            end_tells: false,
             parents: Vec::with_capacity(alloc, nodes)?,
             classes: classes_of(&[]),
             hints: Hints::none(),
@@ -244,10 +262,14 @@ impl Analysis {
     {
         let _groups = expr.groups();
         self.facts.clear();
+        self.begin_tells = false;
+        self.end_tells = false;
         self.parents.clear();
         for x in 0..expr.nodes() {
             let node = expr.look(expr.id(x), steps);
             let next = facts_of(&node, &self.facts);
+            self.begin_tells |= edge_tells(next.null, true);
+            self.end_tells |= edge_tells(next.null, false);
             self.facts.push_reserved(next);
             self.parents.push_reserved(0);
             note_parent(&mut self.parents, &node, x);
@@ -309,6 +331,17 @@ impl<'a> Prepared<'a> {
         ensures expr { IsExpr self.now.nodes self.now.groups }
     {
         self.expr.root().index()
+    }
+
+    /// Whether it tells something for null strings that a place is the edge to which passes go.
+    pub fn edge_tells(&self, mirrored: bool) -> bool
+        ensures { result ≡ false → SameNulls self.now.nodes mirrored (length self.now.nodes) }
+    {
+        if mirrored {
+            self.analysis.begin_tells
+        } else {
+            self.analysis.end_tells
+        }
     }
 
     /// The classes of bytes.

@@ -139,6 +139,7 @@ impl Table {
             layout: Layout {
                 classes: [0; 256],
                 columns: 0,
+                edges: true,
                 shift: 0,
             },
             count: 0,
@@ -162,7 +163,7 @@ impl Table {
         ensures room { SameRoom self.old self.new }
     {
         let _nodes = prepared.nodes();
-        self.layout = Layout::new(prepared);
+        self.layout = Layout::new(prepared, self.way.mirrored);
         self.has_takers = 0;
         self.origin = None;
         self.count = 0;

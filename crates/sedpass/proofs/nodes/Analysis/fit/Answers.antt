@@ -1,5 +1,5 @@
-use Rattle.sedpass.proofs.Words.{expression_tree, rules, length-append, TakesAtLeast, IsCounted}
-use Rattle.sedpass.proofs.FactLemmas.{facts_more, parents_more}
+use Rattle.sedpass.proofs.Words.{true, false, expression_tree, rules, length-append, TakesAtLeast, IsCounted}
+use Rattle.sedpass.proofs.FactLemmas.{facts_more, nulls_more, parents_more}
 use Rattle.sedpass.proofs.nodes.Analysis.fit.Goals as goal
 
 pub loop-x-preserved : goal.loop-x-preserved
@@ -12,7 +12,10 @@ loop-x-preserved c =
     let items = c.push_reserved.ensures.items in
     let node = rw c.id.ensures at c.look-node.ensures.node in
     let here = rw (← old.all) at node in
-    let facts = facts_more e.nodes c.look-node.ensures.arena shown _ next old.facts here (c.facts_of-next.ensures e.nodes e.groups c.groups-groups.ensures.expr old.facts here) in
+    let is = c.facts_of-next.ensures e.nodes e.groups c.groups-groups.ensures.expr old.facts here in
+    let begins = nulls_more e.nodes true c.loop-x.self.begin_tells c.edge_tells.result c.loop-x.x _ next c.look-node.ensures.arena node (rw old.all at is) c.edge_tells.ensures old.begins in
+    let ends = nulls_more e.nodes false c.loop-x.self.end_tells c.edge_tells-in-loop-x.result c.loop-x.x _ next c.look-node.ensures.arena node (rw old.all at is) c.edge_tells-in-loop-x.ensures old.ends in
+    let facts = facts_more e.nodes c.look-node.ensures.arena shown _ next old.facts here is in
     let added = c.push_reserved-in-loop-x.ensures.items in
     let parents = parents_more e.nodes c.look-node.ensures.arena c.loop-x.self.parents.items _ c.loop-x.x _ old.noted node c.note_parent.ensures.parts (rw added at c.note_parent.ensures.others) old.parents in
     rw items (search (rules, length-append))

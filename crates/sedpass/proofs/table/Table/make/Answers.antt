@@ -65,7 +65,7 @@ row c (Some q) is base =
     let B = c.base-base.new.self in
     let kept = c.ascend.ensures.keeps.same in
     let added = rw is at c.descend.ensures.added in
-    took_same _ _ _ _ _ _ _ _ _ base.1.others (added base.1.took (has_mark (row_of B.rows 1)) (rw (kept (leaves_row q) (omega arith), kept (ends_row q) (omega arith)) base.1.follows) c.ascend.ensures.ended)
+    took_same _ _ _ _ _ _ _ _ _ base.1.others (added base.1.own_leaves (has_mark (row_of B.rows 1)) (rw (kept (leaves_row q) (omega arith), kept (ends_row q) (omega arith)) base.1.own_row) c.ascend.ensures.ended)
 
 -- the row of the state before is there still, and shows what took the byte
 took : (c : After-take) → TookBy (nodes_of c.args.act.way c.args.act.prepared.now) c.args.act.root (bits (length c.args.act.prepared.now.nodes) (row_of c.args.self.now.rows (leaves_row c.args.from))) (Some c.args.byte) (has_mark (row_of c.take.new.rows 1))
@@ -90,7 +90,7 @@ codes c first all shows made_row =
     record {
       table = codes.table;
       adds = c.make_room.ensures.adds u (c.find_takers-takers.ensures.same u (adds_rows e c.find_takers-takers.new.self c.take.new.rows first u (c.base-base.ensures.same u (adds_rows e c.base-base.new.self c.descend.new.rows all u codes.adds))));
-      names = names_map _ _ _ _ _ (λ a has. record { root = has.0; leads = (has_mark (row_of c.take.new.rows 1), shows, rw (has.1, has.2) made_row) }) codes.names;
+      names = names_map _ _ _ _ _ (λ a has. record { root = has.0; comes_next = (has_mark (row_of c.take.new.rows 1), shows, rw (has.1, has.2) made_row) }) codes.names;
     }
 
 -- the root is the expression's where there is a row of takers
@@ -126,11 +126,11 @@ returns-in-Some-clause-codes c =
       adds = c.make_room.ensures.adds B (c.find_takers-takers.ensures.same B (adds_rows e c.find_takers-takers.new.self c.take.new.rows (taken at.After-take) B (c.base-base.ensures.same B (adds_none (length e.nodes) B))));
       names = names_map _ _ _ _ _ (λ a base. record {
         root = base.root;
-        leads = (
+        comes_next = (
           has_mark (row_of c.take.new.rows 1),
           took at.After-take,
           took_same _ _ _ _ _ _ _ _ _ (λ n there.
-              base.others n there ∙ ap (λ b. base.took n || b) (shared.1 n (omega (arith, InTree-inside (nodes_of act.way e) arena act.root n there, c.requires.root))) ∙ or_false (base.took n)) base.follows,
+              base.others n there ∙ ap (λ b. base.own_leaves n || b) (shared.1 n (omega (arith, InTree-inside (nodes_of act.way e) arena act.root n there, c.requires.root))) ∙ or_false (base.own_leaves n)) base.own_row,
         );
       }) (rw shared.0 at c.base-base.ensures.base);
     }
