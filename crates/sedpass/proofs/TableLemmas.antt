@@ -1,6 +1,6 @@
 -- Tables of states.
-use Rattle.sedpass.proofs.Words.{Node, SameNulls, cases_Bool, not, InTree, at_begin, at_edge, seen-arena, Starts, IsStart, IsPlace, RowOfPlace, StateAt, Took, true≢false, byte_is_in, slice_get, middle, root_of, ◌≡◌, ℕ, ◌+◌, ◌*◌, ◌/◌, ◌%◌, ◌^◌, ◌<◌, ◌≤◌, ◌⊎◌, ◌↔◌, Bool, true, false, List, length, Option, Some, IsTrue, refl, sym, ap, ◌∙◌, subst, inl, inr, arith, min, mul-le-mul_left, slice_index_or, slice_set, replicate, rules, vec_capacity, Vec, Global, get_or_past, length-replicate, same_from_place, shl-shr, shl_whole, with_item, pow-le-pow_right, cases_eq, cases_lt, get_or-replicate, get_or-set_same, get_or-set_other, get_or_default, IsExpr, WrittenExpression, seen, old_node, KeepsRows, row_of, StateFlags, PlaceKind, Way, Beginning, Table, IsApart, nodes_of, leaves_row, ends_row, SameBytes, PassState, HasRows, state_of, FlagsShow, HasNewRow, IsMade, LeadsOn, BeginsIn, NamesState, IsNext, IsOffset, cell_of, LeadsBy, kind_number, beginning_at, beginning_of, MayBegin, HasRoom, IsRoomy, IsTable, SameRoom, SameShape, AddsStates, Codes, code_of, column_at, IsLayout, IsColumn, Layout, Act, length-set, takers_row, AreTakers, ◌≢◌, Set, ◌||◌, ◌&&◌, has_mark, bits, HasTakers, HasOrigin, IsOrigin, IfSome, IsBase, RowFollows, null_in, edge_kind, None, IsArena, seen-length, node_at, and_from, and_parts}
-use Rattle.sedpass.specs.Classes.{AreAlike}
+use Rattle.sedpass.proofs.Words.{Node, SameNulls, cases_Bool, not, InTree, at_begin, at_edge, seen-arena, Starts, IsStart, IsPlace, RowOfPlace, StateAt, Took, true≢false, byte_is_in, slice_get, middle, root_of, ◌≡◌, ℕ, ◌+◌, ◌*◌, ◌/◌, ◌%◌, ◌^◌, ◌<◌, ◌≤◌, ◌⊎◌, ◌↔◌, Bool, true, false, List, length, Option, Some, IsTrue, refl, sym, ap, ◌∙◌, subst, inl, inr, arith, min, mul-le-mul_left, slice_index_or, slice_set, replicate, rules, vec_capacity, Vec, Global, get_or_past, length-replicate, same_from_place, shl-shr, shl_whole, with_item, pow-le-pow_right, cases_eq, cases_lt, get_or-replicate, get_or-set_same, get_or-set_other, get_or_default, IsExpr, WrittenExpression, seen, old_node, KeepsRows, row_of, StateFlags, PlaceKind, Way, Beginning, Table, IsApart, nodes_of, leaves_row, ends_row, SameBytes, PassState, HasRows, state_of, FlagsShow, HasNewRow, IsMade, LeadsOn, BeginsIn, NamesState, IsNext, IsOffset, cell_of, LeadsBy, kind_number, beginning_at, beginning_of, MayBegin, HasRoom, IsRoomy, IsTable, SameRoom, SameShape, AddsStates, Codes, code_of, cell_for, cells_in, column_for, IsLayout, Layout, Act, length-set, takers_row, AreTakers, ◌≢◌, Set, ◌||◌, ◌&&◌, has_mark, bits, HasTakers, HasOrigin, IsOrigin, IfSome, IsBase, RowFollows, null_in, edge_kind, None, IsArena, seen-length, node_at, and_from, and_parts}
+use Rattle.sedpass.specs.Table.{AreColumns, HasEdgeCells}
 use Rattle.sedpass.proofs.ActLemmas.{same_truth}
 use Rattle.sedpass.proofs.LeaveLemmas.{twice}
 use Rattle.sedpass.proofs.FactLemmas.{null_shows}
@@ -31,20 +31,37 @@ codes_new p t u q root v flags table adds there inside ends dead has code =
     let place = shifted q u.room u.layout.shift (omega (arith, there, table.room.count)) table.room.rows.few table.layout.small in
     record { table = table; adds = adds; names = record { to = q; there = there; flags = flags; shown = shown; code = code ∙ ap (code_of flags) place; is = has } }
 
--- a column is of one class, at the edge or elsewhere
-column_apart : (columns class other : ℕ) (edge edge' : Bool) → class < columns → other < columns → column_at columns class edge ≡ column_at columns other edge' → (other ≡ class) × (edge' ≡ edge)
-column_apart columns class other edge edge' small small' same = search rules
+-- what is known of the cells for bytes
+module _ (nodes : List Node) (mirrored : Bool) (layout : Layout) (is : IsLayout nodes mirrored layout) where
+  column_low : (byte : ℕ) → byte < 256 → column_for layout byte < layout.columns
+  unfolding AreColumns
+  column_low = is.bytes.0
+
+  pub bytes_alike : (one other : ℕ) → one < 256 → other < 256 → column_for layout one < layout.filled → column_for layout one ≡ column_for layout other → SameBytes nodes (Some one) (Some other)
+  unfolding AreColumns
+  bytes_alike = is.bytes.1
+
+  pub cell_low : (byte : ℕ) (edge : Bool) → byte < 256 → cell_for layout byte edge < cells_in layout
+  cell_low byte true small = omega (arith, column_low byte small)
+  cell_low byte false small = omega (arith, column_low byte small)
+
+  -- a cell is of one column, at the edge or elsewhere, unless that tells nothing
+  cell_apart : (byte other : ℕ) (edge end : Bool) → byte < 256 → other < 256 → cell_for layout byte edge ≡ cell_for layout other end → (column_for layout other ≡ column_for layout byte) × ((end ≡ edge) ⊎ SameNulls nodes mirrored (length nodes))
+  unfolding HasEdgeCells
+  cell_apart byte other true true small small' same = (omega (arith, same), inl refl)
+  cell_apart byte other false false small small' same = (sym same, inl refl)
+  cell_apart byte other true false small small' same = elim is.edges [ inl apart ↦ absurd (omega (arith, same, apart, column_low other small')) | inr none ↦ (omega (arith, same, none.0), inr none.1) ]
+  cell_apart byte other false true small small' same = elim is.edges [ inl apart ↦ absurd (omega (arith, same, apart, column_low byte small)) | inr none ↦ (omega (arith, same, none.0), inr none.1) ]
 
 -- bytes of one class, however the expression is seen
 pub seen_bytes : (mirrored : Bool) (e : WrittenExpression) (a b : Option ℕ) → SameBytes e.nodes a b → SameBytes (seen mirrored e).nodes a b
 seen_bytes false e a b same = same
 seen_bytes true e a b same = search (rules, old_node, twice)
 
--- leaves that take a byte take those of its class
-pub takers_alike : (way : Way) (e : WrittenExpression) (classes : List ℕ) (byte other : ℕ) (marks : List Bool) → AreAlike e.nodes classes → byte < 256 → other < 256 → slice_index_or classes byte 0 ≡ slice_index_or classes other 0 →
-    AreTakers (nodes_of way e) byte marks → AreTakers (nodes_of way e) other marks
-takers_alike way e classes byte other marks alike low low' same takers c node is =
-    let bytes = seen_bytes way.mirrored e (Some byte) (Some other) (alike byte other low low' same) in (
+-- leaves that take a byte take another one of the same sets
+pub takers_alike : (way : Way) (e : WrittenExpression) (byte other : ℕ) (marks : List Bool) → SameBytes e.nodes (Some byte) (Some other) → AreTakers (nodes_of way e) byte marks → AreTakers (nodes_of way e) other marks
+takers_alike way e byte other marks same takers c node is =
+    let bytes = seen_bytes way.mirrored e (Some byte) (Some other) same in (
       λ h. let set = (takers c node is).0 h in (set.0, set.1, sym (bytes c set.0 (is ∙ ap (λ n. Some n) set.1)) ∙ set.2),
       λ set. (takers c node is).1 (set.0, set.1, bytes c set.0 (is ∙ ap (λ n. Some n) set.1) ∙ set.2),
     )
@@ -68,12 +85,6 @@ leads_same e way a b byte other edge same leads =
       ),
     )
 
-told : (end edge : Bool) → (end && true) ≡ (edge && true) → end ≡ edge
-told true true same = refl
-told true false same = same
-told false true same = same
-told false false same = refl
-
 edges_same : (nodes : List Node) (mirrored edge end : Bool) (x : ℕ) → null_in nodes (record { begin = mirrored; end = not mirrored }) x ≡ null_in nodes (record { begin = false; end = false }) x →
     null_in nodes (edge_kind mirrored end) x ≡ null_in nodes (edge_kind mirrored edge) x
 edges_same nodes mirrored true true x same = refl
@@ -82,21 +93,18 @@ edges_same nodes mirrored false true x same = same
 edges_same nodes mirrored false false x same = refl
 
 -- nor does it matter whether the text's edge comes, where that tells nothing
-pub leads_any : (e : WrittenExpression) (way : Way) (a b : PassState) (byte : ℕ) (tells edge end : Bool) → IsArena (nodes_of way e) → a.root < length e.nodes → (tells ≡ false → SameNulls e.nodes way.mirrored (length e.nodes)) →
-    (end && tells) ≡ (edge && tells) → LeadsOn e way a byte edge b → LeadsOn e way a byte end b
-leads_any e way a b byte tells edge end arena inside alike same leads = elim (cases_Bool tells) [
-  | inl all ↦ let one : end ≡ edge = told end edge (rw all at same) in subst (λ (x : Bool). LeadsOn e way a byte x b) (sym one) leads
-  | inr none ↦
-      let null = alike none in (
-        leads.0,
-        (
-          leads.1.0,
-          leads.1.1,
-          null_same (nodes_of way e) a.root way.mirrored way.all_starts (null_in e.nodes (edge_kind way.mirrored edge)) (null_in e.nodes (edge_kind way.mirrored end)) leads.1.0 b.entered b.ended arena (omega (arith, inside, seen-length way.mirrored e))
-              (λ x lt. edges_same e.nodes way.mirrored edge end x (null x (omega (arith, lt, seen-length way.mirrored e)))) leads.1.2,
-        ),
-      )
-]
+pub leads_any : (e : WrittenExpression) (way : Way) (a b : PassState) (byte : ℕ) (edge end : Bool) → IsArena (nodes_of way e) → a.root < length e.nodes → (end ≡ edge) ⊎ SameNulls e.nodes way.mirrored (length e.nodes) →
+    LeadsOn e way a byte edge b → LeadsOn e way a byte end b
+leads_any e way a b byte edge end arena inside (inl one) leads = subst (λ (x : Bool). LeadsOn e way a byte x b) (sym one) leads
+leads_any e way a b byte edge end arena inside (inr null) leads = (
+  leads.0,
+  (
+    leads.1.0,
+    leads.1.1,
+    null_same (nodes_of way e) a.root way.mirrored way.all_starts (null_in e.nodes (edge_kind way.mirrored edge)) (null_in e.nodes (edge_kind way.mirrored end)) leads.1.0 b.entered b.ended arena (omega (arith, inside, seen-length way.mirrored e))
+        (λ x lt. edges_same e.nodes way.mirrored edge end x (null x (omega (arith, lt, seen-length way.mirrored e)))) leads.1.2,
+  ),
+)
 
 -- the kind of the place is that of one that is no beginning, and maybe the edge
 kind_is : (mirrored edge : Bool) → (at_begin mirrored (edge_kind mirrored edge) ≡ false) × (at_edge mirrored (edge_kind mirrored edge) ≡ edge)
@@ -153,7 +161,7 @@ module _ (p : WrittenExpression) (t t' : Table) (adds : AddsStates (length p.nod
 
   leads_more : (q k : ℕ) → q < t.count → (b : PassState) → LeadsBy p t q k b → LeadsBy p t' q k b
   leads_more q k there b leads byte edge small column = subst (λ (x : Way). LeadsOn p x (state_of m t' q) byte edge b) (sym adds.shape.0)
-      (subst (λ (a : PassState). LeadsOn p t.way a byte edge b) (sym (adds.kept epoch q there)) (leads byte edge small (subst (λ (l : Layout). IsColumn l byte edge k) adds.shape.2 column)))
+      (subst (λ (a : PassState). LeadsOn p t.way a byte edge b) (sym (adds.kept epoch q there)) (leads byte edge small (subst (λ (l : Layout). k ≡ cell_for l byte edge) adds.shape.2 column)))
 
   abbrev Begun : Table → Way → ℕ → PlaceKind → Type 0
   Begun u way root kind = MayBegin p way root → (beginning_of u (beginning_at way.all_starts root kind)).epoch ≡ u.epoch →
@@ -169,9 +177,9 @@ module _ (p : WrittenExpression) (t t' : Table) (adds : AddsStates (length p.nod
 
   -- the table is right, if each state, cell and beginning is that isn't as it was
   pub table_more : IsTable p t → HasRoom m t' → ((q : ℕ) → q < t'.count → (q < t.count) ⊎ ((state_of m t' q).root < m)) →
-      ((q k : ℕ) → q < t'.count → k < 2 * t.layout.columns → 0 < cell_of t' q k → ((q < t.count) × (cell_of t' q k ≡ cell_of t q k)) ⊎ NamesState m t' (LeadsBy p t' q k) (cell_of t' q k)) →
+      ((q k : ℕ) → q < t'.count → k < cells_in t.layout → 0 < cell_of t' q k → ((q < t.count) × (cell_of t' q k ≡ cell_of t q k)) ⊎ NamesState m t' (LeadsBy p t' q k) (cell_of t' q k)) →
       ((root : ℕ) (kind : PlaceKind) → (beginning_of t' (beginning_at t.way.all_starts root kind) ≡ beginning_of t (beginning_at t.way.all_starts root kind)) ⊎ Begun t' t'.way root kind) → HasTakers p t' → (t'.origin ≡ t.origin) ⊎ HasOrigin p t' → IsTable p t'
-  table_more table room roots cells begins takers origin = let narrow = λ (k : ℕ). subst (λ (l : Layout). k < 2 * l.columns) adds.shape.2 in record {
+  table_more table room roots cells begins takers origin = let narrow = λ (k : ℕ). subst (λ (l : Layout). k < cells_in l) adds.shape.2 in record {
     expr = table.expr;
     room = room;
     layout = subst (λ (l : Layout). IsLayout p.nodes t'.way.mirrored l) (sym adds.shape.2) (subst (λ (w : Way). IsLayout p.nodes w.mirrored t.layout) (sym adds.shape.0) table.layout);
@@ -205,26 +213,26 @@ codes_map p old t P Q v up codes = coded p t t.cells t.beginnings t.links t.orig
 
 module _ (p : WrittenExpression) (old t : Table) where
   -- one more cell is filled
-  pub note_cell : (offset k v byte : ℕ) (edge : Bool) → t.epoch ≡ old.epoch → IsOffset old offset → byte < 256 → IsColumn t.layout byte edge k →
+  pub note_cell : (offset v byte : ℕ) (edge : Bool) → t.epoch ≡ old.epoch → IsOffset old offset → byte < 256 → column_for t.layout byte < t.layout.filled → (k : ℕ) → k ≡ cell_for t.layout byte edge →
       Codes p old t (IsNext p old offset byte edge) v → Codes p old (record t { cells = with_item t.cells (offset + k) v }) (IsNext p old offset byte edge) v
-  note_cell offset k v byte edge epoch from small column codes =
+  note_cell offset v byte edge epoch from small filled k is codes =
       let cells = with_item t.cells (offset + k) v in
       let table = codes.table in
       let has = table.room in
       let size = 2 ^ t.layout.shift in
       let q = offset / size in
       let there = offset_more p old t codes.adds epoch offset from in
-      let narrow : k < 2 * t.layout.columns = search rules in
-      let inside : offset + k < length t.cells.items = omega (arith, there.1, cell_inside size q k t.count (2 * t.layout.columns) (length t.cells.items) there.0 narrow table.layout.fits has.cells) in
+      let narrow : k < cells_in t.layout = rw is (cell_low p.nodes t.way.mirrored t.layout table.layout byte edge small) in
+      let inside : offset + k < length t.cells.items = omega (arith, there.1, cell_inside size q k t.count (cells_in t.layout) (length t.cells.items) there.0 narrow table.layout.fits has.cells) in
       let here = names_noted p t cells t.beginnings t.links t.origin (IsNext p t offset byte edge) (LeadsBy p t q k) v
       (λ b on o end few at.
-      let one = column_apart t.layout.columns (slice_index_or t.layout.classes byte 0) (slice_index_or t.layout.classes o 0) (edge && t.layout.edges) (end && t.layout.edges) column.0 at.0 (sym column.1 ∙ at.1) in
-      leads_same p t.way (state_of (length p.nodes) t q) b byte o end (table.layout.classes o byte few small one.0)
-      (leads_any p t.way (state_of (length p.nodes) t q) b byte t.layout.edges edge end (seen-arena t.way.mirrored p table.expr.arena) (table.roots q there.0) table.layout.edges one.1 on))
+      let one = cell_apart p.nodes t.way.mirrored t.layout table.layout byte o edge end small few (sym is ∙ at) in
+      leads_same p t.way (state_of (length p.nodes) t q) b byte o end (bytes_alike p.nodes t.way.mirrored t.layout table.layout o byte few small (omega (arith, one.0, filled)) one.0)
+      (leads_any p t.way (state_of (length p.nodes) t q) b byte edge end (seen-arena t.way.mirrored p table.expr.arena) (table.roots q there.0) one.1 on))
       (names_moved p old t codes.adds epoch (λ w a b. LeadsOn p w a byte edge b) offset v from.0 codes.names) in
       coded p t cells t.beginnings t.links t.origin _ _ v (λ a is. is) old (refl, refl, refl, refl, refl) codes (table_more p t _ (search rules) refl table (search (rules, length-set)) (λ x low. inl low)
       (λ x j less near some. elim (one_set 0 t.cells.items (offset + k) v (x * size + j) inside) [
-        | inl e ↦ let at = same_from_place x j q k size (omega arith) (omega arith) (omega (arith, e.0, there.1)) in inr (rw (e.1, at.1, at.0) here)
+        | inl e ↦ let at = same_from_place x j q k size (omega (arith, near, table.layout.fits)) (omega (arith, narrow, table.layout.fits)) (omega (arith, e.0, there.1)) in inr (rw (e.1, at.1, at.0) here)
         | inr other ↦ inl (less, other)
       ]) (λ root kind. inl refl) table.takers (inl refl))
 
@@ -271,7 +279,7 @@ pub adds_none : (m : ℕ) (t : Table) → AddsStates m t t
 adds_none m t = search rules
 
 -- a table that forgot all its states, in an epoch that no beginning has
-pub emptied : (p : WrittenExpression) (t : Table) (epoch takers : ℕ) → IsExpr p.nodes p.groups → HasRoom (length p.nodes) t → IsLayout p.nodes t.way.mirrored t.layout →
+pub emptied : (p : WrittenExpression) (t : Table) (epoch : ℕ) (takers : List Bool) → IsExpr p.nodes p.groups → HasRoom (length p.nodes) t → IsLayout p.nodes t.way.mirrored t.layout →
     ((noted : ℕ) → noted ≤ t.epoch → noted < 4294967294 → noted < epoch) → HasTakers p (record t { has_takers = takers }) → IsTable p (record t { has_takers = takers; origin = None; count = 0; epoch = epoch })
 emptied p t epoch takers expr room layout later right =
     let past : (i : ℕ) → (beginning_of t i).epoch < epoch = λ i. later (beginning_of t i).epoch (room.past i) (room.early i) in
@@ -337,12 +345,15 @@ module _ (p : WrittenExpression) (t : Table) (table : IsTable p t) (P : PassStat
   names_flags shown show = rw (offset_is.1, names_shown (λ f. shown ≡ f) show) n.shown
 
 -- what a cell holds
-module _ (p : WrittenExpression) (t : Table) (table : IsTable p t) (offset byte k : ℕ) (edge : Bool) (at : IsOffset t offset) (column : IsColumn t.layout byte edge k) where
-  pub cell_there : offset + k < length t.cells.items
-  cell_there = search rules
+module _ (p : WrittenExpression) (t : Table) (table : IsTable p t) (offset byte : ℕ) (edge : Bool) (at : IsOffset t offset) (small : byte < 256) where
+  pub cell_there : offset + cell_for t.layout byte edge < length t.cells.items
+  cell_there = omega (arith, at.1, cell_inside (2 ^ t.layout.shift) (offset / 2 ^ t.layout.shift) (cell_for t.layout byte edge) t.count (cells_in t.layout) (length t.cells.items) at.0 (cell_low p.nodes t.way.mirrored t.layout table.layout byte edge small) table.layout.fits table.room.cells)
 
-  pub known_cell : (v : ℕ) → byte < 256 → v ≡ slice_index_or t.cells.items (offset + k) v → 0 < v → NamesState (length p.nodes) t (LeadsOn p t.way (state_of (length p.nodes) t (offset / 2 ^ t.layout.shift)) byte edge) v
-  known_cell v small is some = let same = get_or_default t.cells.items (offset + k) v 0 cell_there in grind (arith, names_map)
+  pub known_cell : (v : ℕ) → v ≡ slice_index_or t.cells.items (offset + cell_for t.layout byte edge) v → 0 < v → NamesState (length p.nodes) t (LeadsOn p t.way (state_of (length p.nodes) t (offset / 2 ^ t.layout.shift)) byte edge) v
+  known_cell v is some =
+      let k = cell_for t.layout byte edge in
+      let same : v ≡ cell_of t (offset / 2 ^ t.layout.shift) k = is ∙ get_or_default t.cells.items (offset + k) v 0 cell_there ∙ ap (λ o. slice_index_or t.cells.items (o + k) 0) at.1 in
+      rw same (names_map _ _ _ _ _ (λ b leads. leads byte edge small refl) (table.filled _ k at.0 (cell_low p.nodes t.way.mirrored t.layout table.layout byte edge small) (rw same at some)))
 
 -- a list of one element alone, and none beyond it
 pub same_all : {A : Type 0} → (d : A) (n k : ℕ) → slice_index_or (replicate n d) k d ≡ d
@@ -382,13 +393,13 @@ module _ (p : WrittenExpression) (t : Table) (rows : List (List Bool)) (keeps : 
       let old = table.room in
       let same = λ (q : ℕ) (behind : leaves_row t.room ≤ q). keeps.same q (behind_states t.count t.room q behind some) in
       table_more p t with_rows same_states refl table (search rules) (λ q low. inl low) (λ q k low near some. inl (low, refl)) (λ root kind. inl refl)
-      (λ byte lt low h. rw (same (takers_row t.room (slice_index_or t.layout.classes byte 0)) (omega arith)) (table.takers byte lt low h)) (inl refl)
+      (λ byte lt low h. rw (same (takers_row t.room (column_for t.layout byte)) (omega arith)) (table.takers byte lt low h)) (inl refl)
 
   pub adds_rows : (new : Table) → AddsStates (length p.nodes) with_rows new → AddsStates (length p.nodes) t new
   adds_rows new adds = record { shape = adds.shape; grows = adds.grows; kept = λ e q low. adds.kept e q low ∙ same_states.kept refl q low; full = adds.full; forgot = adds.forgot }
 
 -- nor where a row behind theirs is made
-module _ (p : WrittenExpression) (t : Table) (rows : List (List Bool)) (z takers : ℕ) (behind : leaves_row t.room ≤ z) (keeps : KeepsRows (λ q. IsApart 2 t.count q × (q ≢ z)) t.rows rows) (few : t.count ≤ t.room) where
+module _ (p : WrittenExpression) (t : Table) (rows : List (List Bool)) (z : ℕ) (takers : List Bool) (behind : leaves_row t.room ≤ z) (keeps : KeepsRows (λ q. IsApart 2 t.count q × (q ≢ z)) t.rows rows) (few : t.count ≤ t.room) where
   abbrev with_notes : Table
   with_notes = record t { rows = rows; has_takers = takers }
 

@@ -1,12 +1,12 @@
 -- Private to the proofs: no contract that `sedmatch` makes public cites what is here.
 -- A table of the passes of one way: its states, its cells, and the codes by which they name states.
-use Rattle.std.specs.Prelude.{◌&&◌, ◌||◌, not, IfSome, Option, ◌≡◌, ℕ, ◌+◌, ◌*◌, ◌/◌, ◌^◌, ◌<◌, ◌≤◌, ◌↔◌, Bool, true, false, eqb, List, length, slice_index_or, Some, IsTrue, vec_capacity}
-use Rattle.std.specs.Int.{bit_at, from_bool}
+use Rattle.std.specs.Prelude.{◌&&◌, ◌||◌, not, IfSome, Option, ◌≡◌, ℕ, ◌+◌, ◌*◌, ◌/◌, ◌^◌, ◌<◌, ◌≤◌, ◌↔◌, ◌⊎◌, Bool, true, false, List, length, slice_index_or, Some, IsTrue, vec_capacity}
+use Rattle.std.specs.Int.{from_bool}
 use Rattle.sedre.specs.Arena.{IsExpr}
 use Rattle.sedre.specs.declared.types.Node.{Node}
 use Rattle.sedtext.specs.Reach.{Starts}
 use Rattle.sedtext.specs.Words.{row_of}
-use Rattle.sedpass.specs.Rows.{nodes_of, at_begin, at_edge, bits, leaves_row, ends_row, RowOfPlace, IsFirstRow, RowFollows, RowLeadsTo, InTree, AreTakers, has_mark, root_of}
+use Rattle.sedpass.specs.Rows.{nodes_of, at_begin, at_edge, bits, leaves_row, ends_row, RowOfPlace, IsFirstRow, RowFollows, RowLeadsTo, InTree, AreTakers, SameBytes, has_mark, root_of}
 use Rattle.sedpass.specs.Prepared.{SameNulls, null_in}
 use Rattle.sedpass.specs.declared.nodes.PlaceKind.{PlaceKind}
 use Rattle.sedre.specs.Tree.{WrittenExpression}
@@ -16,7 +16,6 @@ use Rattle.sedpass.specs.declared.cells.StateFlags.{StateFlags}
 use Rattle.sedpass.specs.declared.cells.Layout.{Layout}
 use Rattle.sedpass.specs.declared.table.Beginning.{Beginning}
 use Rattle.sedpass.specs.declared.table.Table.{Table}
-use Rattle.sedpass.specs.Classes.{AreAlike}
 
 -- Codes of states, and where the cells of a state are.
 
@@ -24,24 +23,37 @@ use Rattle.sedpass.specs.Classes.{AreAlike}
 abbrev pub code_of : StateFlags → ℕ → ℕ
 code_of flags offset = offset + 536870912 * (1 + 2 * from_bool flags.ends + 4 * from_bool flags.dead)
 
--- the column of a class of bytes: those at the text's edge come behind the others
-abbrev pub column_at : ℕ → ℕ → Bool → ℕ
-column_at columns class false = class
-column_at columns class true = columns + class
+-- the column of a byte
+abbrev pub column_for : Layout → ℕ → ℕ
+column_for layout byte = slice_index_or layout.column_of byte 0
 
--- the cells of a state are few for the nodes, and have room; bytes of one class are in the same sets
+-- which of a state's cells is for a byte, where the text's edge comes after it, or doesn't
+abbrev pub cell_for : Layout → ℕ → Bool → ℕ
+cell_for layout byte true = layout.edge_at + column_for layout byte
+cell_for layout byte false = column_for layout byte
+
+-- how many cells a state has
+abbrev pub cells_in : Layout → ℕ
+cells_in layout = layout.edge_at + layout.columns
+
+-- each byte has a column, and bytes of one that is filled are in the same sets
+unfoldable pub AreColumns : List Node → Layout → Type 0
+AreColumns nodes layout =
+    ((byte : ℕ) → byte < 256 → column_for layout byte < layout.columns)
+    × ((one other : ℕ) → one < 256 → other < 256 → column_for layout one < layout.filled → column_for layout one ≡ column_for layout other → SameBytes nodes (Some one) (Some other))
+
+-- there are cells apart for bytes after which the text's edge comes, unless that tells nothing for null strings
+unfoldable pub HasEdgeCells : List Node → Bool → Layout → Type 0
+HasEdgeCells nodes mirrored layout = (layout.columns ≤ layout.edge_at) ⊎ ((layout.edge_at ≡ 0) × SameNulls nodes mirrored (length nodes))
+
+-- the cells of a state are few for the nodes, and have room
 pub record IsLayout (nodes : List Node) (mirrored : Bool) (layout : Layout) : Type 0 where
-  pub few : layout.columns ≤ length nodes + 1
-  pub classes : AreAlike nodes layout.classes
+  pub few : cells_in layout ≤ 2 * length nodes + 2
+  pub bytes : AreColumns nodes layout
   pub small : layout.shift ≤ 8
   pub tight : 2 ^ layout.shift ≤ 4 * (length nodes + 1)
-  pub fits : 2 * layout.columns ≤ 2 ^ layout.shift
-  pub edges : layout.edges ≡ false → SameNulls nodes mirrored (length nodes)
-
--- the column is the byte's
-abbrev pub IsColumn : Layout → ℕ → Bool → ℕ → Type 0
-IsColumn layout byte edge k =
-    (slice_index_or layout.classes byte 0 < layout.columns) × (k ≡ column_at layout.columns (slice_index_or layout.classes byte 0) (edge && layout.edges))
+  pub fits : cells_in layout ≤ 2 ^ layout.shift
+  pub edges : HasEdgeCells nodes mirrored layout
 
 -- States.
 
@@ -127,13 +139,13 @@ LinksTo act byte t q v = let m = length act.prepared.now.nodes in
 
 -- Cells.
 
--- what is in the cell of a state and a column
+-- what is in the cell k of a state
 abbrev pub cell_of : Table → ℕ → ℕ → ℕ
 cell_of t q k = slice_index_or t.cells.items (q * 2 ^ t.layout.shift + k) 0
 
--- each byte of the column leads from the state of number q to this one
+-- each byte of the cell k leads from the state of number q to this one
 abbrev pub LeadsBy : WrittenExpression → Table → ℕ → ℕ → PassState → Type 0
-LeadsBy e t q k b = (byte : ℕ) (edge : Bool) → byte < 256 → IsColumn t.layout byte edge k →
+LeadsBy e t q k b = (byte : ℕ) (edge : Bool) → byte < 256 → k ≡ cell_for t.layout byte edge →
     LeadsOn e t.way (state_of (length e.nodes) t q) byte edge b
 
 -- Beginnings.
@@ -193,14 +205,14 @@ IsOrigin e way a = (a.root ≡ root_of e) × RowFollows (nodes_of way e) (root_o
 abbrev pub HasOrigin : WrittenExpression → Table → Type 0
 HasOrigin e t = IfSome t.origin (NamesState (length e.nodes) t (IsOrigin e t.way))
 
--- the row of the leaves that take bytes of a class
+-- the row of the leaves that take bytes of a column
 abbrev pub takers_row : ℕ → ℕ → ℕ
-takers_row room class = leaves_row room + class
+takers_row room column = leaves_row room + column
 
--- of each class of bytes for which that is noted a row shows which leaves take them
+-- of each column of bytes for which that is noted a row shows which leaves take them
 abbrev pub HasTakers : WrittenExpression → Table → Type 0
-HasTakers e t = (byte : ℕ) → byte < 256 → let class = slice_index_or t.layout.classes byte 0 in
-    class < 128 → IsTrue (eqb (bit_at t.has_takers class) 1) → AreTakers (nodes_of t.way e) byte (row_of t.rows (takers_row t.room class))
+HasTakers e t = (byte : ℕ) → byte < 256 → let column = column_for t.layout byte in
+    column < t.layout.filled → IsTrue (slice_index_or t.has_takers column false) → AreTakers (nodes_of t.way e) byte (row_of t.rows (takers_row t.room column))
 
 -- what a table says is right for the expression: of each state, each filled cell, and each beginning of this epoch
 pub record IsTable (e : WrittenExpression) (t : Table) : Type 0 where
@@ -208,7 +220,7 @@ pub record IsTable (e : WrittenExpression) (t : Table) : Type 0 where
   pub room : HasRoom (length e.nodes) t
   pub layout : IsLayout e.nodes t.way.mirrored t.layout
   pub roots : (q : ℕ) → q < t.count → (state_of (length e.nodes) t q).root < length e.nodes
-  pub filled : (q k : ℕ) → q < t.count → k < 2 * t.layout.columns → 0 < cell_of t q k → NamesState (length e.nodes) t (LeadsBy e t q k) (cell_of t q k)
+  pub filled : (q k : ℕ) → q < t.count → k < cells_in t.layout → 0 < cell_of t q k → NamesState (length e.nodes) t (LeadsBy e t q k) (cell_of t q k)
   pub begun : (root : ℕ) (kind : PlaceKind) → MayBegin e t.way root → (beginning_of t (beginning_at t.way.all_starts root kind)).epoch ≡ t.epoch →
       NamesState (length e.nodes) t (BeginsIn (nodes_of t.way e) t.way root kind) (beginning_of t (beginning_at t.way.all_starts root kind)).code
   pub takers : HasTakers e t

@@ -1,7 +1,7 @@
 //! How a table names its states by codes, and lays out their cells.
-ghost use Rattle.std.specs.Prelude.{◌≡◌, ℕ, false, ◌+◌, ◌<◌, ◌≤◌, length, slice_index_or, IfSome, IsTrue, vec_capacity};
+ghost use Rattle.std.specs.Prelude.{◌≡◌, ℕ, false, ◌+◌, ◌<◌, ◌≤◌, length, min, slice_index_or, IsTrue, vec_capacity};
 ghost use Rattle.sedre.specs.Steps.{TakesExactly};
-ghost use Rattle.sedpass.specs.Table.{code_of, IsLayout, IsColumn};
+ghost use Rattle.sedpass.specs.Table.{code_of, cell_for, cells_in, IsLayout};
 ghost use Rattle.sedpass.specs.declared.cells.StateFlags.{StateFlags};
 
 use crate::nodes::Prepared;
@@ -10,7 +10,7 @@ use sedre::Steps;
 /// The cells of all states begin below this place.
 const PLACES: u32 = 1 << 29;
 
-/// How many cells a state has at most; it has no more than `4 * (nodes + 1)` either.
+/// How many cells a state has at most; it has no more than `2 * (nodes + 1)` either.
 pub const MOST_CELLS: usize = 256;
 
 /// What is known of a state.
@@ -25,13 +25,16 @@ pub struct StateFlags {
 /// How the cells of a state are laid out.
 #[derive(Drop)]
 pub struct Layout {
-    /// The class of each byte: bytes of one class are in the same sets.
-    pub classes: [u8; 256],
-    /// How many classes of bytes have cells: one each, and behind these one each for bytes after which the text's edge comes, if that
-    /// tells something. What a byte of another class leads to is found out anew each time.
+    /// The column of each byte.
+    pub column_of: [u8; 256],
+    /// How many columns there are.
     pub columns: u16,
-    /// Whether the edge tells something for null strings.
-    pub edges: bool,
+    /// How many of them are filled: bytes of one of these are in the same sets. What a byte of another leads to is found out anew
+    /// each time.
+    pub filled: u16,
+    /// From which of a state's cells on those are for bytes after which the text's edge comes: all, where that tells nothing for null
+    /// strings.
+    pub edge_at: u16,
     /// The cells of a state begin at its number times this power of two.
     pub shift: u32,
 }
@@ -86,33 +89,54 @@ pub fn is_plain(code: u32) -> bool
     code / PLACES == 1
 }
 
+/// The classes of bytes as columns, of which the last one has all that come after it too.
+fn columns_of(classes: &[u8; 256], last: u8) -> [u8; 256]
+    ensures { (byte : ℕ) → byte < 256 → slice_index_or result byte 0 ≡ min (slice_index_or classes.now byte 0) last }
+{
+    let mut columns = [0u8; 256];
+    for byte in 0..256usize {
+        columns[byte] = classes[byte].min(last);
+    }
+    columns
+}
+
 impl Layout {
     /// The cells of a state for an expression: few for each node, so that a new state costs little.
     pub fn new(prepared: &Prepared, mirrored: bool) -> Layout
         ensures { IsLayout prepared.now.nodes mirrored result }
     {
-        let classes = prepared.classes().count.min(prepared.nodes() + 1);
-        let columns = classes.min(MOST_CELLS / 2);
+        let (classes, tells) = (prepared.classes(), prepared.edge_tells(mirrored));
+        let most = (2 * prepared.nodes() + 2).min(MOST_CELLS);
+        let columns = classes.count.min(if tells { most / 2 } else { most });
+        let last = columns - 1;
+        let edge_at = if tells { columns } else { 0 };
         Layout {
-            classes: prepared.classes().of,
+            column_of: columns_of(&classes.of, last as u8),
             columns: columns as u16,
-            edges: prepared.edge_tells(mirrored),
+            filled: if classes.count == columns { columns } else { last } as u16,
+            edge_at: edge_at as u16,
             // the least such power that is no smaller than the cells
-            shift: (2 * columns - 1).ilog2() + 1,
+            shift: (2 * (edge_at + columns) - 1).ilog2(),
         }
     }
 
-    /// The column of a byte, if the cells of its class are kept. `edge` says whether the text's edge comes after the byte.
-    pub fn column(&self, byte: u8, edge: bool) -> Option<usize>
-        ensures { IfSome result (IsColumn self.now byte edge) }
+    /// How many cells a state has.
+    pub fn cells(&self) -> usize
+        ensures { result ≡ cells_in self.now }
     {
-        let class = self.classes[byte as usize] as usize;
-        let columns = self.columns as usize;
-        if class >= columns {
-            return None;
+        self.edge_at as usize + self.columns as usize
+    }
+
+    /// Which of a state's cells is for a byte. `edge` says whether the text's edge comes after the byte.
+    pub fn cell(&self, byte: u8, edge: bool) -> usize
+        ensures { result ≡ cell_for self.now byte edge }
+    {
+        let column = self.column_of[byte as usize] as usize;
+        if edge {
+            self.edge_at as usize + column
+        } else {
+            column
         }
-        let edge = edge & self.edges;
-        Some(if edge { columns + class } else { class })
     }
 }
 

@@ -4,7 +4,6 @@
 //! filled when it is first asked for, by one act. A full table is emptied, and the pass goes on: so an unlucky text costs
 //! an act and a state for each byte, never more.
 ghost use Rattle.std.specs.Prelude.{◌≡◌, ◌&&◌, ◌||◌, ℕ, ◌+◌, ◌-◌, ◌*◌, ◌/◌, ◌^◌, ◌<◌, ◌≤◌, length, IfOk, IfSome, IsTrue, None, Some, is_some, eqb, false, ◌≢◌, vec_len};
-ghost use Rattle.std.specs.Int.{bit_at};
 ghost use Rattle.sedre.specs.Steps.{Takes, TakesAtLeast};
 ghost use Rattle.sedtext.specs.Words.{KeepsRows, row_of};
 ghost use Rattle.sedpass.specs.Rows.{AreTakers, nodes_of, IsApart, bits, has_mark, leaves_row, root_of};
@@ -60,14 +59,14 @@ pub struct Table {
     pub rows: Rows,
     /// For each state the root of its pass.
     pub roots: Vec<usize>,
-    /// For each state and column the code of the state that comes next, or 0 where it isn't known yet. There is room for all
+    /// For each state and column the code of the state that comes next, or 0 where it isn't known. There is room for all
     /// states; the cells of a state are there once it was added, so that memory is touched only then.
     pub cells: Vec<u32>,
     index: Vec<Slot>,
     /// For each root and kind of place where a pass begins.
     pub beginnings: Vec<Beginning>,
-    /// A bit for each class of bytes that has cells: whether a row behind those of the states has the leaves that take them.
-    has_takers: u128,
+    /// For each column of bytes whether a row behind those of the states has the leaves that take them.
+    has_takers: [bool; 256],
     /// For each state one of which fewer leaves may take a byte. A wrong number costs time, never an answer.
     links: Vec<usize>,
     /// The code of the state at places between the edges where nothing but a match's beginning goes on, if there is one yet.
@@ -77,29 +76,13 @@ pub struct Table {
 /// With fewer nodes each act finds out anew what a match's beginning leads to.
 const MANY_NODES: usize = 16;
 
-/// Whether a class is among those with these bits.
-fn has_class(classes: u128, class: usize) -> bool
-    requires { class < 128 }
-    ensures { result ≡ eqb (bit_at classes class) 1 }
-{
-    (classes >> class) & 1 == 1
-}
-
-/// The bits of the classes, and of one more.
-fn with_class(classes: u128, class: usize) -> u128
-    requires { class < 128 }
-    ensures others { (k : ℕ) → k < 128 → k ≢ class → bit_at result k ≡ bit_at classes k }
-{
-    classes | (1u128 << class)
-}
-
-/// The row of the leaves that take bytes of a class.
-fn takers_row(room: usize, class: usize) -> usize
+/// The row of the leaves that take bytes of a column.
+fn takers_row(room: usize, column: usize) -> usize
     requires room { room ≤ 65535 }
-    requires class { class < 256 }
-    ensures { result ≡ takers_row room class }
+    requires column { column < 256 }
+    ensures { result ≡ takers_row room column }
 {
-    leaves_row(room) + class
+    leaves_row(room) + column
 }
 
 /// The epoch after one, which no beginning noted so far has.
@@ -126,8 +109,8 @@ impl Table {
     {
         // A beginning for each kind of place: of each node, with all starts of the whole expression alone.
         let kinds = if way.all_starts { 4 } else { 4 * most };
-        // With all starts a row for each class of bytes that has cells.
-        let classes = if way.all_starts {
+        // With all starts a row for each column of bytes.
+        let columns = if way.all_starts {
             (most + 1).min(MOST_CELLS / 2)
         } else {
             0
@@ -137,20 +120,21 @@ impl Table {
             room,
             marks: most,
             layout: Layout {
-                classes: [0; 256],
+                column_of: [0; 256],
                 columns: 0,
-                edges: true,
+                filled: 0,
+                edge_at: 0,
                 shift: 0,
             },
             count: 0,
             epoch: 1,
-            rows: Rows::new(alloc, 2 * room + 4 + classes, most)?,
+            rows: Rows::new(alloc, 2 * room + 4 + columns, most)?,
             roots: vec![in alloc; 0; room]?,
             cells: Vec::with_capacity(alloc, room * MOST_CELLS.min(4 * (most + 1)))?,
             // An odd number and one: by a power of two only a digest's last bits would count.
             index: vec![in alloc; Slot { epoch: 0, state: 0 }; 2 * room + 2]?,
             beginnings: vec![in alloc; Beginning { epoch: 0, code: 0 }; kinds]?,
-            has_takers: 0,
+            has_takers: [false; 256],
             links: vec![in alloc; 0; room]?,
             origin: None,
         })
@@ -164,7 +148,7 @@ impl Table {
     {
         let _nodes = prepared.nodes();
         self.layout = Layout::new(prepared, self.way.mirrored);
-        self.has_takers = 0;
+        self.has_takers = [false; 256];
         self.origin = None;
         self.count = 0;
         self.epoch = next_epoch(self.epoch);
@@ -232,8 +216,8 @@ impl Table {
         let state = self.count;
         self.roots[state] = root;
         let (offset, size) = (state << self.layout.shift, 1usize << self.layout.shift);
-        let columns = self.layout.columns as usize;
-        empty_cells(&mut self.cells, offset, 2 * columns, size, steps);
+        let width = self.layout.cells();
+        empty_cells(&mut self.cells, offset, width, size, steps);
         self.index[slot] = Slot {
             epoch: (self.epoch % 65536) as u16,
             state: state as u16,
@@ -278,7 +262,7 @@ impl Table {
         code_of(flags, state << self.layout.shift)
     }
 
-    /// The row of the leaves that take a byte, which is made unless it is there; none with few nodes, where the byte's class has no row,
+    /// The row of the leaves that take a byte, which is made unless it is there; none with few nodes, where the byte's column has no row,
     /// and where the root of the act isn't the expression's.
     fn find_takers(&mut self, act: Act, byte: u8, steps: &mut Steps) -> Option<usize>
         requires table { IsTable act.prepared.now self.old }
@@ -293,58 +277,50 @@ impl Table {
         ensures cost { Takes steps.old steps.new (2 * length act.entry.prepared.now.nodes) }
         ensures none { result ≡ None → steps.new ≡ steps.old }
     {
-        let class = self.layout.classes[byte as usize] as usize;
-        let row = takers_row(self.room, class);
-        let few = act.prepared.nodes() < MANY_NODES || class >= MOST_CELLS / 2;
+        let column = self.layout.column_of[byte as usize] as usize;
+        let row = takers_row(self.room, column);
+        let few = act.prepared.nodes() < MANY_NODES || column >= self.layout.filled as usize;
         if few || row >= self.rows.len() || act.root != act.prepared.root() {
             return None;
         }
-        if !has_class(self.has_takers, class) {
+        if !self.has_takers[column] {
             mark_takers(act, byte, row, &mut self.rows, steps);
-            self.has_takers = with_class(self.has_takers, class);
+            self.has_takers[column] = true;
         }
         Some(row)
     }
 
-    /// Takes off those of the leaves that took a byte that take it where the origin's are entered, if they all took it. `takers` is the
-    /// row of the leaves that take it.
+    /// Takes off those of the leaves that took a byte that take it where a link's are entered, if they all took it. `takers` is the row
+    /// of the leaves that take it.
     fn take_off(
         &mut self,
         prepared: &Prepared,
-        origin: usize,
+        link: usize,
         takers: usize,
         steps: &mut Steps,
     ) -> bool
         requires table { IsTable prepared.now self.old }
         requires room { self.old.count < self.old.room }
-        requires origin { origin < self.old.count }
+        requires link { link < self.old.count }
         requires takers { (leaves_row self.old.room ≤ takers) × (takers < length self.old.rows) }
         ensures table { IsTable prepared.now self.new }
         ensures same { (then : Table) → AddsStates (length prepared.now.nodes) self.new then → AddsStates (length prepared.now.nodes) self.old then }
         ensures rows { KeepsRows (λ q. IsApart 2 self.old.count q) self.old.rows self.new.rows }
         ensures count { self.new.count ≡ self.old.count }
         ensures shape { SameShape self.old self.new }
-        ensures others { let m = length prepared.now.nodes in let origin_took = λ (c : ℕ). (has_mark (row_of self.old.rows (leaves_row origin)) c && has_mark (row_of self.old.rows takers) c) in
-            IsTrue result → (c : ℕ) → c < m → has_mark (row_of self.old.rows 1) c ≡ (origin_took c || has_mark (row_of self.new.rows 1) c) }
+        ensures others { let m = length prepared.now.nodes in let link_took = λ (c : ℕ). (has_mark (row_of self.old.rows (leaves_row link)) c && has_mark (row_of self.old.rows takers) c) in
+            IsTrue result → (c : ℕ) → c < m → has_mark (row_of self.old.rows 1) c ≡ (link_took c || has_mark (row_of self.new.rows 1) c) }
         ensures less { (c : ℕ) → c < length prepared.now.nodes → IsTrue (has_mark (row_of self.new.rows 1) c) → IsTrue (has_mark (row_of self.old.rows 1) c) }
         ensures none { result ≡ false → row_of self.new.rows 1 ≡ row_of self.old.rows 1 }
-        ensures cost { Takes steps.old steps.new (4 * length prepared.now.nodes) }
+        ensures cost { Takes steps.old steps.new (2 * length prepared.now.nodes) }
     {
-        let (nodes, left) = (prepared.nodes(), leaves_row(self.count));
+        let (nodes, leaves) = (prepared.nodes(), leaves_row(link));
         let rows = &mut self.rows;
-        rows.blend(
-            Blend::Both,
-            ENTERED,
-            leaves_row(origin),
-            takers,
-            nodes,
-            steps,
-        );
-        rows.blend(Blend::Without, left, ENTERED, ENDED, nodes, steps);
-        if !rows.is_clear(left, nodes, steps) {
+        // The row of what begins is free until `ascend`.
+        if !rows.take_off(ENTERED, ENDED, leaves, takers, nodes, steps) {
             return false;
         }
-        rows.blend(Blend::Without, ENDED, ENDED, ENTERED, nodes, steps);
+        rows.blend(Blend::First, ENDED, ENTERED, ENTERED, nodes, steps);
         true
     }
 
@@ -535,10 +511,9 @@ impl Table {
         };
         let epoch = self.epoch;
         let next = self.make(act, byte, state, steps);
-        if self.epoch == epoch
-            && let Some(column) = self.layout.column(byte, edge)
-        {
-            self.cells[offset + column] = next;
+        let column = self.layout.cell(byte, false);
+        if self.epoch == epoch && column < self.layout.filled as usize {
+            self.cells[offset + self.layout.cell(byte, edge)] = next;
         }
         next
     }
@@ -549,14 +524,9 @@ impl Table {
         requires offset { IsOffset self.now offset }
         ensures { 0 < result → NamesState (length prepared.now.nodes) self.now (IsNext prepared.now self.now offset byte edge) result }
     {
-        match self.layout.column(byte, edge) {
-            Some(column) => {
-                // A cell is waited for by its offset alone: the column is known before.
-                let cells = &self.cells[column..];
-                cells[offset]
-            }
-            None => 0,
-        }
+        // A cell is waited for by the state's offset alone: which of the state's it is, is known before.
+        let cells = &self.cells[self.layout.cell(byte, edge)..];
+        cells[offset]
     }
 
     /// The code of the state after the state whose cells begin at `offset`, and a byte. `edge` says whether the text's edge

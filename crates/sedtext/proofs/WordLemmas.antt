@@ -1,6 +1,6 @@
 -- Marks as words of 64, and the lowest bits of words.
-use Rattle.sedtext.proofs.Words.{◌%◌, ◌&&◌, ◌*◌, ◌+◌, ◌-◌, ◌/◌, ◌<◌, ◌^◌, ◌↔◌, ◌∙◌, ◌≡◌, ◌≢◌, ◌≤◌, ◌⊎◌, [], arith, bit_and, bit_at, bit_at_not, bit_at_or, bit_not, bit_or, blended, Blend, not, ◌||◌, bit_at-lt, bit_at-trailing_zeros, bit_at-zero, bit_at_and, Bool, cases_eq, cases_lt, eqb}
-use Rattle.sedtext.proofs.Words.{eqb-true, false, get_or-map-range_with_len, get_or-replicate, get_or-set_other, get_or-set_same, get_or_default, get_or_past, Inside, is_set, IsTrue, KeepsRows, length}
+use Rattle.sedtext.proofs.Words.{ap, inl, inr, sym, ◌%◌, ◌&&◌, ◌*◌, ◌+◌, ◌-◌, ◌/◌, ◌<◌, ◌^◌, ◌↔◌, ◌∙◌, ◌≡◌, ◌≢◌, ◌≤◌, ◌⊎◌, [], arith, bit_and, bit_at, bit_at_not, bit_at_or, bit_not, bit_or, blended, Blend, not, ◌||◌, bit_at-lt, bit_at-trailing_zeros, bit_at-zero, bit_at_and, Bool, cases_eq, cases_lt, eqb}
+use Rattle.sedtext.proofs.Words.{eqb-true, false, get_or-map-range_with_len, get_or-replicate, get_or-set_other, get_or-set_same, get_or_default, get_or_past, Inside, is_set, IsTrue, KeepsRows, Lacks, length}
 use Rattle.sedtext.proofs.Words.{length-map-range_with_len, length-replicate, length-set, List, mul-le-mul_left, replicate, row_at, row_of, rows_of, same_lists, slice_index_or, slice_set, tabulated, trailing_zeros, w64, ℕ}
 
 -- the bit of a number
@@ -24,6 +24,28 @@ module _ (marks others : List Bool) (count x word two low : ℕ)
   pub meet_later : low ≡ 0 → ((c : ℕ) → c < 64 * x → Meet marks others count c → ⊥) → (c : ℕ) → c < 64 * (x + 1) → Meet marks others count c → ⊥
   meet_later none before c up met =
       let k = c - 64 * x in grind (arith, before c, bit_at_and word two k, bit_at-zero k, lowest k, mine k, theirs k)
+
+-- marks that are bits of words, and the lowest bits that two of these have in common and the first hasn't
+module _ (first one other : List Bool) (count x word common low : ℕ) (had : (k : ℕ) → k < 64 → 64 * x + k < count → IsTrue (slice_index_or first (64 * x + k) false) ↔ (bit_at word k ≡ 1))
+    (both : (k : ℕ) → k < 64 → 64 * x + k < count → (IsTrue (slice_index_or one (64 * x + k) false) × IsTrue (slice_index_or other (64 * x + k) false)) ↔ (bit_at common k ≡ 1))
+    (bits : (k : ℕ) → k < 64 → k < count - 64 * x → eqb (bit_at low k) 1 ≡ (eqb (bit_at common k) 1 && not (eqb (bit_at word k) 1))) where
+  pub lacks_here : low ≢ 0 → low < 2 ^ 64 → ((i : ℕ) → count - 64 * x ≤ i → bit_at low i ≡ 0) → (c : ℕ) × Lacks first one other count c
+  lacks_here some fits none =
+      let k = trailing_zeros w64 low in
+      let is = bit_at-trailing_zeros w64 low (omega (arith, some)) fits in
+      (64 * x + k, grind (arith, is, none k, bits k, bit_at-lt word k, bit_at-lt common k, had k, both k))
+
+  pub lacks_later : low ≡ 0 → ((c : ℕ) → c < 64 * x → Lacks first one other count c → ⊥) → (c : ℕ) → c < 64 * (x + 1) → Lacks first one other count c → ⊥
+  lacks_later none before c up lacks = let k = c - 64 * x in grind (arith, before c, bits k, bit_at-zero k, bit_at-lt word k, bit_at-lt common k, had k, both k)
+
+-- where a word's bits are those of one without those that two others have in common, so are its marks
+pub marked_left : (words other : List ℕ) (base had one two i : ℕ) →
+    ((k : ℕ) → k < 64 → eqb (bit_at (slice_index_or words (base + i / 64) 0) k) 1 ≡ (eqb (bit_at (slice_index_or other (had + i / 64) 0) k) 1 && not (eqb (bit_at (slice_index_or other (one + i / 64) 0) k) 1 && eqb (bit_at (slice_index_or other (two + i / 64) 0) k) 1))) →
+    is_set words (64 * base + i) ≡ (is_set other (64 * had + i) && not (is_set other (64 * one + i) && is_set other (64 * two + i)))
+marked_left words other base had one two i made =
+    let k = i % 64 in
+    let bit = λ (ws : List ℕ) (from : ℕ). set_at ws (64 * from + i) (from + i / 64) k (omega arith) (omega arith) in
+    rw (bit words base, bit other had, bit other one, bit other two) (made k (omega arith))
 
 -- marks that are bits of a word which aren't set
 pub marks_none : (marks : List Bool) (count x word from least : ℕ) → ((k : ℕ) → k < 64 → 64 * x + k < count → IsTrue (slice_index_or marks (64 * x + k) false) ↔ (bit_at word k ≡ 1)) →
@@ -115,6 +137,14 @@ row_kept words after width marks q low same = table-is _ marks _ (length-table _
 -- words of one row are not those of another
 pub row_apart : (width q p k c : ℕ) → k < width → c ≤ width → q ≢ p → (width * q + k < width * p) ⊎ (width * p + c ≤ width * q + k)
 row_apart width q p k c lt low apart = grind (arith, cases_lt q p, mul-le-mul_left {m = q + 1} {n = p} width, mul-le-mul_left {m = p + 1} {n = q} width)
+
+-- a word that isn't of the row, or comes later, isn't written
+pub unwritten : (initial words : List ℕ) (x width row other : ℕ) → x < width → ((k : ℕ) → k < width * row → slice_index_or words k 0 ≡ slice_index_or initial k 0) → ((k : ℕ) → width * row + x ≤ k → slice_index_or words k 0 ≡ slice_index_or initial k 0) →
+    slice_index_or words (width * other + x) 0 ≡ slice_index_or initial (width * other + x) 0
+unwritten initial words x width row other less before rest = elim (cases_eq row other) [
+  | inl e ↦ rest (width * other + x) (omega (arith, ap (λ n. width * n) e))
+  | inr apart ↦ grind (arith, before (width * other + x), rest (width * other + x), row_apart width other row x x less (omega (arith, less)) (λ e. apart (sym e)))
+]
 
 -- what is known of the words of a row, for rows that contracts see as a list
 module _ (r : Inside) (seen : List (List Bool)) (is : rows_of r.words.items r.width r.marks r.count ≡ seen) (inside : (r.marks ≤ 64 * r.width) × (r.width * r.count ≤ length r.words.items)) where

@@ -4,6 +4,7 @@ use Rattle.sedpass.proofs.OneGroupLemmas.{settle-not, settle_takes, takes_blank}
 use Rattle.sedpass.proofs.TurnLemmas.{alt_turned, group_turned, leaf_turned, opt_done, opt_turned, part_inside, seq_turned, star_done, star_turned}
 use Rattle.sedpass.proofs.groups.turn_node.Goals as goal
 use Rattle.sedpass.proofs.groups.turn_node.Goals.{In-Alt, Joined-spans, then-has, else-has, then-here, else-here}
+use Rattle.sedpass.proofs.KeptLemmas.{space_then}
 use Rattle.sedpass.proofs.LeaveLemmas.{reaches_ends}
 
 pub returns-in-Seq-clause-turned : goal.returns-in-Seq-clause-turned
@@ -100,6 +101,16 @@ returns-in-Some-clause-turned c =
     let last = c.last_copy.ensures in
     rw (c.in-Star.is, c.index-node-in-Some.ensures)
     (star_turned _ _ _ _ _ _ _ _ _ _ (rw c.in-Star.is at c.requires.at).stands c.in-Some.ensures.copy (c.begin.ensures.root ∙ c.index-node-in-Some.ensures) c.begin.ensures.end last.cost last.counts)
+
+pub returns-in-Some-clause-desk : goal.returns-in-Some-clause-desk
+returns-in-Some-clause-desk c =
+    let last = c.last_copy.ensures.desk in
+    let shape = last.shape in
+    record {
+      desk = record { region = c.begin.ensures.kept; one_end = last.desk.one_end; forward_part = last.desk.forward_part };
+      shape = record { forward_any = shape.forward_any; forward_one = shape.forward_one; reverse_one = shape.reverse_one; forward_part = shape.forward_part };
+      space = space_then _ _ _ last.space c.begin.ensures.space;
+    }
 
 pub is_null-requires : goal.is_null-requires
 is_null-requires c = search (rules, part_inside c.args.subject c.args.here (Opt c.in-Opt.a c.in-Opt.first) (rw c.in-Opt.is at c.requires.at).stands c.in-Opt.a.index refl)

@@ -81,10 +81,15 @@ loop-place-preserved c =
 pub returns-clause-keeps : goal.returns-clause-keeps
 returns-clause-keeps c =
     let last = c.loop-place.invariant in
+    let grown = c.grow.ensures in
     record {
       kept = kept_passed _ _ c.loop-place.table c.loop-place.self _ c.loop-place.place c.loop-place.offset last.passes (λ b above before. last.edges b (omega arith) before) (omega arith) (omega arith) refl refl refl refl refl;
       shape = search (rules, c.edge_state-offset.ensures.adds.shape, last.shape);
-      same = search (rules, last.same);
+      same = record {
+        root = last.same.root ∙ ap (λ r. r.root) grown.same.0;
+        end = last.same.end ∙ ap (λ r. r.end) grown.same.0;
+        space = record { places = last.same.space.places ∙ grown.capacity; edges = last.same.space.edges ∙ ap length grown.same.1; marks = λ q. last.same.space.marks q ∙ ap (λ rows. length (row_of rows q)) grown.same.1 };
+      };
     }
 
 pub returns-clause-cost : goal.returns-clause-cost
@@ -94,6 +99,14 @@ returns-clause-cost c =
     let m = length c.args.subject.prepared.now.nodes in
     let at : c.loop-place.place ≡ c.args.low = omega arith in
     omega (arith, first.cost, last.cost, ap (λ v. m * v) at, mul-sub m c.args.self.now.region.end c.args.low, mul-le-mul_left m c.requires.low)
+
+pub copy-requires-clause-row : goal.copy-requires-clause-row
+copy-requires-clause-row c =
+    let width = c.loop-place.table.room - 1 in
+    let block = (c.loop-place.place - 1) / width in
+    let region = c.loop-place.invariant.passes.region in
+    let inside : block * width ≤ length c.args.subject.text.now = omega (arith, div-mul-le_self (c.loop-place.place - 1) width, c.loop-place.invariant.order, c.loop-place.invariant.end_is, region.within) in
+    omega (arith, region.room.blocks block inside)
 
 pub copy-requires-then-place-end-clause-row : goal.copy-requires-then-place-end-clause-row
 copy-requires-then-place-end-clause-row c =

@@ -15,12 +15,12 @@ leads c =
 pub index_mut-requires : goal.index_mut-requires
 index_mut-requires c =
     let codes = c.make-next.ensures.codes in
-    omega (arith, cell_there _ _ codes.table _ _ _ _ (offset_more c.args.prepared.now _ _ codes.adds c.if-self-epoch.true _ c.requires.offset) c.in-Some.ensures, c.make-next.new.self.cells.ok)
+    omega (arith, cell_there c.args.prepared.now c.make-next.new.self codes.table c.args.offset c.args.byte c.args.edge (offset_more c.args.prepared.now _ _ codes.adds c.if-self-epoch.true _ c.requires.offset) c.ranges.byte.fits, c.cell.ensures, c.make-next.new.self.cells.ok)
 
-pub returns-in-Some-clause-codes : goal.returns-in-Some-clause-codes
-returns-in-Some-clause-codes c =
-    note_cell c.args.prepared.now c.args.self.now c.make-next.new.self c.args.offset c.in-Some.column c.make-next.result c.args.byte c.args.edge c.if-self-epoch.true c.requires.offset (omega arith) c.in-Some.ensures
-    (leads (goal.at.returns-in-Some-clause-codes c).After-make-next)
+pub returns-then-column-self-clause-codes : goal.returns-then-column-self-clause-codes
+returns-then-column-self-clause-codes c =
+    note_cell c.args.prepared.now c.args.self.now c.make-next.new.self c.args.offset c.make-next.result c.args.byte c.args.edge c.if-self-epoch.true c.requires.offset c.ranges.byte.fits (omega (arith, c.if-column-self.true, c.cell-column.ensures)) c.cell.result c.cell.ensures
+    (leads (goal.at.returns-then-column-self-clause-codes c).After-make-next)
 
 pub returns-else-self-epoch-clause-codes : goal.returns-else-self-epoch-clause-codes
-returns-else-self-epoch-clause-codes c = search (rules, leads)
+returns-else-self-epoch-clause-codes c = leads (goal.at.returns-else-self-epoch-clause-codes c).After-make-next

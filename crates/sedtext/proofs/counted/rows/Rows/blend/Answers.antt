@@ -1,5 +1,5 @@
 use Rattle.sedtext.proofs.Words.{ap, ◌*◌, ◌+◌, ◌<◌, ◌∙◌, ◌≡◌, ◌≢◌, ◌≤◌, ℕ, List, cases_eq, get_or_default, get_or-set_same, get_or-set_other, length, length-set, slice_index_or, sym}
-use Rattle.sedtext.proofs.WordLemmas.{marked_blend, new_bit, row_apart, row_bit}
+use Rattle.sedtext.proofs.WordLemmas.{marked_blend, new_bit, row_bit, unwritten}
 use Rattle.sedtext.proofs.Closing.{arith, inl, inr, row_there, row_written}
 use Rattle.sedtext.proofs.counted.rows.Rows.blend.Goals as goal
 
@@ -13,14 +13,6 @@ returns-clause-marks c i lt =
     let bit = row_bit r seen c.self.view_is c.self.invariant in
     let met = marked_blend c.args.how c.loop-x.words.items r.words.items (r.width * c.args.row) (r.width * c.args.one) (r.width * c.args.other) i (c.loop-x.invariant.met _ (omega (arith, lt, c.div_ceil-x-end.ensures, c.loop-x-test.false))) in
     rw (new_bit r seen c.self.view_is c.self.invariant c.loop-x.words.items c.args.row i c.requires.row (omega (arith, lt, c.requires.inside)), bit c.args.one c.args.count c.requires.one c.requires.in_one i lt, bit c.args.other c.args.count c.requires.other c.requires.in_other i lt) met
-
--- a word that isn't of the row, or comes later, isn't written
-unwritten : (initial words : List ℕ) (x width row other : ℕ) → x < width → ((k : ℕ) → k < width * row → slice_index_or words k 0 ≡ slice_index_or initial k 0) → ((k : ℕ) → width * row + x ≤ k → slice_index_or words k 0 ≡ slice_index_or initial k 0) →
-    slice_index_or words (width * other + x) 0 ≡ slice_index_or initial (width * other + x) 0
-unwritten initial words x width row other less before rest = elim (cases_eq row other) [
-  | inl e ↦ rest (width * other + x) (omega (arith, ap (λ n. width * n) e))
-  | inr apart ↦ grind (arith, before (width * other + x), rest (width * other + x), row_apart width other row x x less (omega (arith, less)) (λ e. apart (sym e)))
-]
 
 pub loop-x-preserved : goal.loop-x-preserved
 loop-x-preserved c =
