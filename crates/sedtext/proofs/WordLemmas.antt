@@ -1,7 +1,7 @@
 -- Marks as words of 64, and the lowest bits of words.
-use Rattle.sedtext.proofs.Words.{ap, inl, inr, sym, ◌%◌, ◌&&◌, ◌*◌, ◌+◌, ◌-◌, ◌/◌, ◌<◌, ◌^◌, ◌↔◌, ◌∙◌, ◌≡◌, ◌≢◌, ◌≤◌, ◌⊎◌, [], arith, bit_and, bit_at, bit_at_not, bit_at_or, bit_not, bit_or, blended, Blend, not, ◌||◌, bit_at-lt, bit_at-trailing_zeros, bit_at-zero, bit_at_and, Bool, cases_eq, cases_lt, eqb}
+use Rattle.sedtext.proofs.Words.{ap, ext_get_or, inl, inr, refl, suc, sym, zero, ◌++◌, ◌∷◌, ◌%◌, ◌&&◌, ◌*◌, ◌+◌, ◌-◌, ◌/◌, ◌<◌, ◌^◌, ◌↔◌, ◌∙◌, ◌≡◌, ◌≢◌, ◌≤◌, ◌⊎◌, [], arith, bit_and, bit_at, bit_at_not, bit_at_or, bit_not, bit_or, blended, Blend, not, ◌||◌, bit_at-lt, bit_at-trailing_zeros, bit_at-zero, bit_at_and, Bool, cases_eq, cases_lt, eqb}
 use Rattle.sedtext.proofs.Words.{eqb-true, false, get_or-map-range_with_len, get_or-replicate, get_or-set_other, get_or-set_same, get_or_default, get_or_past, Inside, is_set, IsTrue, KeepsRows, Lacks, length}
-use Rattle.sedtext.proofs.Words.{length-map-range_with_len, length-replicate, length-set, List, mul-le-mul_left, replicate, row_at, row_of, rows_of, same_lists, slice_index_or, slice_set, tabulated, trailing_zeros, w64, ℕ}
+use Rattle.sedtext.proofs.Words.{length-map-range_with_len, length-replicate, length-set, List, mul-le-mul_left, padded, replicate, row_at, row_of, rows_of, same_lists, slice_index_or, slice_set, tabulated, trailing_zeros, w64, ℕ}
 
 -- the bit of a number
 pub set_at : (words : List ℕ) (c x k : ℕ) → c ≡ 64 * x + k → k < 64 → is_set words c ≡ eqb (bit_at (slice_index_or words x 0) k) 1
@@ -89,6 +89,38 @@ pub zero_unmarked : (words : List ℕ) (i : ℕ) → slice_index_or words (i / 6
 unfolding is_set
 zero_unmarked words i is = grind (arith, bit_at-zero)
 
+-- words that aren't written are 0
+pub length-padded : (words : List ℕ) (n : ℕ) → length (padded words n) ≡ n
+unfolding padded
+length-padded words n = length-table _ n
+
+pub padded-get : (words : List ℕ) (n i : ℕ) → length words ≤ n → slice_index_or (padded words n) i 0 ≡ slice_index_or words i 0
+unfolding padded
+padded-get words n i few = elim (cases_lt i n) [
+  | inl lt ↦ table-get _ n i 0 lt
+  | inr past ↦ get_or_past _ i 0 (omega (arith, past, length-table (λ k. slice_index_or words k 0) n)) ∙ sym (get_or_past words i 0 (omega (arith, past, few)))
+]
+
+padded-is : (words more : List ℕ) (n : ℕ) → length words ≤ n → length more ≡ n → ((k : ℕ) → k < n → slice_index_or words k 0 ≡ slice_index_or more k 0) → padded words n ≡ more
+padded-is words more n few long same = ext_get_or 0 _ _ (length-padded words n ∙ sym long) (λ k lt. padded-get words n k few ∙ same k (omega (arith, lt, length-padded words n)))
+
+-- a 0 more
+pub zero_more : (words : List ℕ) (k : ℕ) → slice_index_or (words ++ (0 ∷ [])) k 0 ≡ slice_index_or words k 0
+zero_more [] zero = refl
+zero_more [] (suc k) = refl
+zero_more (word ∷ rest) zero = refl
+zero_more (word ∷ rest) (suc k) = zero_more rest k
+
+pub padded-none : (n : ℕ) → padded [] n ≡ replicate n 0
+padded-none n = padded-is [] (replicate n 0) n (omega arith) (length-replicate n 0) (λ k lt. sym (get_or-replicate n k 0 0 lt))
+
+pub padded-set : (words grown : List ℕ) (n i word : ℕ) → length words ≤ n → length grown ≤ n → i < length grown → ((k : ℕ) → slice_index_or grown k 0 ≡ slice_index_or words k 0) → padded (slice_set grown i word) n ≡ slice_set (padded words n) i word
+padded-set words grown n i word few some lt same =
+    padded-is (slice_set grown i word) (slice_set (padded words n) i word) n (omega (arith, some, length-set grown i word)) (length-set (padded words n) i word ∙ length-padded words n) (λ k low. elim (cases_eq k i) [
+      | inl e ↦ rw e (get_or-set_same grown i word 0 lt ∙ sym (get_or-set_same (padded words n) i word 0 (omega (arith, lt, some, length-padded words n))))
+      | inr ne ↦ get_or-set_other grown i k word 0 ne ∙ same k ∙ sym (padded-get words n k few) ∙ sym (get_or-set_other (padded words n) i k word 0 ne)
+    ])
+
 -- a mark of a row
 pub length-rows_of : (words : List ℕ) (width marks n : ℕ) → length (rows_of words width marks n) ≡ n
 unfolding rows_of
@@ -147,18 +179,18 @@ unwritten initial words x width row other less before rest = elim (cases_eq row 
 ]
 
 -- what is known of the words of a row, for rows that contracts see as a list
-module _ (r : Inside) (seen : List (List Bool)) (is : rows_of r.words.items r.width r.marks r.count ≡ seen) (inside : (r.marks ≤ 64 * r.width) × (r.width * r.count ≤ length r.words.items)) where
+module _ (r : Inside) (seen : List (List Bool)) (is : rows_of r.words r.width r.marks r.count ≡ seen) (inside : (r.marks ≤ 64 * r.width) × (r.width * r.count ≤ length r.words) × (length r.words < 2 ^ 63)) where
   pub rows_seen : r.count ≡ length seen
   rows_seen = grind (arith, length-rows_of)
 
-  pub row_seen : (q : ℕ) → q < length seen → row_at r.words.items r.width r.marks q ≡ row_of seen q
+  pub row_seen : (q : ℕ) → q < length seen → row_at r.words r.width r.marks q ≡ row_of seen q
   row_seen q lt = grind (arith, rows_seen, rows_of-get)
 
   pub marks_seen : (q : ℕ) → q < length seen → r.marks ≡ length (row_of seen q)
-  marks_seen q lt = grind (arith, is, length-row r.words.items r.width r.marks r.count q, rows_seen)
+  marks_seen q lt = grind (arith, is, length-row r.words r.width r.marks r.count q, rows_seen)
 
   -- the words of a row are there, and are enough for its marks
-  pub row_there : (q : ℕ) → q < length seen → (r.width * q < 2 ^ 63) × (r.width * q + r.width ≤ length r.words.items) × (r.width * q + r.width < 2 ^ 63) × (length (row_of seen q) ≤ 64 * r.width)
+  pub row_there : (q : ℕ) → q < length seen → (r.width * q < 2 ^ 63) × (r.width * q + r.width ≤ length r.words) × (r.width * q + r.width < 2 ^ 63) × (length (row_of seen q) ≤ 64 * r.width)
   row_there q lt = grind (arith, marks_seen, rows_seen)
 
   -- a mark of a row is a bit, whatever was written
@@ -166,30 +198,30 @@ module _ (r : Inside) (seen : List (List Bool)) (is : rows_of r.words.items r.wi
   unfolding row_at
   new_bit words q i lt low = grind (arith, marks_seen, rows_of-get, rows_seen, table-get)
 
-  pub row_bit : (q c : ℕ) → q < length seen → c ≤ length (row_of seen q) → (i : ℕ) → i < c → slice_index_or (row_of seen q) i false ≡ is_set r.words.items (64 * (r.width * q) + i)
-  row_bit q c lt low i under = grind (arith, new_bit r.words.items)
+  pub row_bit : (q c : ℕ) → q < length seen → c ≤ length (row_of seen q) → (i : ℕ) → i < c → slice_index_or (row_of seen q) i false ≡ is_set r.words (64 * (r.width * q) + i)
+  row_bit q c lt low i under = grind (arith, new_bit r.words)
 
   -- the marks in a word of a row
-  pub word_at : (q count x word : ℕ) → q < length seen → count ≤ length (row_of seen q) → word ≡ slice_index_or r.words.items (r.width * q + x) word →
+  pub word_at : (q count x word : ℕ) → q < length seen → count ≤ length (row_of seen q) → word ≡ slice_index_or r.words (r.width * q + x) 0 →
       (k : ℕ) → k < 64 → 64 * x + k < count → IsTrue (slice_index_or (row_of seen q) (64 * x + k) false) ↔ (bit_at word k ≡ 1)
-  word_at q count x word lt few read k small under = grind (arith, get_or_default, eqb-true, set_at r.words.items (64 * (r.width * q) + (64 * x + k)) (r.width * q + x) k, row_bit q count lt few, row_there q lt)
+  word_at q count x word lt few read k small under = grind (arith, get_or_default, eqb-true, set_at r.words (64 * (r.width * q) + (64 * x + k)) (r.width * q + x) k, row_bit q count lt few, row_there q lt)
 
   -- a mark of a row is read
-  pub mark_read : (q i word : ℕ) → q < length seen → i < length (row_of seen q) → word ≡ slice_index_or r.words.items (r.width * q + i / 64) word → eqb (bit_at word (i % 64)) 1 ≡ slice_index_or (row_of seen q) i false
-  mark_read q i word lt low read = grind (arith, get_or_default, row_there q lt, row_bit q (i + 1) lt, set_at r.words.items (64 * (r.width * q) + i) (r.width * q + i / 64) (i % 64))
+  pub mark_read : (q i word : ℕ) → q < length seen → i < length (row_of seen q) → word ≡ slice_index_or r.words (r.width * q + i / 64) 0 → eqb (bit_at word (i % 64)) 1 ≡ slice_index_or (row_of seen q) i false
+  mark_read q i word lt low read = grind (arith, get_or_default, row_there q lt, row_bit q (i + 1) lt, set_at r.words (64 * (r.width * q) + i) (r.width * q + i / 64) (i % 64))
 
   -- a mark of a row is written
-  pub mark_written : (q i old word : ℕ) (v : Bool) → q < length seen → i < length (row_of seen q) → old ≡ slice_index_or r.words.items (r.width * q + i / 64) 0 →
+  pub mark_written : (q i old word : ℕ) (v : Bool) → q < length seen → i < length (row_of seen q) → old ≡ slice_index_or r.words (r.width * q + i / 64) 0 →
       eqb (bit_at word (i % 64)) 1 ≡ v → ((b : ℕ) → b < 64 → b ≢ i % 64 → bit_at word b ≡ bit_at old b) →
-      row_of (rows_of (slice_set r.words.items (r.width * q + i / 64) word) r.width r.marks r.count) q ≡ slice_set (row_of seen q) i v
+      row_of (rows_of (slice_set r.words (r.width * q + i / 64) word) r.width r.marks r.count) q ≡ slice_set (row_of seen q) i v
   mark_written q i old word v lt low read same other = grind (arith, marks_seen, row_at-set, row_seen, row_there, rows_of-get, rows_seen)
 
   -- where words of one row alone were written, the others are as they were
-  pub row_written : (after : List ℕ) (p c : ℕ) → c ≤ r.width → ((k : ℕ) → k < r.width * p → slice_index_or after k 0 ≡ slice_index_or r.words.items k 0) →
-      ((k : ℕ) → r.width * p + c ≤ k → slice_index_or after k 0 ≡ slice_index_or r.words.items k 0) → KeepsRows (λ q. q ≢ p) seen (rows_of after r.width r.marks r.count)
+  pub row_written : (after : List ℕ) (p c : ℕ) → c ≤ r.width → ((k : ℕ) → k < r.width * p → slice_index_or after k 0 ≡ slice_index_or r.words k 0) →
+      ((k : ℕ) → r.width * p + c ≤ k → slice_index_or after k 0 ≡ slice_index_or r.words k 0) → KeepsRows (λ q. q ≢ p) seen (rows_of after r.width r.marks r.count)
   row_written after p c narrow before rest = grind (arith, get_or_past, length-row, length-rows_of, marks_seen, row_apart, row_kept, row_seen, rows_of-get, rows_seen)
 
-  pub mark_keeps : (p i word : ℕ) → p < length seen → i < length (row_of seen p) → KeepsRows (λ q. q ≢ p) seen (rows_of (slice_set r.words.items (r.width * p + i / 64) word) r.width r.marks r.count)
+  pub mark_keeps : (p i word : ℕ) → p < length seen → i < length (row_of seen p) → KeepsRows (λ q. q ≢ p) seen (rows_of (slice_set r.words (r.width * p + i / 64) word) r.width r.marks r.count)
   mark_keeps p i word lt low =
-      let other = λ (k : ℕ). get_or-set_other r.words.items (r.width * p + i / 64) k word 0 in
+      let other = λ (k : ℕ). get_or-set_other r.words (r.width * p + i / 64) k word 0 in
       row_written _ p r.width (omega arith) (λ k under. other k (omega (arith, under))) (λ k over. other k (omega (arith, over, row_there p lt)))

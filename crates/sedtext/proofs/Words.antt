@@ -4,7 +4,7 @@ pub use Rattle.std.proofs.Common.{IsTrue, length, length-append, length-drop, le
 pub use Rattle.std.proofs.lemmas.Bool.{agree_below_at, and_from, and_parts, cases_eq, cases_lt, cond_both, eqb-true, lt-leb, ltb-true, ne_eqb, or_left, or_right}
 pub use Rattle.std.proofs.lemmas.Bool.Decides.{Decides-and, Decides-below_or, Decides-eqb, Decides-or, nat_tests, same_from_decides}
 pub use Rattle.std.proofs.lemmas.Grind.{common_steps}
-pub use Rattle.std.proofs.lemmas.List.{append-nil, get_or-drop, get_or-map, get_or-replicate, get_or-reverse, get_or-set_other, get_or-set_same, get_or_append_left, get_or_default, get_or_past, length-map, length-replicate, length-reverse, length-set, reverse-reverse, same_lists, take-append-drop, take_more, take_rest}
+pub use Rattle.std.proofs.lemmas.List.{append-nil, ext_get_or, get_or-drop, get_or-map, get_or-replicate, get_or-reverse, get_or-set_other, get_or-set_same, get_or_append_left, get_or_default, get_or_past, length-map, length-replicate, length-reverse, length-set, reverse-reverse, same_lists, take-append-drop, take_more, take_rest}
 pub use Rattle.std.proofs.lemmas.List.Elements.{All-append, All-nil, All-pop, All-push}
 pub use Rattle.std.proofs.lemmas.List.FromFn.{get_or-map-range_with_len, length-map-range_with_len}
 pub use Rattle.std.proofs.lemmas.Nat.{and_le_l, and_mask, one_shl}
@@ -50,7 +50,7 @@ pub use Rattle.sedtext.specs.Sieve.{AllPass, HasLanes, IsMarked, MarksPlaces, No
 pub use Rattle.sedtext.specs.Spans.{CopiesLead, IsIn, IsLeftmostLongest, Matches, no_copy, NotFound, one_more, SomeFound}
 pub use Rattle.sedtext.specs.Words.{KeepsRows, Lacks, blended, row_of}
 pub use Rattle.sedtext.specs.declared.counted.rows.Blend.{Blend}
-unfoldable pub use Rattle.sedtext.specs.Words.{row_at, rows_of, tabulated}
+unfoldable pub use Rattle.sedtext.specs.Words.{padded, row_at, rows_of, tabulated}
 pub use Rattle.sedtext.specs.declared.hints.Begins.TheVariants.{Before, With}
 pub use Rattle.sedtext.specs.declared.counted.nibbles.TheConstants.{UPPER}
 pub use Rattle.sedtext.specs.declared.counted.rows.Rows.TheInside.{Inside}

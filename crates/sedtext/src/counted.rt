@@ -6,6 +6,7 @@ ghost use Rattle.std.specs.Prelude.{◌≡◌, ℕ, List, ◌+◌, ◌^◌, ◌<
 ghost use Rattle.sedtext.specs.Bytes.{FirstFrom, passed_to};
 ghost use Rattle.sedre.specs.Steps.{TakesExactly};
 
+mod lazy_words;
 pub mod lookups;
 pub mod members;
 pub mod nibbles;

@@ -5,6 +5,7 @@ ghost use Rattle.std.specs.Int.{bit_at};
 ghost use Rattle.sedtext.specs.Words.{AgreeBelow, KeepsRows, Lacks, blended, rows_of, row_of};
 ghost use Rattle.sedre.specs.Steps.{CostsWithin, TakesExactly};
 
+use crate::counted::lazy_words::LazyWords;
 use sedre::Steps;
 use std::alloc::{AllocError, Global};
 use std::marker::Model;
@@ -31,7 +32,7 @@ impl Marks {
     {
         let width = len / 64 + 1;
         let row = Rows {
-            words: vec![in alloc; 0; width]?,
+            words: LazyWords::new(alloc, width)?,
             width,
             marks: len,
             count: 1,
@@ -95,10 +96,11 @@ impl Blend {
 /// What the factors of a digest are made of: a number whose bits follow no rule.
 const FACTOR: u64 = 0x9E37_79B9_7F4A_7C15;
 
-/// Rows of marks, all of them in one piece of memory. A word contains 64 marks of a row.
+/// Rows of marks, all of them in one piece of memory, which is touched up to the last row that was written. A word contains 64 marks of
+/// a row.
 #[derive(Drop)]
 pub struct Rows {
-    words: Vec<u64>,
+    words: LazyWords,
     width: usize,
     marks: usize,
     count: usize,
@@ -107,9 +109,9 @@ pub struct Rows {
 impl Model for Rows {
     ghost Value = { List (List Bool) };
 
-    ghost view = { λ r. rows_of r.words.items r.width r.marks r.count };
+    ghost view = { λ r. rows_of r.words r.width r.marks r.count };
 
-    ghost invariant = { λ r. (r.marks ≤ 64 * r.width) × (r.width * r.count ≤ length r.words.items) };
+    ghost invariant = { λ r. (r.marks ≤ 64 * r.width) × (r.width * r.count ≤ length r.words) × (length r.words < 2 ^ 63) };
 }
 
 impl Rows {
@@ -122,7 +124,7 @@ impl Rows {
     {
         let width = marks / 64 + 1;
         Ok(Rows {
-            words: vec![in alloc; 0; width * count]?,
+            words: LazyWords::new(alloc, width * count)?,
             width,
             marks,
             count,
@@ -144,7 +146,7 @@ impl Rows {
         ensures cost { TakesExactly steps.old steps.new 1 }
     {
         steps.add(1);
-        has_bit(self.words[self.width * row + i / 64], i % 64)
+        has_bit(self.words.get(self.width * row + i / 64), i % 64)
     }
 
     /// Sets a mark of a row, or takes it away. Counts one look.
@@ -157,8 +159,8 @@ impl Rows {
     {
         steps.add(1);
         let at = self.width * row + i / 64;
-        let word = put_bit(self.words[at], i % 64, mark);
-        self.words[at] = word;
+        let word = put_bit(self.words.get(at), i % 64, mark);
+        self.words.set(at, word);
     }
 
     /// Takes the first `count` marks of a row away, a word at a time; those after them in the row may go too.
@@ -174,7 +176,7 @@ impl Rows {
         let at = self.width * row;
         let words = &mut self.words;
         for x in 0..count.div_ceil(64) {
-            words[at + x] = 0;
+            words.set(at + x, 0);
         }
     }
 
@@ -200,7 +202,7 @@ impl Rows {
         let (to, from) = (self.width * row, other.width * other_row);
         let words = &mut self.words;
         for x in 0..count.div_ceil(64) {
-            words[to + x] = other.words[from + x];
+            words.set(to + x, other.words.get(from + x));
         }
     }
 
@@ -217,7 +219,7 @@ impl Rows {
         steps.add(count);
         let (at, other) = (self.width * row, self.width * other_row);
         for x in 0..count.div_ceil(64) {
-            if self.words[at + x] != self.words[other + x] {
+            if self.words.get(at + x) != self.words.get(other + x) {
                 return false;
             }
         }
@@ -249,8 +251,8 @@ impl Rows {
         let (to, first, second) = (self.width * row, self.width * one, self.width * other);
         let words = &mut self.words;
         for x in 0..count.div_ceil(64) {
-            let word = how.word(words[first + x], words[second + x]);
-            words[to + x] = word;
+            let word = how.word(words.get(first + x), words.get(second + x));
+            words.set(to + x, word);
         }
     }
 
@@ -281,13 +283,13 @@ impl Rows {
         let (first, second) = (self.width * one, self.width * other);
         let words = &mut self.words;
         for x in 0..count.div_ceil(64) {
-            let word = words[had + x];
-            let these = words[first + x];
-            let common = these & words[second + x];
+            let word = words.get(had + x);
+            let these = words.get(first + x);
+            let common = these & words.get(second + x);
             if lowest(common & !word, count - 64 * x) != 0 {
                 return false;
             }
-            words[to + x] = word & !common;
+            words.set(to + x, word & !common);
         }
         true
     }
@@ -306,7 +308,7 @@ impl Rows {
         let at = self.width * row;
         let mut x = from;
         while x < to {
-            let next = x / 64 * 64 + lowest_from(self.words[at + x / 64], x % 64);
+            let next = x / 64 * 64 + lowest_from(self.words.get(at + x / 64), x % 64);
             if next < x / 64 * 64 + 64 {
                 let found = next.min(to);
                 steps.add(to.min(found + 1) - from);
@@ -334,7 +336,7 @@ impl Rows {
         let mut x = to;
         while x > from {
             let base = (x - 1) / 64 * 64;
-            let end = base + highest_below(self.words[at + (x - 1) / 64], x - base);
+            let end = base + highest_below(self.words.get(at + (x - 1) / 64), x - base);
             if end > base {
                 let found = from.max(end);
                 steps.add(to + 1 - found);
@@ -368,7 +370,7 @@ impl Rows {
         // Each word by a factor of its own: so no product waits for the one before it.
         let (mut digest, mut factor) = (0u64, FACTOR);
         for x in 0..count.div_ceil(64) {
-            let word = self.words[at + x];
+            let word = self.words.get(at + x);
             digest = digest.wrapping_add((word ^ (word >> 32)).wrapping_mul(factor));
             factor = factor.rotate_left(7).wrapping_add(FACTOR);
         }
@@ -395,7 +397,7 @@ impl Rows {
         steps.add(count);
         let (at, from) = (self.width * row, other.width * other_row);
         for x in 0..count.div_ceil(64) {
-            if lowest(self.words[at + x] & other.words[from + x], count - 64 * x) != 0 {
+            if lowest(self.words.get(at + x) & other.words.get(from + x), count - 64 * x) != 0 {
                 return true;
             }
         }

@@ -5,7 +5,7 @@ use Rattle.sedtext.proofs.counted.rows.Rows.last_set.Goals as goal
 pub loop-x-preserved : goal.loop-x-preserved
 loop-x-preserved c =
     let x = c.loop-x.x in
-    let mine = word_at c.self.inside c.args.self.now c.self.view_is c.self.invariant c.args.row c.args.to ((x - 1) / 64) _ c.requires.row c.requires.inside c.index.ensures in
+    let mine = word_at c.self.inside c.args.self.now c.self.view_is c.self.invariant c.args.row c.args.to ((x - 1) / 64) _ c.requires.row c.requires.inside c.get.ensures in
     record {
       steps = c.loop-x.invariant.steps;
       to = omega (arith, c.loop-x.invariant.to);
@@ -19,7 +19,7 @@ loop-x-preserved c =
 pub returns-then-end-base-clause-clear : goal.returns-then-end-base-clause-clear
 returns-then-end-base-clause-clear c n low high =
     let x = c.loop-x.x in
-    let mine = word_at c.self.inside c.args.self.now c.self.view_is c.self.invariant c.args.row c.args.to ((x - 1) / 64) _ c.requires.row c.requires.inside c.index.ensures in
+    let mine = word_at c.self.inside c.args.self.now c.self.view_is c.self.invariant c.args.row c.args.to ((x - 1) / 64) _ c.requires.row c.requires.inside c.get.ensures in
     elim (cases_lt n x) [
       | inl under ↦ marks_none (row_of c.args.self.now c.args.row) c.args.to ((x - 1) / 64) _ c.highest_below.result (x - (x - 1) / 64 * 64) mine c.highest_below.ensures.clear (omega (arith, c.loop-x-test.true)) n
           (omega (arith, low, c.max-found.ensures)) (omega (arith, under)) high
@@ -29,7 +29,7 @@ returns-then-end-base-clause-clear c n low high =
 pub returns-then-end-base-clause-set : goal.returns-then-end-base-clause-set
 returns-then-end-base-clause-set c more =
     let x = c.loop-x.x in
-    let mine = word_at c.self.inside c.args.self.now c.self.view_is c.self.invariant c.args.row c.args.to ((x - 1) / 64) _ c.requires.row c.requires.inside c.index.ensures in
+    let mine = word_at c.self.inside c.args.self.now c.self.view_is c.self.invariant c.args.row c.args.to ((x - 1) / 64) _ c.requires.row c.requires.inside c.get.ensures in
     let some : 0 < c.highest_below.result = omega (arith, c.if-end-base.true) in
     let place : 64 * ((x - 1) / 64) + (c.highest_below.result - 1) ≡ c.max-found.result - 1 = omega (arith, more, some, c.max-found.ensures) in
     let small : c.highest_below.result - 1 < 64 = omega (arith, c.highest_below.ensures.within, c.loop-x-test.true) in

@@ -5,7 +5,7 @@ use Rattle.sedtext.proofs.counted.rows.Rows.next_set.Goals as goal
 pub loop-x-preserved : goal.loop-x-preserved
 loop-x-preserved c =
     let x = c.loop-x.x in
-    let mine = word_at c.self.inside c.args.self.now c.self.view_is c.self.invariant c.args.row c.args.to (x / 64) _ c.requires.row c.requires.inside c.index.ensures in
+    let mine = word_at c.self.inside c.args.self.now c.self.view_is c.self.invariant c.args.row c.args.to (x / 64) _ c.requires.row c.requires.inside c.get.ensures in
     record {
       steps = c.loop-x.invariant.steps;
       from = omega (arith, c.loop-x.invariant.from, c.lowest_from.ensures.order);
@@ -18,7 +18,7 @@ loop-x-preserved c =
 pub returns-then-next-x-clause-clear : goal.returns-then-next-x-clause-clear
 returns-then-next-x-clause-clear c n from high =
     let x = c.loop-x.x in
-    let mine = word_at c.self.inside c.args.self.now c.self.view_is c.self.invariant c.args.row c.args.to (x / 64) _ c.requires.row c.requires.inside c.index.ensures in
+    let mine = word_at c.self.inside c.args.self.now c.self.view_is c.self.invariant c.args.row c.args.to (x / 64) _ c.requires.row c.requires.inside c.get.ensures in
     let under : n < c.args.to = omega (arith, high, c.min-found.ensures) in
     elim (cases_lt n x) [
       | inl low ↦ c.loop-x.invariant.clear n from low under
@@ -28,7 +28,7 @@ returns-then-next-x-clause-clear c n from high =
 pub returns-then-next-x-clause-set : goal.returns-then-next-x-clause-set
 returns-then-next-x-clause-set c less =
     let x = c.loop-x.x in
-    let mine = word_at c.self.inside c.args.self.now c.self.view_is c.self.invariant c.args.row c.args.to (x / 64) _ c.requires.row c.requires.inside c.index.ensures in
+    let mine = word_at c.self.inside c.args.self.now c.self.view_is c.self.invariant c.args.row c.args.to (x / 64) _ c.requires.row c.requires.inside c.get.ensures in
     let place : 64 * (x / 64) + c.lowest_from.result ≡ c.min-found.result = omega (arith, less, c.min-found.ensures) in
     let small : c.lowest_from.result < 64 = omega (arith, c.if-next-x.true) in
     rw (← place) ((mine c.lowest_from.result small (omega (arith, less, place))).1 (c.lowest_from.ensures.set small))
