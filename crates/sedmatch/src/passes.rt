@@ -51,8 +51,11 @@ const FEW_WITH_LITERAL: usize = 64;
 const TABLES: usize = 5;
 
 /// How many bytes note for a node where passes begin, eight for each of four kinds of place in three tables of passes from one start, and
-/// which leaves take bytes of a class, a bit for each of at most 128 in two tables of all starts (half as many again where rows are short).
-const NOTES_OF_NODE: usize = 3 * 4 * 8 + 2 * 24;
+/// which leaves take bytes, a bit for each of 64 columns in each table,
+const NOTES_OF_NODE: usize = 3 * 4 * 8 + TABLES * 8;
+
+/// and how many more such rows of bits take, of whole words.
+const NOTES: usize = TABLES * 64 * 8;
 
 /// How many bytes a state takes in all tables of an expression of so many nodes, at most.
 fn size_of_state(nodes: usize) -> usize
@@ -62,17 +65,21 @@ fn size_of_state(nodes: usize) -> usize
     (cells + nodes / 4 + 64).saturating_mul(TABLES)
 }
 
+/// How many bytes notes take in all tables of an expression of so many nodes, at most.
+fn size_of_notes(nodes: usize) -> usize {
+    nodes.saturating_mul(NOTES_OF_NODE).saturating_add(NOTES)
+}
+
 /// How many bytes all tables of an expression of so many nodes take, with so many states each, at most.
 pub fn size_of_tables(nodes: usize, states: usize) -> usize {
-    let notes = nodes.saturating_mul(NOTES_OF_NODE);
     size_of_state(nodes)
         .saturating_mul(states)
-        .saturating_add(notes)
+        .saturating_add(size_of_notes(nodes))
 }
 
 /// How many states each table has for so many bytes.
 fn states_in(bytes: usize, nodes: usize) -> usize {
-    bytes.saturating_sub(nodes.saturating_mul(NOTES_OF_NODE)) / size_of_state(nodes)
+    bytes.saturating_sub(size_of_notes(nodes)) / size_of_state(nodes)
 }
 
 /// An expression that is searched by passes, whose chain this is, with its own tables if there is room for them.

@@ -376,9 +376,9 @@ roomy_still m p t t' roomy same table layout small tight = search rules
 pub roomy_fewer : (k m : ℕ) (t : Table) → k ≤ m → IsRoomy m t → IsRoomy k t
 roomy_fewer k m t few roomy layout small tight = search rules
 
--- a row behind those of the states is that of none
-pub behind_states : (count room q : ℕ) → leaves_row room ≤ q → count < room → IsApart 2 count q
-behind_states count room q behind some = (omega (arith, behind), λ e. omega (arith, behind, e, some), λ e. omega (arith, behind, e, some))
+-- a row of takers is that of no state
+pub before_states : (count q : ℕ) → 2 ≤ q → q < leaves_row 0 → IsApart 2 count q
+before_states count q some before = (some, λ e. omega (arith, before, e), λ e. omega (arith, before, e))
 
 -- the rows of no state change where one is made
 module _ (p : WrittenExpression) (t : Table) (rows : List (List Bool)) (keeps : KeepsRows (IsApart 2 t.count) t.rows rows) where
@@ -391,21 +391,21 @@ module _ (p : WrittenExpression) (t : Table) (rows : List (List Bool)) (keeps : 
   pub table_rows : IsTable p t → t.count < t.room → IsTable p with_rows
   table_rows table some =
       let old = table.room in
-      let same = λ (q : ℕ) (behind : leaves_row t.room ≤ q). keeps.same q (behind_states t.count t.room q behind some) in
+      let same = λ (q : ℕ) (from : 2 ≤ q) (before : q < leaves_row 0). keeps.same q (before_states t.count q from before) in
       table_more p t with_rows same_states refl table (search rules) (λ q low. inl low) (λ q k low near some. inl (low, refl)) (λ root kind. inl refl)
-      (λ byte lt low h. rw (same (takers_row t.room (column_for t.layout byte)) (omega arith)) (table.takers byte lt low h)) (inl refl)
+      (λ byte lt few low h. rw (same (takers_row (column_for t.layout byte)) (omega arith) (omega (arith, few))) (table.takers byte lt few low h)) (inl refl)
 
   pub adds_rows : (new : Table) → AddsStates (length p.nodes) with_rows new → AddsStates (length p.nodes) t new
   adds_rows new adds = record { shape = adds.shape; grows = adds.grows; kept = λ e q low. adds.kept e q low ∙ same_states.kept refl q low; full = adds.full; forgot = adds.forgot }
 
--- nor where a row behind theirs is made
-module _ (p : WrittenExpression) (t : Table) (rows : List (List Bool)) (z : ℕ) (takers : List Bool) (behind : leaves_row t.room ≤ z) (keeps : KeepsRows (λ q. IsApart 2 t.count q × (q ≢ z)) t.rows rows) (few : t.count ≤ t.room) where
+-- nor where a row of takers is made
+module _ (p : WrittenExpression) (t : Table) (rows : List (List Bool)) (z : ℕ) (takers : List Bool) (before : z < leaves_row 0) (keeps : KeepsRows (λ q. IsApart 2 t.count q × (q ≢ z)) t.rows rows) where
   abbrev with_notes : Table
   with_notes = record t { rows = rows; has_takers = takers }
 
   same_row : (q x : ℕ) → q < t.count → (x ≡ leaves_row q) ⊎ (x ≡ ends_row q) → row_of rows x ≡ row_of t.rows x
-  same_row q x low (inl e) = keeps.same x ((omega (arith, e), λ n. omega (arith, e, n, low), λ n. omega (arith, e, n, low)), λ n. omega (arith, e, n, low, few, behind))
-  same_row q x low (inr e) = keeps.same x ((omega (arith, e), λ n. omega (arith, e, n, low), λ n. omega (arith, e, n, low)), λ n. omega (arith, e, n, low, few, behind))
+  same_row q x low (inl e) = keeps.same x ((omega (arith, e), λ n. omega (arith, e, n, low), λ n. omega (arith, e, n, low)), λ n. omega (arith, e, n, before))
+  same_row q x low (inr e) = keeps.same x ((omega (arith, e), λ n. omega (arith, e, n, low), λ n. omega (arith, e, n, low)), λ n. omega (arith, e, n, before))
 
   noted_states : AddsStates (length p.nodes) t with_notes
   noted_states = let leaves = λ (q : ℕ) (low : q < t.count). same_row q (leaves_row q) low (inl refl) in let ends = λ (q : ℕ) (low : q < t.count). same_row q (ends_row q) low (inr refl) in record {

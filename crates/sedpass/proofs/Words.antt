@@ -54,9 +54,9 @@ pub use Rattle.sedpass.specs.Forwards.{Arrives, EndsBelow, IsPassEnd, LastBelow,
 pub use Rattle.sedpass.specs.Kept.{AllMarked, ComesDown, EdgesFrom, Follows, IsEdge, IsKept, IsLive, IsRegion, KeepsRegion, KeptAt, Meet, PassesDownTo, RowKept, SameKept, SameSpace, due_place, ends_shown, owed_region, starts_shown}
 pub use Rattle.sedpass.specs.Prepared.{AreFacts, AreParents, IsFacts, IsShort, SameNulls, holds, is_one_set, length_of, null_at, null_in, nullable, repeated_set, reported, same_of, sum_of}
 pub use Rattle.sedpass.specs.Regions.{CanLeave, CeasesAt, EndsPastIn, EndsWith, IsLastIn, IsLastPart, IsRunOf, IsSetAt, MeetsAt, ReachesEnd, all_of, at_end, before_copies, before_right, in_group, last_of, repeated, with_end}
-pub use Rattle.sedpass.specs.Rows.{AddsMarks, AreNull, AreTakers, AreWide, EndKept, EndsAfter, EndsUpTo, EntersDownTo, InTree, IsApart, IsNodeRange, LeafAt, MarkLeaves, RowFollows, RowLeadsTo, RowOfPlace, SameBytes, ShowTook, TookBy, marks_of, StartsAfter, StartsWith, TakenBy, Took, at_begin, at_edge, bits, ended_by, ends_row, entered_by, is_tree, leaves_row, has_mark, nodes_of, part_of, root_of}
+pub use Rattle.sedpass.specs.Rows.{AddsMarks, AreNull, AreTakers, AreWide, EndKept, EndsAfter, EndsUpTo, EntersDownTo, InTree, IsApart, IsNodeRange, LeafAt, MarkLeaves, RowFollows, RowLeadsTo, RowOfPlace, SameBytes, ShowTook, TookBy, marks_of, StartsAfter, StartsWith, TakenBy, Took, at_begin, at_edge, bits, ended_by, ends_row, entered_by, is_tree, leaves_row, has_mark, nodes_of, part_of, root_of, takers_row}
 pub use Rattle.sedpass.specs.Search.{LooksFrom, Searched, owed_after_search, owed_kept, owed_seeking, search_cost}
-pub use Rattle.sedpass.specs.Table.{AddsStates, BeginsIn, Codes, FlagsShow, HasNewRow, HasOrigin, HasRoom, HasRows, HasTakers, IsBase, RowIs, edge_kind, middle, IsForwardOne, IsLayout, IsMade, IsNext, IsOffset, IsOrigin, IsRoomy, IsTable, LeadsBy, LeadsOn, LinksTo, MayBegin, NamesState, PassState, SameRoom, SameShape, StateAt, beginning_at, beginning_of, cell_of, code_of, cell_for, cells_in, column_for, kind_number, state_of, takers_row}
+pub use Rattle.sedpass.specs.Table.{AddsStates, BeginsIn, Codes, FlagsShow, HasNewRow, HasOrigin, HasRoom, HasRows, HasTakers, IsBase, RowIs, edge_kind, middle, IsForwardOne, IsLayout, IsMade, IsNext, IsOffset, IsOrigin, IsRoomy, IsTable, LeadsBy, LeadsOn, LinksTo, MayBegin, NamesState, PassState, SameRoom, SameShape, StateAt, beginning_at, beginning_of, cell_of, code_of, cell_for, cells_in, column_for, kind_number, state_of}
 pub use Rattle.sedpass.specs.Walks.{EntersGroups, GroupIsIn, GroupState, IsFirstState, NoneDue, WalkEnters, drop_groups, has_group, is_due, settle}
 pub use Rattle.sedpass.specs.declared.cells.Layout.{Layout}
 pub use Rattle.sedpass.specs.declared.cells.StateFlags.{StateFlags}

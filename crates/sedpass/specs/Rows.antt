@@ -31,12 +31,16 @@ abbrev pub at_edge : Bool → PlaceKind → Bool
 at_edge true kind = kind.begin
 at_edge false kind = kind.end
 
--- the rows of marks of a state: the leaves entered, and the nodes that end there; before those of the first state are two for acts
+-- the row of the leaves that take bytes of a column, of the first 64; before them are two rows for acts
+abbrev pub takers_row : ℕ → ℕ
+takers_row column = column + 2
+
+-- the rows of marks of a state: the leaves entered, and the nodes that end there
 abbrev pub leaves_row : ℕ → ℕ
-leaves_row q = 2 * q + 2
+leaves_row q = 2 * q + 66
 
 abbrev pub ends_row : ℕ → ℕ
-ends_row q = 2 * q + 3
+ends_row q = 2 * q + 67
 
 -- there are rows for the states up to the number, each of m marks or more
 abbrev pub AreWide : ℕ → ℕ → List (List Bool) → Type 0

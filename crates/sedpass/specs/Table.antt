@@ -6,7 +6,7 @@ use Rattle.sedre.specs.Arena.{IsExpr}
 use Rattle.sedre.specs.declared.types.Node.{Node}
 use Rattle.sedtext.specs.Reach.{Starts}
 use Rattle.sedtext.specs.Words.{row_of}
-use Rattle.sedpass.specs.Rows.{nodes_of, at_begin, at_edge, bits, leaves_row, ends_row, RowOfPlace, IsFirstRow, RowFollows, RowLeadsTo, InTree, AreTakers, SameBytes, has_mark, root_of}
+use Rattle.sedpass.specs.Rows.{nodes_of, at_begin, at_edge, bits, leaves_row, ends_row, takers_row, RowOfPlace, IsFirstRow, RowFollows, RowLeadsTo, InTree, AreTakers, SameBytes, has_mark, root_of}
 use Rattle.sedpass.specs.Prepared.{SameNulls, null_in}
 use Rattle.sedpass.specs.declared.nodes.PlaceKind.{PlaceKind}
 use Rattle.sedre.specs.Tree.{WrittenExpression}
@@ -167,11 +167,11 @@ MayBegin e way root = (root < length e.nodes) × (IsTrue way.all_starts → root
 
 -- Tables.
 
--- for each state that there is room for: its rows, with so many marks, and its root; behind them are rows more
+-- for each state that there is room for: its rows, with so many marks, and its root
 pub record HasRows (states marks : ℕ) (all_rows : List (List Bool)) (all_roots : List ℕ) : Type 0 where
   pub some : 2 ≤ states
   pub few : states ≤ 65535
-  pub rows : 2 * states + 4 ≤ length all_rows
+  pub rows : 2 * states + 68 ≤ length all_rows
   pub long : (q : ℕ) → q < length all_rows → length (row_of all_rows q) ≡ marks
   pub roots : length all_roots ≡ states
 
@@ -205,14 +205,10 @@ IsOrigin e way a = (a.root ≡ root_of e) × RowFollows (nodes_of way e) (root_o
 abbrev pub HasOrigin : WrittenExpression → Table → Type 0
 HasOrigin e t = IfSome t.origin (NamesState (length e.nodes) t (IsOrigin e t.way))
 
--- the row of the leaves that take bytes of a column
-abbrev pub takers_row : ℕ → ℕ → ℕ
-takers_row room column = leaves_row room + column
-
--- of each column of bytes for which that is noted a row shows which leaves take them
+-- of each of these columns of bytes for which that is noted a row shows which leaves take them
 abbrev pub HasTakers : WrittenExpression → Table → Type 0
 HasTakers e t = (byte : ℕ) → byte < 256 → let column = column_for t.layout byte in
-    column < t.layout.filled → IsTrue (slice_index_or t.has_takers column false) → AreTakers (nodes_of t.way e) byte (row_of t.rows (takers_row t.room column))
+    column < 64 → column < t.layout.filled → IsTrue (slice_index_or t.has_takers column false) → AreTakers (nodes_of t.way e) byte (row_of t.rows (takers_row column))
 
 -- what a table says is right for the expression: of each state, each filled cell, and each beginning of this epoch
 pub record IsTable (e : WrittenExpression) (t : Table) : Type 0 where

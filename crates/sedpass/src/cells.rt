@@ -109,11 +109,16 @@ impl Layout {
         let most = (2 * prepared.nodes() + 2).min(MOST_CELLS);
         let columns = classes.count.min(if tells { most / 2 } else { most });
         let last = columns - 1;
+        let filled = if classes.count > columns {
+            last
+        } else {
+            columns
+        };
         let edge_at = if tells { columns } else { 0 };
         Layout {
             column_of: columns_of(&classes.of, last as u8),
             columns: columns as u16,
-            filled: if classes.count == columns { columns } else { last } as u16,
+            filled: filled as u16,
             edge_at: edge_at as u16,
             // the least such power that is no smaller than the cells
             shift: (2 * (edge_at + columns) - 1).ilog2(),

@@ -3,15 +3,15 @@
 //! The row of a place shows which leaves are entered there, in a match from one of the pass's starts, and which nodes
 //! ended there. The leaves entered decide, with the byte, the next row: upwards from those that take it, and downwards from what begins
 //! there, over the marks that are set alone. A node's parts have lower numbers, so that one loop each way meets all of them. Rows of
-//! marks contain what acts work on: the first two what is found out of a place, and then two for each state, so that a row is made
-//! where it is kept.
+//! marks contain what acts work on: the first two what is found out of a place, then which leaves take bytes, and then two for each
+//! state, so that a row is made where it is kept.
 ghost use Rattle.std.specs.Prelude.{◌≡◌, ◌≢◌, ℕ, Bool, false, ◌+◌, ◌-◌, ◌*◌, ◌<◌, ◌≤◌, ◌↔◌, ◌||◌, ◌&&◌, length, IfSome, IsTrue, None, Some, slice_get};
 ghost use Rattle.std.specs.Option.{is_none};
 ghost use Rattle.sedre.specs.Steps.{Takes, TakesAtLeast, TakesExactly};
 ghost use Rattle.sedtext.specs.Words.{KeepsRows, row_of};
 ghost use Rattle.sedpass.specs.Prepared.{null_in};
 ghost use Rattle.sedpass.specs.Regions.{IsSetAt};
-ghost use Rattle.sedpass.specs.Rows.{nodes_of, has_mark, marks_of, root_of, AddsMarks, AreTakers, AreWide, EndsAfter, EndsUpTo, EntersDownTo, MarkLeaves, StartsAfter, StartsWith, TakenBy, TookBy, IsApart, leaves_row, ends_row};
+ghost use Rattle.sedpass.specs.Rows.{nodes_of, has_mark, marks_of, root_of, AddsMarks, AreTakers, AreWide, EndsAfter, EndsUpTo, EntersDownTo, MarkLeaves, StartsAfter, StartsWith, TakenBy, TookBy, IsApart, leaves_row, ends_row, takers_row};
 ghost use Rattle.sedpass.specs.Table.{RowIs, edge_kind};
 ghost use Rattle.sedre.specs.Arena.{IsPart};
 ghost use Rattle.sedre.specs.declared.types.Node.{Node};
@@ -48,12 +48,23 @@ pub const ENTERED: usize = 0;
 /// The row of the nodes that end at the place after at least one byte.
 pub const ENDED: usize = 1;
 
+/// How many columns of bytes have a row of the leaves that take them.
+pub const TAKERS: usize = 64;
+
+/// The row of the leaves that take bytes of a column.
+pub fn takers_row(column: usize) -> usize
+    requires { column < 64 }
+    ensures { result ≡ takers_row column }
+{
+    column + 2
+}
+
 /// The row of the leaves entered in a state.
 pub fn leaves_row(state: usize) -> usize
     requires { state ≤ 65536 }
     ensures { result ≡ leaves_row state }
 {
-    2 * state + 2
+    2 * state + TAKERS + 2
 }
 
 /// The row of the nodes that end in a state after at least one byte, and of the root if it ends there as the null string.
@@ -61,7 +72,7 @@ pub fn ends_row(state: usize) -> usize
     requires { state ≤ 65536 }
     ensures { result ≡ ends_row state }
 {
-    2 * state + 3
+    2 * state + TAKERS + 3
 }
 
 /// Whether the node is a leaf that takes the byte.

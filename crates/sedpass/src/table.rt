@@ -8,13 +8,13 @@ ghost use Rattle.sedre.specs.Steps.{Takes, TakesAtLeast};
 ghost use Rattle.sedtext.specs.Words.{KeepsRows, row_of};
 ghost use Rattle.sedpass.specs.Rows.{AreTakers, nodes_of, IsApart, bits, has_mark, leaves_row, root_of};
 ghost use Rattle.sedpass.specs.declared.cells.StateFlags.{StateFlags};
-ghost use Rattle.sedpass.specs.Table.{IsBase, LinksTo, code_of, middle, state_of, takers_row, HasNewRow, IsMade, BeginsIn, NamesState, edge_kind, IsNext, IsOffset, beginning_at, MayBegin, IsRoomy, IsTable, SameRoom, SameShape, AddsStates, Codes};
+ghost use Rattle.sedpass.specs.Table.{IsBase, LinksTo, code_of, middle, state_of, HasNewRow, IsMade, BeginsIn, NamesState, edge_kind, IsNext, IsOffset, beginning_at, MayBegin, IsRoomy, IsTable, SameRoom, SameShape, AddsStates, Codes};
 
 use crate::cells::{Layout, MOST_CELLS, StateFlags, code_of, empty_cells, offset_of};
 use crate::nodes::{PlaceKind, Prepared};
 use crate::rows::{
-    Act, ENDED, ENTERED, Way, ascend, descend, edge_kind, ends_row, forget, leaves_row,
-    mark_takers, take,
+    Act, ENDED, ENTERED, TAKERS, Way, ascend, descend, edge_kind, ends_row, forget, leaves_row,
+    mark_takers, take, takers_row,
 };
 use sedre::Steps;
 use sedtext::counted::{Blend, Rows};
@@ -54,8 +54,8 @@ pub struct Table {
     pub count: usize,
     /// Changes where the table is emptied: then no beginning that was noted has this number.
     pub epoch: u32,
-    /// Two rows for the acts, then for each state the leaves entered and the nodes that end there, and behind the last state
-    /// those of the one that is being made.
+    /// Two rows for the acts, then for columns of bytes the leaves that take them, then for each state the leaves entered and the nodes
+    /// that end there, and behind the last state those of the one that is being made.
     pub rows: Rows,
     /// For each state the root of its pass.
     pub roots: Vec<usize>,
@@ -65,7 +65,7 @@ pub struct Table {
     index: Vec<Slot>,
     /// For each root and kind of place where a pass begins.
     pub beginnings: Vec<Beginning>,
-    /// For each column of bytes whether a row behind those of the states has the leaves that take them.
+    /// For each column of bytes whether its row has the leaves that take them.
     has_takers: [bool; 256],
     /// For each state one of which fewer leaves may take a byte. A wrong number costs time, never an answer.
     links: Vec<usize>,
@@ -75,15 +75,6 @@ pub struct Table {
 
 /// With fewer nodes each act finds out anew what a match's beginning leads to.
 const MANY_NODES: usize = 16;
-
-/// The row of the leaves that take bytes of a column.
-fn takers_row(room: usize, column: usize) -> usize
-    requires room { room ≤ 65535 }
-    requires column { column < 256 }
-    ensures { result ≡ takers_row room column }
-{
-    leaves_row(room) + column
-}
 
 /// The epoch after one, which no beginning noted so far has.
 fn next_epoch(epoch: u32) -> u32
@@ -109,12 +100,6 @@ impl Table {
     {
         // A beginning for each kind of place: of each node, with all starts of the whole expression alone.
         let kinds = if way.all_starts { 4 } else { 4 * most };
-        // With all starts a row for each column of bytes.
-        let columns = if way.all_starts {
-            (most + 1).min(MOST_CELLS / 2)
-        } else {
-            0
-        };
         Ok(Table {
             way,
             room,
@@ -128,7 +113,7 @@ impl Table {
             },
             count: 0,
             epoch: 1,
-            rows: Rows::new(alloc, 2 * room + 4 + columns, most)?,
+            rows: Rows::new(alloc, leaves_row(room) + 2, most)?,
             roots: vec![in alloc; 0; room]?,
             cells: Vec::with_capacity(alloc, room * MOST_CELLS.min(4 * (most + 1)))?,
             // An odd number and one: by a power of two only a digest's last bits would count.
@@ -263,26 +248,27 @@ impl Table {
     }
 
     /// The row of the leaves that take a byte, which is made unless it is there; none with few nodes, where the byte's column has no row,
-    /// and where the root of the act isn't the expression's.
+    /// where not each place is a start, and where the root of the act isn't the expression's.
     fn find_takers(&mut self, act: Act, byte: u8, steps: &mut Steps) -> Option<usize>
         requires table { IsTable act.prepared.now self.old }
         requires way { act.way ≡ self.old.way }
         ensures table { IsTable act.entry.prepared.now self.new }
-        ensures others { KeepsRows (λ q. q < leaves_row self.old.room) self.old.rows self.new.rows }
+        ensures others { KeepsRows (λ q. leaves_row 0 ≤ q) self.old.rows self.new.rows }
         ensures same { (then : Table) → AddsStates (length act.entry.prepared.now.nodes) self.new then → AddsStates (length act.entry.prepared.now.nodes) self.old then }
         ensures count { self.new.count ≡ self.old.count }
         ensures shape { SameShape self.old self.new }
-        ensures takers { IfSome result (λ q. (leaves_row self.new.room ≤ q) × (q < length self.new.rows) × (act.entry.root ≡ root_of act.entry.prepared.now) ×
+        ensures takers { IfSome result (λ q. (2 ≤ q) × (q < leaves_row 0) × (act.entry.root ≡ root_of act.entry.prepared.now) ×
             AreTakers (nodes_of act.entry.way act.entry.prepared.now) byte (row_of self.new.rows q) × (16 ≤ length act.entry.prepared.now.nodes)) }
         ensures cost { Takes steps.old steps.new (2 * length act.entry.prepared.now.nodes) }
         ensures none { result ≡ None → steps.new ≡ steps.old }
     {
         let column = self.layout.column_of[byte as usize] as usize;
-        let row = takers_row(self.room, column);
-        let few = act.prepared.nodes() < MANY_NODES || column >= self.layout.filled as usize;
-        if few || row >= self.rows.len() || act.root != act.prepared.root() {
+        let most = TAKERS.min(self.layout.filled as usize);
+        let few = act.prepared.nodes() < MANY_NODES || !act.way.all_starts;
+        if few || column >= most || act.root != act.prepared.root() {
             return None;
         }
+        let row = takers_row(column);
         if !self.has_takers[column] {
             mark_takers(act, byte, row, &mut self.rows, steps);
             self.has_takers[column] = true;
@@ -302,7 +288,7 @@ impl Table {
         requires table { IsTable prepared.now self.old }
         requires room { self.old.count < self.old.room }
         requires link { link < self.old.count }
-        requires takers { (leaves_row self.old.room ≤ takers) × (takers < length self.old.rows) }
+        requires takers { (2 ≤ takers) × (takers < leaves_row 0) }
         ensures table { IsTable prepared.now self.new }
         ensures same { (then : Table) → AddsStates (length prepared.now.nodes) self.new then → AddsStates (length prepared.now.nodes) self.old then }
         ensures rows { KeepsRows (λ q. IsApart 2 self.old.count q) self.old.rows self.new.rows }
@@ -369,7 +355,7 @@ impl Table {
         requires kind { act.kind ≡ edge_kind act.way.mirrored (act.kind.begin || act.kind.end) }
         requires room { self.old.count < self.old.room }
         requires from { from < self.old.room }
-        requires takers { IfSome takers (λ q. (leaves_row self.old.room ≤ q) × (q < length self.old.rows) × (act.root ≡ root_of act.prepared.now) ×
+        requires takers { IfSome takers (λ q. (2 ≤ q) × (q < leaves_row 0) × (act.root ≡ root_of act.prepared.now) ×
             AreTakers (nodes_of act.way act.prepared.now) byte (row_of self.old.rows q)) }
         ensures table { IsTable act.entry.prepared.now self.new }
         ensures same { (then : Table) → AddsStates (length act.entry.prepared.now.nodes) self.new then → AddsStates (length act.entry.prepared.now.nodes) self.old then }

@@ -397,7 +397,11 @@ impl Rows {
         steps.add(count);
         let (at, from) = (self.width * row, other.width * other_row);
         for x in 0..count.div_ceil(64) {
-            if lowest(self.words.get(at + x) & other.words.get(from + x), count - 64 * x) != 0 {
+            if lowest(
+                self.words.get(at + x) & other.words.get(from + x),
+                count - 64 * x,
+            ) != 0
+            {
                 return true;
             }
         }

@@ -25,8 +25,7 @@ looked c =
     let a = c.get-these.result in
     let b = c.get.result in
     let one = read c c.args.one a c.requires.others.1 c.requires.apart.1 c.get-these.ensures in
-    let other = read c c.args.other b c.requires.others.2 c.requires.apart.2 c.get.ensures in
-    (
+    let other = read c c.args.other b c.requires.others.2 c.requires.apart.2 c.get.ensures in (
       λ k small under. grind (arith, one.1 k small under, other.1 k small under, bit_at_and a b k, bit_at-lt a k, bit_at-lt b k),
       λ k small under. ap (λ n. eqb n 1) (c.lowest.ensures.inside k under) ∙ other_bits (bit_and a b) c.get-word.result k c.get-word.type_inv small,
     )
@@ -82,5 +81,9 @@ returns-clause-marks c all i lt =
     let bit = row_bit r seen c.self.view_is c.self.invariant in
     let others = c.requires.others in
     let left = marked_left c.loop-x.words r.words (r.width * c.args.row) (r.width * c.args.from) (r.width * c.args.one) (r.width * c.args.other) i (c.loop-x.invariant.left _ (omega (arith, lt, c.div_ceil-x-end.ensures, c.loop-x-test.false))) in
-    rw (new_bit r seen c.self.view_is c.self.invariant c.loop-x.words c.args.row i c.requires.row (omega (arith, lt, c.requires.inside c.args.row c.requires.row)), bit c.args.from c.args.count others.0 (c.requires.inside c.args.from others.0) i lt,
-      bit c.args.one c.args.count others.1 (c.requires.inside c.args.one others.1) i lt, bit c.args.other c.args.count others.2 (c.requires.inside c.args.other others.2) i lt) left
+    rw (
+      new_bit r seen c.self.view_is c.self.invariant c.loop-x.words c.args.row i c.requires.row (omega (arith, lt, c.requires.inside c.args.row c.requires.row)),
+      bit c.args.from c.args.count others.0 (c.requires.inside c.args.from others.0) i lt,
+      bit c.args.one c.args.count others.1 (c.requires.inside c.args.one others.1) i lt,
+      bit c.args.other c.args.count others.2 (c.requires.inside c.args.other others.2) i lt,
+    ) left
