@@ -114,11 +114,14 @@ zero_more (word ∷ rest) (suc k) = zero_more rest k
 pub padded-none : (n : ℕ) → padded [] n ≡ replicate n 0
 padded-none n = padded-is [] (replicate n 0) n (omega arith) (length-replicate n 0) (λ k lt. sym (get_or-replicate n k 0 0 lt))
 
-pub padded-set : (words grown : List ℕ) (n i word : ℕ) → length words ≤ n → length grown ≤ n → i < length grown → ((k : ℕ) → slice_index_or grown k 0 ≡ slice_index_or words k 0) → padded (slice_set grown i word) n ≡ slice_set (padded words n) i word
-padded-set words grown n i word few some lt same =
-    padded-is (slice_set grown i word) (slice_set (padded words n) i word) n (omega (arith, some, length-set grown i word)) (length-set (padded words n) i word ∙ length-padded words n) (λ k low. elim (cases_eq k i) [
-      | inl e ↦ rw e (get_or-set_same grown i word 0 lt ∙ sym (get_or-set_same (padded words n) i word 0 (omega (arith, lt, some, length-padded words n))))
-      | inr ne ↦ get_or-set_other grown i k word 0 ne ∙ same k ∙ sym (padded-get words n k few) ∙ sym (get_or-set_other (padded words n) i k word 0 ne)
+pub padded-same : (words more : List ℕ) (n : ℕ) → length words ≤ n → length more ≤ n → ((k : ℕ) → slice_index_or words k 0 ≡ slice_index_or more k 0) → padded words n ≡ padded more n
+padded-same words more n few few' same = padded-is words (padded more n) n few (length-padded more n) (λ k lt. same k ∙ sym (padded-get more n k few'))
+
+pub padded-set : (words : List ℕ) (n i word : ℕ) → length words ≤ n → i < length words → padded (slice_set words i word) n ≡ slice_set (padded words n) i word
+padded-set words n i word few lt =
+    padded-is (slice_set words i word) (slice_set (padded words n) i word) n (omega (arith, few, length-set words i word)) (length-set (padded words n) i word ∙ length-padded words n) (λ k low. elim (cases_eq k i) [
+      | inl e ↦ rw e (get_or-set_same words i word 0 lt ∙ sym (get_or-set_same (padded words n) i word 0 (omega (arith, lt, few, length-padded words n))))
+      | inr ne ↦ get_or-set_other words i k word 0 ne ∙ sym (padded-get words n k few) ∙ sym (get_or-set_other (padded words n) i k word 0 ne)
     ])
 
 -- a mark of a row
@@ -179,18 +182,18 @@ unwritten initial words x width row other less before rest = elim (cases_eq row 
 ]
 
 -- what is known of the words of a row, for rows that contracts see as a list
-module _ (r : Inside) (seen : List (List Bool)) (is : rows_of r.words r.width r.marks r.count ≡ seen) (inside : (r.marks ≤ 64 * r.width) × (r.width * r.count ≤ length r.words) × (length r.words < 2 ^ 63)) where
+module _ (r : Inside) (seen : List (List Bool)) (is : rows_of r.words.all r.width r.marks r.count ≡ seen) (inside : (r.marks ≤ 64 * r.width) × (r.width * r.count ≤ length r.words.all) × (length r.words.all < 2 ^ 63)) where
   pub rows_seen : r.count ≡ length seen
   rows_seen = grind (arith, length-rows_of)
 
-  pub row_seen : (q : ℕ) → q < length seen → row_at r.words r.width r.marks q ≡ row_of seen q
+  pub row_seen : (q : ℕ) → q < length seen → row_at r.words.all r.width r.marks q ≡ row_of seen q
   row_seen q lt = grind (arith, rows_seen, rows_of-get)
 
   pub marks_seen : (q : ℕ) → q < length seen → r.marks ≡ length (row_of seen q)
-  marks_seen q lt = grind (arith, is, length-row r.words r.width r.marks r.count q, rows_seen)
+  marks_seen q lt = grind (arith, is, length-row r.words.all r.width r.marks r.count q, rows_seen)
 
   -- the words of a row are there, and are enough for its marks
-  pub row_there : (q : ℕ) → q < length seen → (r.width * q < 2 ^ 63) × (r.width * q + r.width ≤ length r.words) × (r.width * q + r.width < 2 ^ 63) × (length (row_of seen q) ≤ 64 * r.width)
+  pub row_there : (q : ℕ) → q < length seen → (r.width * q < 2 ^ 63) × (r.width * q + r.width ≤ length r.words.all) × (r.width * q + r.width < 2 ^ 63) × (length (row_of seen q) ≤ 64 * r.width)
   row_there q lt = grind (arith, marks_seen, rows_seen)
 
   -- a mark of a row is a bit, whatever was written
@@ -198,30 +201,30 @@ module _ (r : Inside) (seen : List (List Bool)) (is : rows_of r.words r.width r.
   unfolding row_at
   new_bit words q i lt low = grind (arith, marks_seen, rows_of-get, rows_seen, table-get)
 
-  pub row_bit : (q c : ℕ) → q < length seen → c ≤ length (row_of seen q) → (i : ℕ) → i < c → slice_index_or (row_of seen q) i false ≡ is_set r.words (64 * (r.width * q) + i)
-  row_bit q c lt low i under = grind (arith, new_bit r.words)
+  pub row_bit : (q c : ℕ) → q < length seen → c ≤ length (row_of seen q) → (i : ℕ) → i < c → slice_index_or (row_of seen q) i false ≡ is_set r.words.all (64 * (r.width * q) + i)
+  row_bit q c lt low i under = grind (arith, new_bit r.words.all)
 
   -- the marks in a word of a row
-  pub word_at : (q count x word : ℕ) → q < length seen → count ≤ length (row_of seen q) → word ≡ slice_index_or r.words (r.width * q + x) 0 →
+  pub word_at : (q count x word : ℕ) → q < length seen → count ≤ length (row_of seen q) → word ≡ slice_index_or r.words.all (r.width * q + x) 0 →
       (k : ℕ) → k < 64 → 64 * x + k < count → IsTrue (slice_index_or (row_of seen q) (64 * x + k) false) ↔ (bit_at word k ≡ 1)
-  word_at q count x word lt few read k small under = grind (arith, get_or_default, eqb-true, set_at r.words (64 * (r.width * q) + (64 * x + k)) (r.width * q + x) k, row_bit q count lt few, row_there q lt)
+  word_at q count x word lt few read k small under = grind (arith, get_or_default, eqb-true, set_at r.words.all (64 * (r.width * q) + (64 * x + k)) (r.width * q + x) k, row_bit q count lt few, row_there q lt)
 
   -- a mark of a row is read
-  pub mark_read : (q i word : ℕ) → q < length seen → i < length (row_of seen q) → word ≡ slice_index_or r.words (r.width * q + i / 64) 0 → eqb (bit_at word (i % 64)) 1 ≡ slice_index_or (row_of seen q) i false
-  mark_read q i word lt low read = grind (arith, get_or_default, row_there q lt, row_bit q (i + 1) lt, set_at r.words (64 * (r.width * q) + i) (r.width * q + i / 64) (i % 64))
+  pub mark_read : (q i word : ℕ) → q < length seen → i < length (row_of seen q) → word ≡ slice_index_or r.words.all (r.width * q + i / 64) 0 → eqb (bit_at word (i % 64)) 1 ≡ slice_index_or (row_of seen q) i false
+  mark_read q i word lt low read = grind (arith, get_or_default, row_there q lt, row_bit q (i + 1) lt, set_at r.words.all (64 * (r.width * q) + i) (r.width * q + i / 64) (i % 64))
 
   -- a mark of a row is written
-  pub mark_written : (q i old word : ℕ) (v : Bool) → q < length seen → i < length (row_of seen q) → old ≡ slice_index_or r.words (r.width * q + i / 64) 0 →
+  pub mark_written : (q i old word : ℕ) (v : Bool) → q < length seen → i < length (row_of seen q) → old ≡ slice_index_or r.words.all (r.width * q + i / 64) 0 →
       eqb (bit_at word (i % 64)) 1 ≡ v → ((b : ℕ) → b < 64 → b ≢ i % 64 → bit_at word b ≡ bit_at old b) →
-      row_of (rows_of (slice_set r.words (r.width * q + i / 64) word) r.width r.marks r.count) q ≡ slice_set (row_of seen q) i v
+      row_of (rows_of (slice_set r.words.all (r.width * q + i / 64) word) r.width r.marks r.count) q ≡ slice_set (row_of seen q) i v
   mark_written q i old word v lt low read same other = grind (arith, marks_seen, row_at-set, row_seen, row_there, rows_of-get, rows_seen)
 
   -- where words of one row alone were written, the others are as they were
-  pub row_written : (after : List ℕ) (p c : ℕ) → c ≤ r.width → ((k : ℕ) → k < r.width * p → slice_index_or after k 0 ≡ slice_index_or r.words k 0) →
-      ((k : ℕ) → r.width * p + c ≤ k → slice_index_or after k 0 ≡ slice_index_or r.words k 0) → KeepsRows (λ q. q ≢ p) seen (rows_of after r.width r.marks r.count)
+  pub row_written : (after : List ℕ) (p c : ℕ) → c ≤ r.width → ((k : ℕ) → k < r.width * p → slice_index_or after k 0 ≡ slice_index_or r.words.all k 0) →
+      ((k : ℕ) → r.width * p + c ≤ k → slice_index_or after k 0 ≡ slice_index_or r.words.all k 0) → KeepsRows (λ q. q ≢ p) seen (rows_of after r.width r.marks r.count)
   row_written after p c narrow before rest = grind (arith, get_or_past, length-row, length-rows_of, marks_seen, row_apart, row_kept, row_seen, rows_of-get, rows_seen)
 
-  pub mark_keeps : (p i word : ℕ) → p < length seen → i < length (row_of seen p) → KeepsRows (λ q. q ≢ p) seen (rows_of (slice_set r.words (r.width * p + i / 64) word) r.width r.marks r.count)
+  pub mark_keeps : (p i word : ℕ) → p < length seen → i < length (row_of seen p) → KeepsRows (λ q. q ≢ p) seen (rows_of (slice_set r.words.all (r.width * p + i / 64) word) r.width r.marks r.count)
   mark_keeps p i word lt low =
-      let other = λ (k : ℕ). get_or-set_other r.words (r.width * p + i / 64) k word 0 in
+      let other = λ (k : ℕ). get_or-set_other r.words.all (r.width * p + i / 64) k word 0 in
       row_written _ p r.width (omega arith) (λ k under. other k (omega (arith, under))) (λ k over. other k (omega (arith, over, row_there p lt)))

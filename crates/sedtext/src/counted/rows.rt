@@ -109,9 +109,9 @@ pub struct Rows {
 impl Model for Rows {
     ghost Value = { List (List Bool) };
 
-    ghost view = { λ r. rows_of r.words r.width r.marks r.count };
+    ghost view = { λ r. rows_of r.words.all r.width r.marks r.count };
 
-    ghost invariant = { λ r. (r.marks ≤ 64 * r.width) × (r.width * r.count ≤ length r.words) × (length r.words < 2 ^ 63) };
+    ghost invariant = { λ r. (r.marks ≤ 64 * r.width) × (r.width * r.count ≤ length r.words.all) × (length r.words.all < 2 ^ 63) };
 }
 
 impl Rows {
@@ -159,7 +159,8 @@ impl Rows {
     {
         steps.add(1);
         let at = self.width * row + i / 64;
-        let word = put_bit(self.words.get(at), i % 64, mark);
+        self.words.reach(at + 1);
+        let word = put_bit(self.words.read(at), i % 64, mark);
         self.words.set(at, word);
     }
 
@@ -175,6 +176,7 @@ impl Rows {
         steps.add(count);
         let at = self.width * row;
         let words = &mut self.words;
+        words.reach(at + self.width);
         for x in 0..count.div_ceil(64) {
             words.set(at + x, 0);
         }
@@ -201,6 +203,7 @@ impl Rows {
         steps.add(count);
         let (to, from) = (self.width * row, other.width * other_row);
         let words = &mut self.words;
+        words.reach(to + self.width);
         for x in 0..count.div_ceil(64) {
             words.set(to + x, other.words.get(from + x));
         }
@@ -250,8 +253,9 @@ impl Rows {
         steps.add(count);
         let (to, first, second) = (self.width * row, self.width * one, self.width * other);
         let words = &mut self.words;
+        words.reach(to.max(first).max(second) + self.width);
         for x in 0..count.div_ceil(64) {
-            let word = how.word(words.get(first + x), words.get(second + x));
+            let word = how.word(words.read(first + x), words.read(second + x));
             words.set(to + x, word);
         }
     }
@@ -282,10 +286,11 @@ impl Rows {
         let (to, had) = (self.width * row, self.width * from);
         let (first, second) = (self.width * one, self.width * other);
         let words = &mut self.words;
+        words.reach(to.max(had).max(first.max(second)) + self.width);
         for x in 0..count.div_ceil(64) {
-            let word = words.get(had + x);
-            let these = words.get(first + x);
-            let common = these & words.get(second + x);
+            let word = words.read(had + x);
+            let these = words.read(first + x);
+            let common = these & words.read(second + x);
             if lowest(common & !word, count - 64 * x) != 0 {
                 return false;
             }

@@ -3,8 +3,9 @@ use Rattle.sedtext.proofs.counted.rows.Rows.blend.Given as goal
 
 abbrev pub invariant-loop-x : goal.invariant-loop-x
 invariant-loop-x l = record {
-  long : length l.words ≡ length l.initial.words;
-  met : (k : ℕ) → k < l.x → (i : ℕ) → i < 64 → eqb (bit_at (slice_index_or l.words (l.to + k) 0) i) 1 ≡ blended l.how (eqb (bit_at (slice_index_or l.initial.words (l.first + k) 0) i) 1) (eqb (bit_at (slice_index_or l.initial.words (l.second + k) 0) i) 1);
-  before : (k : ℕ) → k < l.to → slice_index_or l.words k 0 ≡ slice_index_or l.initial.words k 0;
-  rest : (k : ℕ) → l.to + l.x ≤ k → slice_index_or l.words k 0 ≡ slice_index_or l.initial.words k 0;
+  long : length l.words.all ≡ length l.initial.words.all;
+  there : l.words.there ≡ l.initial.words.there;
+  met : (k : ℕ) → k < l.x → (i : ℕ) → i < 64 → eqb (bit_at (slice_index_or l.words.all (l.to + k) 0) i) 1 ≡ blended l.how (eqb (bit_at (slice_index_or l.initial.words.all (l.first + k) 0) i) 1) (eqb (bit_at (slice_index_or l.initial.words.all (l.second + k) 0) i) 1);
+  before : (k : ℕ) → k < l.to → slice_index_or l.words.all k 0 ≡ slice_index_or l.initial.words.all k 0;
+  rest : (k : ℕ) → l.to + l.x ≤ k → slice_index_or l.words.all k 0 ≡ slice_index_or l.initial.words.all k 0;
 }
