@@ -66,7 +66,7 @@ pub struct Table {
     /// For each root and kind of place where a pass begins.
     pub beginnings: Vec<Beginning>,
     /// For each column of bytes whether its row has the leaves that take them.
-    has_takers: [bool; 256],
+    has_takers: [bool; TAKERS],
     /// For each state one of which fewer leaves may take a byte. A wrong number costs time, never an answer.
     links: Vec<usize>,
     /// The code of the state at places between the edges where nothing but a match's beginning goes on, if there is one yet.
@@ -119,7 +119,7 @@ impl Table {
             // An odd number and one: by a power of two only a digest's last bits would count.
             index: vec![in alloc; Slot { epoch: 0, state: 0 }; 2 * room + 2]?,
             beginnings: vec![in alloc; Beginning { epoch: 0, code: 0 }; kinds]?,
-            has_takers: [false; 256],
+            has_takers: [false; TAKERS],
             links: vec![in alloc; 0; room]?,
             origin: None,
         })
@@ -133,7 +133,7 @@ impl Table {
     {
         let _nodes = prepared.nodes();
         self.layout = Layout::new(prepared, self.way.mirrored);
-        self.has_takers = [false; 256];
+        self.has_takers = [false; TAKERS];
         self.origin = None;
         self.count = 0;
         self.epoch = next_epoch(self.epoch);
