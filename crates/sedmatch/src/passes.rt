@@ -16,7 +16,7 @@ use crate::table_room::TableRoom;
 use sedpass::groups::{GroupRoom, GroupSpans, Tables, decide};
 use sedpass::kept::{Kept, Subject};
 use sedpass::nodes::{Analysis, Prepared};
-use sedpass::rows::Way;
+use sedpass::rows::{TAKERS, Way};
 use sedre::{Expr, Steps};
 use sedtext::counted::Text;
 use sedtext::hints::{Begins, Hints};
@@ -51,11 +51,11 @@ const FEW_WITH_LITERAL: usize = 64;
 const TABLES: usize = 5;
 
 /// How many bytes note for a node where passes begin, eight for each of four kinds of place in three tables of passes from one start, and
-/// which leaves take bytes, a bit for each of 64 columns in each table,
+/// which leaves take bytes, a bit for each column with a row of them in each table,
 const NOTES_OF_NODE: usize = 3 * 4 * 8 + TABLES * 8;
 
 /// and how many more such rows of bits take, of whole words.
-const NOTES: usize = TABLES * 64 * 8;
+const NOTES: usize = TABLES * TAKERS * 8;
 
 /// How many bytes a state takes in all tables of an expression of so many nodes, at most.
 fn size_of_state(nodes: usize) -> usize

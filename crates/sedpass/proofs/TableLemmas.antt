@@ -349,10 +349,9 @@ module _ (p : WrittenExpression) (t : Table) (table : IsTable p t) (offset byte 
   pub cell_there : offset + cell_for t.layout byte edge < length t.cells.items
   cell_there = omega (arith, at.1, cell_inside (2 ^ t.layout.shift) (offset / 2 ^ t.layout.shift) (cell_for t.layout byte edge) t.count (cells_in t.layout) (length t.cells.items) at.0 (cell_low p.nodes t.way.mirrored t.layout table.layout byte edge small) table.layout.fits table.room.cells)
 
-  pub known_cell : (v : ℕ) → v ≡ slice_index_or t.cells.items (offset + cell_for t.layout byte edge) v → 0 < v → NamesState (length p.nodes) t (LeadsOn p t.way (state_of (length p.nodes) t (offset / 2 ^ t.layout.shift)) byte edge) v
-  known_cell v is some =
+  pub known_cell : (v : ℕ) → v ≡ cell_of t (offset / 2 ^ t.layout.shift) (cell_for t.layout byte edge) → 0 < v → NamesState (length p.nodes) t (LeadsOn p t.way (state_of (length p.nodes) t (offset / 2 ^ t.layout.shift)) byte edge) v
+  known_cell v same some =
       let k = cell_for t.layout byte edge in
-      let same : v ≡ cell_of t (offset / 2 ^ t.layout.shift) k = is ∙ get_or_default t.cells.items (offset + k) v 0 cell_there ∙ ap (λ o. slice_index_or t.cells.items (o + k) 0) at.1 in
       rw same (names_map _ _ _ _ _ (λ b leads. leads byte edge small refl) (table.filled _ k at.0 (cell_low p.nodes t.way.mirrored t.layout table.layout byte edge small) (rw same at some)))
 
 -- a list of one element alone, and none beyond it

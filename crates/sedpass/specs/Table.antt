@@ -1,6 +1,6 @@
 -- Private to the proofs: no contract that `sedmatch` makes public cites what is here.
 -- A table of the passes of one way: its states, its cells, and the codes by which they name states.
-use Rattle.std.specs.Prelude.{◌&&◌, ◌||◌, not, IfSome, Option, ◌≡◌, ℕ, ◌+◌, ◌*◌, ◌/◌, ◌^◌, ◌<◌, ◌≤◌, ◌↔◌, ◌⊎◌, Bool, true, false, List, length, slice_index_or, Some, IsTrue, vec_capacity}
+use Rattle.std.specs.Prelude.{◌&&◌, ◌||◌, not, IfSome, Option, ◌≡◌, ℕ, ◌+◌, ◌*◌, ◌/◌, ◌%◌, ◌^◌, ◌<◌, ◌≤◌, ◌↔◌, ◌⊎◌, Bool, true, false, List, length, slice_index_or, Some, IsTrue, vec_capacity}
 use Rattle.std.specs.Int.{from_bool}
 use Rattle.sedre.specs.Arena.{IsExpr}
 use Rattle.sedre.specs.declared.types.Node.{Node}
@@ -15,6 +15,7 @@ use Rattle.sedpass.specs.declared.rows.Way.{Way}
 use Rattle.sedpass.specs.declared.cells.StateFlags.{StateFlags}
 use Rattle.sedpass.specs.declared.cells.Layout.{Layout}
 use Rattle.sedpass.specs.declared.table.Beginning.{Beginning}
+use Rattle.sedpass.specs.declared.table.Slot.{Slot}
 use Rattle.sedpass.specs.declared.table.Table.{Table}
 
 -- Codes of states, and where the cells of a state are.
@@ -142,6 +143,14 @@ LinksTo act byte t q v = let m = length act.prepared.now.nodes in
 -- what is in the cell k of a state
 abbrev pub cell_of : Table → ℕ → ℕ → ℕ
 cell_of t q k = slice_index_or t.cells.items (q * 2 ^ t.layout.shift + k) 0
+
+-- the state is one of the act's root, and the table has in a cell to which state the byte leads from it
+abbrev pub KnowsNext : Act → ℕ → Table → ℕ → Type 0
+KnowsNext act byte t q = (q < t.count) × (slice_index_or t.roots.items q 0 ≡ act.root) × (0 < cell_of t q (cell_for t.layout byte (act.kind.begin || act.kind.end)))
+
+-- the slot of the index notes the state, in this epoch
+abbrev pub Notes : Table → ℕ → ℕ → Type 0
+Notes t slot q = (q < t.count) × (slice_index_or t.index.items slot (record { epoch = 0; state = 0 }) ≡ record { epoch = t.epoch % 65536; state = q })
 
 -- each byte of the cell k leads from the state of number q to this one
 abbrev pub LeadsBy : WrittenExpression → Table → ℕ → ℕ → PassState → Type 0

@@ -1,7 +1,7 @@
 //! How a table names its states by codes, and lays out their cells.
 ghost use Rattle.std.specs.Prelude.{◌≡◌, ℕ, false, ◌+◌, ◌<◌, ◌≤◌, length, min, slice_index_or, IsTrue, vec_capacity};
 ghost use Rattle.sedre.specs.Steps.{TakesExactly};
-ghost use Rattle.sedpass.specs.Table.{code_of, cell_for, cells_in, IsLayout};
+ghost use Rattle.sedpass.specs.Table.{code_of, cell_for, cells_in, column_for, IsLayout};
 ghost use Rattle.sedpass.specs.declared.cells.StateFlags.{StateFlags};
 
 use crate::nodes::Prepared;
@@ -109,11 +109,8 @@ impl Layout {
         let most = (2 * prepared.nodes() + 2).min(MOST_CELLS);
         let columns = classes.count.min(if tells { most / 2 } else { most });
         let last = columns - 1;
-        let filled = if classes.count > columns {
-            last
-        } else {
-            columns
-        };
+        let alone = columns == classes.count;
+        let filled = if alone { columns } else { last };
         let edge_at = if tells { columns } else { 0 };
         Layout {
             column_of: columns_of(&classes.of, last as u8),
@@ -132,11 +129,19 @@ impl Layout {
         self.edge_at as usize + self.columns as usize
     }
 
+    /// The column of a byte.
+    pub fn column(&self, byte: u8) -> usize
+        ensures is { result ≡ column_for self.now byte }
+        ensures small { result < 256 }
+    {
+        self.column_of[byte as usize] as usize
+    }
+
     /// Which of a state's cells is for a byte. `edge` says whether the text's edge comes after the byte.
     pub fn cell(&self, byte: u8, edge: bool) -> usize
         ensures { result ≡ cell_for self.now byte edge }
     {
-        let column = self.column_of[byte as usize] as usize;
+        let column = self.column(byte);
         if edge {
             self.edge_at as usize + column
         } else {

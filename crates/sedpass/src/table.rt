@@ -3,12 +3,12 @@
 //! A state is the row of a place and the root of its pass, so one table serves all regions of an expression. A cell is
 //! filled when it is first asked for, by one act. A full table is emptied, and the pass goes on: so an unlucky text costs
 //! an act and a state for each byte, never more.
-ghost use Rattle.std.specs.Prelude.{◌≡◌, ◌&&◌, ◌||◌, ℕ, ◌+◌, ◌-◌, ◌*◌, ◌/◌, ◌^◌, ◌<◌, ◌≤◌, length, IfOk, IfSome, IsTrue, None, Some, is_some, eqb, false, ◌≢◌, vec_len};
+ghost use Rattle.std.specs.Prelude.{◌≡◌, ◌&&◌, ◌||◌, ℕ, ◌+◌, ◌-◌, ◌*◌, ◌/◌, ◌^◌, ◌<◌, ◌≤◌, ◌↔◌, length, IfOk, IfSome, IsTrue, None, Some, is_some, eqb, false, min, ◌≢◌, slice_index_or, vec_len};
 ghost use Rattle.sedre.specs.Steps.{Takes, TakesAtLeast};
-ghost use Rattle.sedtext.specs.Words.{KeepsRows, row_of};
+ghost use Rattle.sedtext.specs.Words.{KeepsRows, Lacks, row_of};
 ghost use Rattle.sedpass.specs.Rows.{AreTakers, nodes_of, IsApart, bits, has_mark, leaves_row, root_of};
 ghost use Rattle.sedpass.specs.declared.cells.StateFlags.{StateFlags};
-ghost use Rattle.sedpass.specs.Table.{IsBase, LinksTo, code_of, middle, state_of, HasNewRow, IsMade, BeginsIn, NamesState, edge_kind, IsNext, IsOffset, beginning_at, MayBegin, IsRoomy, IsTable, SameRoom, SameShape, AddsStates, Codes};
+ghost use Rattle.sedpass.specs.Table.{IsBase, KnowsNext, LinksTo, Notes, cell_for, cell_of, column_for, code_of, middle, state_of, HasNewRow, IsMade, BeginsIn, NamesState, edge_kind, IsNext, IsOffset, beginning_at, MayBegin, IsRoomy, IsTable, SameRoom, SameShape, AddsStates, Codes};
 
 use crate::cells::{Layout, MOST_CELLS, StateFlags, code_of, empty_cells, offset_of};
 use crate::nodes::{PlaceKind, Prepared};
@@ -164,7 +164,8 @@ impl Table {
     /// The state that a slot of the index notes, if it notes one.
     fn noted(&self, slot: usize) -> Option<usize>
         requires { slot < vec_len self.now.index }
-        ensures { IfSome result (λ q. q < self.now.count) }
+        ensures notes { IfSome result (Notes self.now slot) }
+        ensures none { result ≡ None → (q : ℕ) → Notes self.now slot q → ⊥ }
     {
         let noted = self.index[slot];
         let state = noted.state as usize;
@@ -194,7 +195,7 @@ impl Table {
         requires slot { slot < vec_len self.old.index }
         ensures table { IsTable prepared.now self.new }
         ensures adds { AddsStates (length prepared.now.nodes) self.old self.new }
-        ensures there { result < self.new.count }
+        ensures noted { Notes self.new slot result }
         ensures has { HasNewRow (length prepared.now.nodes) self.old root (state_of (length prepared.now.nodes) self.new result) }
         ensures cost { Takes steps.old steps.new (2 * length prepared.now.nodes + 2) }
     {
@@ -261,8 +262,10 @@ impl Table {
             AreTakers (nodes_of act.entry.way act.entry.prepared.now) byte (row_of self.new.rows q) × (16 ≤ length act.entry.prepared.now.nodes)) }
         ensures cost { Takes steps.old steps.new (2 * length act.entry.prepared.now.nodes) }
         ensures none { result ≡ None → steps.new ≡ steps.old }
+        ensures some { IsTrue act.entry.way.all_starts → act.entry.root ≡ root_of act.entry.prepared.now → 16 ≤ length act.entry.prepared.now.nodes →
+            column_for self.old.layout byte < min 64 self.old.layout.filled → IsTrue (is_some result) }
     {
-        let column = self.layout.column_of[byte as usize] as usize;
+        let column = self.layout.column(byte);
         let most = TAKERS.min(self.layout.filled as usize);
         let few = act.prepared.nodes() < MANY_NODES || !act.way.all_starts;
         if few || column >= most || act.root != act.prepared.root() {
@@ -298,6 +301,7 @@ impl Table {
             IsTrue result → (c : ℕ) → c < m → has_mark (row_of self.old.rows 1) c ≡ (link_took c || has_mark (row_of self.new.rows 1) c) }
         ensures less { (c : ℕ) → c < length prepared.now.nodes → IsTrue (has_mark (row_of self.new.rows 1) c) → IsTrue (has_mark (row_of self.old.rows 1) c) }
         ensures none { result ≡ false → row_of self.new.rows 1 ≡ row_of self.old.rows 1 }
+        ensures lacks { result ≡ false → (c : ℕ) × Lacks (row_of self.old.rows 1) (row_of self.old.rows (leaves_row link)) (row_of self.old.rows takers) (length prepared.now.nodes) c }
         ensures cost { Takes steps.old steps.new (2 * length prepared.now.nodes) }
     {
         let (nodes, leaves) = (prepared.nodes(), leaves_row(link));
@@ -313,7 +317,8 @@ impl Table {
     /// The code of the state to which an act's byte leads from a state, if it is one of the act's root and this is known.
     fn next_of(&self, act: Act, byte: u8, state: usize) -> Option<u32>
         requires table { IsTable act.prepared.now self.now }
-        ensures { IfSome result (LinksTo act.entry byte self.now state) }
+        ensures leads { IfSome result (LinksTo act.entry byte self.now state) }
+        ensures none { result ≡ None → KnowsNext act.entry byte self.now state → ⊥ }
     {
         if state >= self.count || self.roots[state] != act.root {
             return None;
@@ -328,7 +333,9 @@ impl Table {
     fn link(&self, act: Act, byte: u8, from: usize) -> Option<(usize, u32)>
         requires table { IsTable act.prepared.now self.now }
         requires from { from < self.now.room }
-        ensures { IfSome result (λ link. LinksTo act.entry byte self.now link.0 link.1) }
+        ensures leads { IfSome result (λ link. LinksTo act.entry byte self.now link.0 link.1) }
+        ensures own { KnowsNext act.entry byte self.now (slice_index_or self.now.links.items from 0) → IsTrue (is_some result) × IfSome result (λ link. link.0 ≡ slice_index_or self.now.links.items from 0) }
+        ensures origin { result ≡ None → IfSome self.now.origin (λ v. (flags : StateFlags) (offset : ℕ) → offset < 536870912 → v ≡ code_of flags offset → KnowsNext act.entry byte self.now (offset / 2 ^ self.now.layout.shift) → ⊥) }
     {
         let link = self.links[from];
         if let Some(code) = self.next_of(act, byte, link) {
@@ -367,6 +374,8 @@ impl Table {
         ensures none { result ≡ None → row_of self.new.rows 1 ≡ row_of self.old.rows 1 }
         ensures cost { Takes steps.old steps.new (4 * length act.entry.prepared.now.nodes) }
         ensures few { takers ≡ None → (steps.new ≡ steps.old) × (result ≡ None) }
+        ensures some { (q : ℕ) → takers ≡ Some q → let link = slice_index_or self.old.links.items from 0 in KnowsNext act.entry byte self.old link →
+            ((c : ℕ) → Lacks (row_of self.old.rows 1) (row_of self.old.rows (leaves_row link)) (row_of self.old.rows q) (length act.entry.prepared.now.nodes) c → ⊥) → IsTrue (is_some result) }
     {
         let takers = takers?;
         let Some((link, code)) = self.link(act, byte, from) else {
@@ -391,6 +400,7 @@ impl Table {
         ensures cost { Takes steps.old steps.new (length prepared.now.nodes) }
         ensures counts { IfSome result (λ v. TakesAtLeast steps.old steps.new (length prepared.now.nodes)) }
         ensures few { base ≡ None → steps.new ≡ steps.old }
+        ensures some { (v : ℕ) → base ≡ Some v → ((c : ℕ) → c < length prepared.now.nodes → has_mark (row_of self.now.rows 1) c ≡ false) → result ≡ Some v }
     {
         let code = base?;
         if self.rows.is_clear(ENDED, prepared.nodes(), steps) {
@@ -414,7 +424,7 @@ impl Table {
     /// Whether no leaf took the byte, at a place between the edges, in an act that has a row of takers.
     fn is_alone(&self, act: Act, takers: Option<usize>, steps: &mut Steps) -> bool
         requires table { IsTable act.prepared.now self.now }
-        ensures alone { IsTrue result → IsTrue (is_some takers) × (act.entry.kind ≡ middle) × ((c : ℕ) → c < length act.entry.prepared.now.nodes → has_mark (row_of self.now.rows 1) c ≡ false) }
+        ensures alone { IsTrue result ↔ (IsTrue (is_some takers) × (act.entry.kind ≡ middle) × ((c : ℕ) → c < length act.entry.prepared.now.nodes → has_mark (row_of self.now.rows 1) c ≡ false)) }
         ensures cost { Takes steps.old steps.new (length act.entry.prepared.now.nodes) }
         ensures few { takers ≡ None → steps.new ≡ steps.old }
     {
@@ -497,7 +507,7 @@ impl Table {
         };
         let epoch = self.epoch;
         let next = self.make(act, byte, state, steps);
-        let column = self.layout.cell(byte, false);
+        let column = self.layout.column(byte);
         if self.epoch == epoch && column < self.layout.filled as usize {
             self.cells[offset + self.layout.cell(byte, edge)] = next;
         }
@@ -508,7 +518,8 @@ impl Table {
     pub fn known(&self, prepared: &Prepared, offset: usize, byte: u8, edge: bool) -> u32
         requires table { IsTable prepared.now self.now }
         requires offset { IsOffset self.now offset }
-        ensures { 0 < result → NamesState (length prepared.now.nodes) self.now (IsNext prepared.now self.now offset byte edge) result }
+        ensures is { result ≡ cell_of self.now (offset / 2 ^ self.now.layout.shift) (cell_for self.now.layout byte edge) }
+        ensures leads { 0 < result → NamesState (length prepared.now.nodes) self.now (IsNext prepared.now self.now offset byte edge) result }
     {
         // A cell is waited for by the state's offset alone: which of the state's it is, is known before.
         let cells = &self.cells[self.layout.cell(byte, edge)..];

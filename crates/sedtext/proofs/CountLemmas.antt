@@ -1,5 +1,5 @@
 -- Counts of steps that stay at the largest: how many looks there were at least.
-use Rattle.sedtext.proofs.Words.{◌+◌, ◌≡◌, ◌≤◌, arith, IsCounted, TakesAtLeast, TakesExactly, ℕ}
+use Rattle.sedtext.proofs.Words.{◌+◌, ◌≡◌, ◌≤◌, arith, TakesAtLeast, ℕ}
 
 -- nothing is counted yet
 pub least_none : (s n : ℕ) → n ≡ 0 → TakesAtLeast s s n

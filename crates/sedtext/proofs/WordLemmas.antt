@@ -1,4 +1,5 @@
 -- Marks as words of 64, and the lowest bits of words.
+use Rattle.std.specs.Prelude.{min}
 use Rattle.sedtext.proofs.Words.{ap, ext_get_or, inl, inr, refl, suc, sym, zero, ◌++◌, ◌∷◌, ◌%◌, ◌&&◌, ◌*◌, ◌+◌, ◌-◌, ◌/◌, ◌<◌, ◌^◌, ◌↔◌, ◌∙◌, ◌≡◌, ◌≢◌, ◌≤◌, ◌⊎◌, [], arith, bit_and, bit_at, bit_at_not, bit_at_or, bit_not, bit_or, blended, Blend, not, ◌||◌, bit_at-lt, bit_at-trailing_zeros, bit_at-zero, bit_at_and, Bool, cases_eq, cases_lt, eqb}
 use Rattle.sedtext.proofs.Words.{eqb-true, false, get_or-map-range_with_len, get_or-replicate, get_or-set_other, get_or-set_same, get_or_default, get_or_past, Inside, is_set, IsTrue, KeepsRows, Lacks, length}
 use Rattle.sedtext.proofs.Words.{length-map-range_with_len, length-replicate, length-set, List, mul-le-mul_left, padded, replicate, row_at, row_of, rows_of, same_lists, slice_index_or, slice_set, tabulated, trailing_zeros, w64, ℕ}
@@ -24,6 +25,11 @@ module _ (marks others : List Bool) (count x word two low : ℕ)
   pub meet_later : low ≡ 0 → ((c : ℕ) → c < 64 * x → Meet marks others count c → ⊥) → (c : ℕ) → c < 64 * (x + 1) → Meet marks others count c → ⊥
   meet_later none before c up met =
       let k = c - 64 * x in grind (arith, before c, bit_at_and word two k, bit_at-zero k, lowest k, mine k, theirs k)
+
+-- words of which one isn't in memory have nothing in common
+pub meet_past : (marks others : List Bool) (words more : List ℕ) (count c : ℕ) → ((k : ℕ) → k < 64 → 64 * (c / 64) + k < count → IsTrue (slice_index_or marks (64 * (c / 64) + k) false) ↔ (bit_at (slice_index_or words (c / 64) 0) k ≡ 1)) →
+    ((k : ℕ) → k < 64 → 64 * (c / 64) + k < count → IsTrue (slice_index_or others (64 * (c / 64) + k) false) ↔ (bit_at (slice_index_or more (c / 64) 0) k ≡ 1)) → min (length words) (length more) ≤ c / 64 → Meet marks others count c → ⊥
+meet_past marks others words more count c mine theirs past met = let k = c % 64 in grind (arith, get_or_past, bit_at-zero k, mine k, theirs k)
 
 -- marks that are bits of words, and the lowest bits that two of these have in common and the first hasn't
 module _ (first one other : List Bool) (count x word common low : ℕ) (had : (k : ℕ) → k < 64 → 64 * x + k < count → IsTrue (slice_index_or first (64 * x + k) false) ↔ (bit_at word k ≡ 1))

@@ -1,5 +1,5 @@
 //! Words of memory that are touched only as far as they are written.
-ghost use Rattle.std.specs.Prelude.{◌≡◌, ℕ, List, ◌<◌, ◌≤◌, length, replicate, slice_index_or, slice_set, vec_capacity, IfOk};
+ghost use Rattle.std.specs.Prelude.{◌≡◌, ℕ, List, ◌+◌, ◌<◌, ◌≤◌, length, replicate, slice_index_or, slice_set, vec_capacity, IfOk};
 ghost use Rattle.sedtext.specs.Words.{Touched, padded};
 
 use std::alloc::{AllocError, Global};
@@ -38,6 +38,15 @@ impl LazyWords {
         } else {
             0
         }
+    }
+
+    /// The words from one on, `count` of them at most: those that are in memory, behind which all are 0.
+    pub fn slice(&self, from: usize, count: usize) -> &[u64]
+        ensures few { length result.now ≤ count }
+        ensures words { (k : ℕ) → k < count → slice_index_or result.now k 0 ≡ slice_index_or self.now.all (from + k) 0 }
+    {
+        let there = &self.words[self.words.len().min(from)..];
+        &there[..there.len().min(count)]
     }
 
     /// Sees to it that the words before a place are in memory.

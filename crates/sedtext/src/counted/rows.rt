@@ -220,13 +220,8 @@ impl Rows {
         ensures cost { TakesExactly steps.old steps.new count }
     {
         steps.add(count);
-        let (at, other) = (self.width * row, self.width * other_row);
-        for x in 0..count.div_ceil(64) {
-            if self.words.get(at + x) != self.words.get(other + x) {
-                return false;
-            }
-        }
-        true
+        let words = count.div_ceil(64);
+        self.words.slice(self.width * row, words) == self.words.slice(self.width * other_row, words)
     }
 
     /// Makes the first `count` marks of a row of those of two others, a word at a time; those after them in the row may change too.
@@ -371,11 +366,9 @@ impl Rows {
         ensures cost { TakesExactly steps.old steps.new count }
     {
         steps.add(count);
-        let at = self.width * row;
         // Each word by a factor of its own: so no product waits for the one before it.
         let (mut digest, mut factor) = (0u64, FACTOR);
-        for x in 0..count.div_ceil(64) {
-            let word = self.words.get(at + x);
+        for &word in self.words.slice(self.width * row, count.div_ceil(64)) {
             digest = digest.wrapping_add((word ^ (word >> 32)).wrapping_mul(factor));
             factor = factor.rotate_left(7).wrapping_add(FACTOR);
         }
@@ -400,13 +393,11 @@ impl Rows {
         ensures cost { TakesExactly steps.old steps.new count }
     {
         steps.add(count);
-        let (at, from) = (self.width * row, other.width * other_row);
-        for x in 0..count.div_ceil(64) {
-            if lowest(
-                self.words.get(at + x) & other.words.get(from + x),
-                count - 64 * x,
-            ) != 0
-            {
+        let words = count.div_ceil(64);
+        let one = self.words.slice(self.width * row, words);
+        let two = other.words.slice(other.width * other_row, words);
+        for x in 0..one.len().min(two.len()) {
+            if lowest(one[x] & two[x], count - 64 * x) != 0 {
                 return true;
             }
         }

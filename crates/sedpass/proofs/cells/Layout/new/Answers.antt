@@ -1,7 +1,7 @@
 use Rattle.sedpass.proofs.Words.{◌≡◌, ℕ, ◌+◌, ◌-◌, ◌/◌, ◌^◌, ◌<◌, ◌≤◌, ◌⊎◌, ◌∙◌, ap, inl, inr, min, false, sym, true≢false, ⊎_elim, arith, cases_lt, column_for, pow-le-pow_right, slice_index_or}
 use Rattle.sedpass.specs.Table.{AreColumns, HasEdgeCells}
 use Rattle.sedpass.proofs.cells.Layout.new.Goals as goal
-use Rattle.sedpass.proofs.cells.Layout.new.Goals.{then-tells, else-tells, then-tells-2, else-tells-2, then-classes-columns, else-classes-columns}
+use Rattle.sedpass.proofs.cells.Layout.new.Goals.{then-tells, else-tells, then-tells-2, else-tells-2, then-alone, else-alone}
 
 -- so few cells are counted by eight bits
 few_bits : (r : ℕ) → 2 ^ r ≤ 511 → r ≤ 8
@@ -33,15 +33,15 @@ returns c =
       | then-tells w ↦ omega (arith, c.min-most.ensures, c.nodes.ensures.expr.arena.nonempty, w.min-is)
       | else-tells w ↦ omega (arith, c.min-most.ensures, c.nodes.ensures.expr.arena.nonempty, w.min-is)
     ] in
-    let filled : ((c.classes-classes.result.now.count ≡ columns) × (c.if-classes-columns.filled ≡ columns)) ⊎ (c.if-classes-columns.filled ≡ columns - 1) = elim c.if-classes-columns.branch [
-      | then-classes-columns w ↦ inr w.filled-is
-      | else-classes-columns w ↦ inl (omega (arith, w.if-classes-columns.false, c.min-columns.ensures), w.filled-is)
+    let filled : ((c.classes-classes.result.now.count ≡ columns) × (c.if-alone.filled ≡ columns)) ⊎ (c.if-alone.filled ≡ columns - 1) = elim c.if-alone.branch [
+      | then-alone w ↦ inl (omega (arith, w.if-alone.true), w.filled-is)
+      | else-alone w ↦ inr w.filled-is
     ] in
     let some : (1 ≤ columns) × (columns ≤ c.if-tells.min) = (omega (arith, limit, c.min-columns.ensures, classes.some), omega (arith, c.min-columns.ensures)) in
     let cells : edge_at + columns ≤ most = elim edge [ inl e ↦ omega (arith, e, some.1) | inr e ↦ omega (arith, e.0, some.1, limit.2) ] in
     let is = c.columns_of.ensures in
-    let own_of = λ (byte : ℕ) (lt : byte < 256) (less : slice_index_or c.columns_of.result byte 0 < c.if-classes-columns.filled).
-    is byte lt ∙ own (slice_index_or of byte 0) c.classes-classes.result.now.count columns c.if-classes-columns.filled (classes.below byte lt) filled (omega (arith, is byte lt, less)) in
+    let own_of = λ (byte : ℕ) (lt : byte < 256) (less : slice_index_or c.columns_of.result byte 0 < c.if-alone.filled).
+    is byte lt ∙ own (slice_index_or of byte 0) c.classes-classes.result.now.count columns c.if-alone.filled (classes.below byte lt) filled (omega (arith, is byte lt, less)) in
     record {
       few = omega (arith, cells, c.min-most.ensures, c.nodes.ensures.value);
       bytes = (λ byte lt. omega (arith, is byte lt, some.0), λ one other lt lt' less same. classes.alike one other lt lt' (sym (own_of one lt less) ∙ same ∙ own_of other lt' (omega (arith, less, same))));

@@ -16,7 +16,7 @@ returns-then-take_off-clause-base c =
     let act = c.args.act in
     let e = act.prepared.now in
     let takers = rw c.in_ok-takers.was at c.requires.takers in
-    let link = rw c.in-Some.is at c.link.ensures in
+    let link = rw c.in-Some.is at c.link.ensures.leads in
     let adds = c.take_off.ensures.same u (adds_none (length e.nodes) u) in
     names_map _ _ _ _ c.in-Some.code (λ b leads.
     base_next act c.args.byte (act.kind.begin || act.kind.end) (row_of t.rows (leaves_row c.in-Some.link)) (row_of t.rows c.in_ok-takers.takers) _ _ (state_of (length e.nodes) t c.in-Some.link) b link.1 c.requires.kind c.requires.root (seen-arena act.way.mirrored e c.requires.table.expr.arena) refl takers.3

@@ -19,7 +19,7 @@ index_mut-requires c =
 
 pub returns-then-column-self-clause-codes : goal.returns-then-column-self-clause-codes
 returns-then-column-self-clause-codes c =
-    note_cell c.args.prepared.now c.args.self.now c.make-next.new.self c.args.offset c.make-next.result c.args.byte c.args.edge c.if-self-epoch.true c.requires.offset c.ranges.byte.fits (omega (arith, c.if-column-self.true, c.cell-column.ensures)) c.cell.result c.cell.ensures
+    note_cell c.args.prepared.now c.args.self.now c.make-next.new.self c.args.offset c.make-next.result c.args.byte c.args.edge c.if-self-epoch.true c.requires.offset c.ranges.byte.fits (omega (arith, c.if-column-self.true, c.column-column.ensures.is)) c.cell.result c.cell.ensures
     (leads (goal.at.returns-then-column-self-clause-codes c).After-make-next)
 
 pub returns-else-self-epoch-clause-codes : goal.returns-else-self-epoch-clause-codes

@@ -24,7 +24,7 @@ loop-at-preserved-then-is_plain c =
     let old = c.loop-at.invariant in
     let one = c.byte-byte.ensures in
     let same : c.plain_offset.result ≡ at.offset = omega (arith, c.plain_offset.ensures, old.code) in
-    let names = rw same at (c.known-cell.ensures (c.is_plain.ensures.some c.if-is_plain.true)) in
+    let names = rw same at (c.known-cell.ensures.leads (c.is_plain.ensures.some c.if-is_plain.true)) in
     let plain = c.is_plain.ensures.plain c.if-is_plain.true in
     let next = c.plain_offset-then-is_plain.result in
     let shows : (f : StateFlags) (u : ℕ) → u < 536870912 → cell ≡ code_of f u → next ≡ u = λ f u small is.
@@ -50,7 +50,7 @@ loop-at-preserved c =
     let same : c.plain_offset.result ≡ c.loop-at.at.offset = omega (arith, c.plain_offset.ensures, old.code) in
     let passes : (start : ℕ) → PassIs c.args.prepared.now c.args.self.now c.args.text.now start c.args.from → PassIs c.args.prepared.now c.args.self.now c.args.text.now start c.arrive-at.result =
     λ start pass. goes_further c.args.prepared.now c.args.self.now c.args.text.now start c.args.to c.byte-byte.result c.known-cell.result c.loop-at.at c.arrive-at.result c.requires.table.expr c.loop-at-test.true c.requires.to (old.passes start pass) one.byte
-    (rw same at (c.known-cell.ensures (omega (arith, c.if-cell-eq0.false)))) (next.passes start) in
+    (rw same at (c.known-cell.ensures.leads (omega (arith, c.if-cell-eq0.false)))) (next.passes start) in
     search (rules, old, next, one, passes, c.plain_code-code-else-is_plain.ensures)
 
 pub returns-clause-passes : goal.returns-clause-passes
@@ -60,5 +60,5 @@ returns-clause-passes c start pass =
       | else-loop-at-test w ↦ rw w.at-is before
       | then-loop-at-test+else-is_plain+then-cell-eq0 w ↦ rw w.at-is before
       | then-loop-at-test+else-is_plain+else-cell-eq0+then-at w ↦ let same : w.plain_offset.result ≡ c.loop-at.at.offset = omega (arith, w.plain_offset.ensures, c.loop-at.invariant.code) in rw w.at-is (goes_further c.args.prepared.now c.args.self.now c.args.text.now start c.args.to w.byte-byte.result w.known-cell.result c.loop-at.at w.arrive-at.result
-          c.requires.table.expr w.loop-at-test.true c.requires.to before w.byte-byte.ensures.byte (rw same at (w.known-cell.ensures (omega (arith, w.if-cell-eq0.false)))) (w.arrive-at.ensures.passes start))
+          c.requires.table.expr w.loop-at-test.true c.requires.to before w.byte-byte.ensures.byte (rw same at (w.known-cell.ensures.leads (omega (arith, w.if-cell-eq0.false)))) (w.arrive-at.ensures.passes start))
     ]

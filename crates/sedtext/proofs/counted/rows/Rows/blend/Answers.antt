@@ -1,4 +1,4 @@
-use Rattle.sedtext.proofs.Words.{ap, ◌*◌, ◌+◌, ◌<◌, ◌∙◌, ◌≡◌, ◌≢◌, ◌≤◌, ℕ, List, cases_eq, get_or_default, get_or-set_same, get_or-set_other, length, length-set, slice_index_or, sym}
+use Rattle.sedtext.proofs.Words.{◌*◌, ◌+◌, ◌<◌, ◌∙◌, cases_eq, get_or-set_same, get_or-set_other, length, length-set}
 use Rattle.sedtext.proofs.WordLemmas.{marked_blend, new_bit, row_bit, unwritten}
 use Rattle.sedtext.proofs.Closing.{arith, inl, inr, row_there, row_written}
 use Rattle.sedtext.proofs.counted.rows.Rows.blend.Goals as goal

@@ -1,4 +1,4 @@
-use Rattle.sedtext.proofs.Words.{and_le_l, ap, bit_not, w64, ◌&&◌, ◌*◌, ◌+◌, ◌-◌, ◌<◌, ◌↔◌, ◌∙◌, ◌≡◌, ◌≢◌, ◌≤◌, ℕ, IsTrue, List, arith, bit_and, bit_at, bit_at-lt, bit_at_and, cases_eq, eqb, false, get_or_default, get_or-set_same, get_or-set_other, inl, inr, length, length-set, not, row_of, slice_index_or, sym}
+use Rattle.sedtext.proofs.Words.{and_le_l, ap, bit_not, w64, ◌&&◌, ◌*◌, ◌+◌, ◌-◌, ◌<◌, ◌↔◌, ◌∙◌, ◌≡◌, ◌≢◌, ℕ, IsTrue, arith, bit_and, bit_at, bit_at-lt, bit_at_and, cases_eq, eqb, false, get_or-set_same, get_or-set_other, inl, inr, length, length-set, not, row_of, slice_index_or}
 use Rattle.sedtext.proofs.WordLemmas.{both_bits, lacks_here, lacks_later, marked_left, new_bit, other_bits, row_bit, row_there, row_written, unwritten, word_at}
 use Rattle.sedtext.proofs.counted.rows.Rows.take_off.Goals.{After-lowest}
 use Rattle.sedtext.proofs.counted.rows.Rows.take_off.Goals as goal
