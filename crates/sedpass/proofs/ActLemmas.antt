@@ -1,7 +1,6 @@
 -- How the marks of a place are found by those that are set: upwards from the leaves that took the byte, and downwards from what begins.
-use Rattle.sedpass.proofs.Words.{AddsMarks, Alt, AreNull, AreTakers, Bool, CanEnd, EndsAfter, EndsUpTo, Enters, Enters-root, EntersDownTo, Group, HasSpan, InTree, IsArena, IsNodeRange, IsPart, IsSetAt, IsStart, IsTrue, List, Node, NodeId, Opt, Option, Seq, Set, Some, Star, Starts, StartsAfter, StartsWith, TakenBy, and_from, and_parts, ap, arith, at_root, bits, both-iff, byte_is_in, cases_eq, cases_lt, either-iff, ended_by, entered_by, eq-eqb, eqb, eqb-true, false, get_or-set_other, get_or-set_same, has_mark, inl, inr, is_tree, le-leb, leb-true, length, length-set, lt-ltb, ltb-true, nat_le, nat_lt, ne_eqb, node_at, part_of, refl, rules, same_Some, slice_get, slice_get_within, slice_set, suc, sym, true, true≢false, zero, ℕ, ◌&&◌, ◌+◌, ◌<◌, ◌||◌, ◌↔◌, ◌∙◌, ◌≡◌, ◌≤◌, ◌⊎◌, MarkLeaves, TookBy}
-use Rattle.sedpass.proofs.LeaveLemmas.{ends_at}
-use Rattle.sedpass.proofs.RowLemmas.{InTree-inside, copy_part, ended_is, enters_tree, right_part, with_node}
+use Rattle.sedpass.proofs.Words.{AddsMarks, Alt, AreTakers, Bool, CanEnd, EndsAfter, EndsUpTo, Enters, EntersDownTo, Group, HasSpan, InTree, IsArena, IsNodeRange, IsPart, IsSetAt, IsTrue, List, Node, NodeId, Opt, Option, Seq, Set, Some, Star, Starts, StartsAfter, StartsWith, TakenBy, and_from, and_parts, ap, arith, cases_eq, cases_lt, ended_by, entered_by, eq-eqb, eqb, eqb-true, false, get_or-set_other, get_or-set_same, has_mark, inl, inr, is_tree, le-leb, leb-true, length, length-set, lt-ltb, ltb-true, nat_le, nat_lt, ne_eqb, node_at, part_of, refl, rules, same_Some, slice_get, slice_get_within, slice_set, sym, true, true≢false, ℕ, ◌&&◌, ◌+◌, ◌<◌, ◌||◌, ◌↔◌, ◌∙◌, ◌≡◌, ◌≤◌, ◌⊎◌, MarkLeaves, TookBy}
+use Rattle.sedpass.proofs.RowLemmas.{InTree-inside, copy_part, right_part, with_node}
 
 -- more marks say more
 pub ended_by_more : (took : List Bool → Bool) (null f g : ℕ → Bool) (node : Node) → ((c : ℕ) → IsPart node c → IsTrue (f c) → IsTrue (g c)) → IsTrue (ended_by took null f node) → IsTrue (ended_by took null g node)

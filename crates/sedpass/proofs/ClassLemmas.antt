@@ -1,5 +1,5 @@
 -- How classes of bytes are found.
-use Rattle.sedpass.proofs.Words.{rules, ◌≡◌, ℕ, ◌+◌, ◌*◌, ◌<◌, ◌≤◌, Bool, true, false, List, length, Some, IsTrue, slice_get, slice_index_or, slice_set, both_ways, from_bool, cases_eq, same_Some, has, IsNumbering, IsFiner}
+use Rattle.sedpass.proofs.Words.{rules, ◌≡◌, ℕ, ◌+◌, ◌*◌, ◌<◌, ◌≤◌, Bool, true, false, List, length, Some, IsTrue, slice_get, slice_index_or, slice_set, both_ways, from_bool, cases_eq, same_Some, has, IsFiner}
 
 abbrev at : List ℕ → ℕ → ℕ
 at xs k = slice_index_or xs k 0

@@ -119,11 +119,18 @@ parents_more nodes arena old after x node all is told others notes q c other lt 
   | inr ne ↦ others c (λ mine. ne (arena.once q x c other node is' is part mine)) ∙ get_or_append_left old (0 ∷ []) 0 c (omega (arith, all, lt, ne, arena.below q c other is' part)) ∙ notes q c other (omega (arith, lt, ne)) is' part
 ]
 
+neither : (a b : Bool) → (a || b) ≡ false → (a ≡ false) × (b ≡ false)
+neither true b none = absurd (true≢false none)
+neither false b none = (refl, none)
+
 -- null strings are the same up to the next node
 pub nulls_more : (nodes : List Node) (mirrored told tells : Bool) (n : ℕ) (node : Node) (next : Facts) → IsArena nodes → slice_get nodes n ≡ Some node → IsFacts (tree_of (tree_at nodes) node) n next →
-    (tells ≡ false → null_at next.null mirrored (not mirrored) ≡ null_at next.null false false) → (told ≡ false → SameNulls nodes mirrored n) → (told || tells) ≡ false → SameNulls nodes mirrored (n + 1)
-nulls_more nodes mirrored true tells n node next arena is facts same old none x lt = absurd (true≢false none)
-nulls_more nodes mirrored false tells n node next arena is facts same old none x lt = elim (cases_lt x n) [
-  | inl low ↦ old refl x low
-  | inr high ↦ let e : x ≡ n = omega arith in rw (e, tree_at-node nodes n node arena is) (sym (facts.null mirrored (not mirrored)) ∙ same none ∙ facts.null false false)
-]
+    ((tells ≡ false) ↔ (null_at next.null mirrored (not mirrored) ≡ null_at next.null false false)) → ((told ≡ false) ↔ SameNulls nodes mirrored n) → ((told || tells) ≡ false) ↔ SameNulls nodes mirrored (n + 1)
+nulls_more nodes mirrored told tells n node next arena is facts same old =
+    let here = tree_at-node nodes n node arena is in (
+      λ none x lt. let parts = neither told tells none in elim (cases_lt x n) [
+        | inl low ↦ old.0 parts.0 x low
+        | inr high ↦ let e : x ≡ n = omega arith in rw (e, here) (sym (facts.null mirrored (not mirrored)) ∙ same.0 parts.1 ∙ facts.null false false)
+      ],
+      λ all. rw (old.1 (λ x lt. all x (omega (arith, lt))), same.1 (facts.null mirrored (not mirrored) ∙ rw here at (all n (omega arith)) ∙ sym (facts.null false false))) refl,
+    )

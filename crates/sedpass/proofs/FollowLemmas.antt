@@ -1,8 +1,8 @@
 -- The row that follows from which leaves took a byte: that it is the place's, what two of them have together, and that scans find it.
-use Rattle.sedpass.proofs.Words.{HasSpan, IfSome, None, marks_of, row_of, AreNull, Bool, CanEnd, EndKept, EndsUpTo, Enters, Enters-root, EntersDownTo, InTree, IsArena, IsNodeRange, IsPart, IsSetAt, IsStart, IsTrue, LeafAt, List, Node, Alt, Group, Opt, Seq, Set, Star, Option, RowFollows, RowOfPlace, Some, Starts, Took, and_from, and_parts, cases_eq, either-iff, node_at, true≢false, ap, arith, at_root, bits, ended_by, entered_by, eqb, false, has_mark, inl, inr, is_tree, le-leb, length, lt-ltb, ltb-true, nat_le, nat_lt, part_of, refl, rules, slice_get, slice_get_within, subst, suc, sym, true, zero, ℕ, ◌&&◌, ◌+◌, ◌<◌, ◌∙◌, ◌||◌, ◌≡◌, ◌≤◌, ◌⊎◌, ◌↔◌}
+use Rattle.sedpass.proofs.Words.{HasSpan, IfSome, None, marks_of, row_of, AreNull, Bool, CanEnd, EndsUpTo, Enters, Enters-root, EntersDownTo, InTree, IsArena, IsPart, IsStart, IsTrue, List, Node, Seq, Set, Option, RowFollows, RowOfPlace, Some, Starts, Took, and_from, and_parts, cases_eq, either-iff, node_at, true≢false, ap, arith, at_root, bits, ended_by, entered_by, false, has_mark, inl, inr, is_tree, le-leb, length, lt-ltb, ltb-true, nat_le, nat_lt, part_of, refl, rules, slice_get, subst, suc, sym, zero, ℕ, ◌&&◌, ◌+◌, ◌<◌, ◌∙◌, ◌||◌, ◌≡◌, ◌≤◌, ◌⊎◌, ◌↔◌}
 use Rattle.sedpass.proofs.ActLemmas.{HasEnds, HasLeaves, ended_by_more, entered_by_more, entered_is, same_truth}
 use Rattle.sedpass.proofs.LeaveLemmas.{ends_at}
-use Rattle.sedpass.proofs.RowLemmas.{InTree-inside, bits_here, ended_is, enters_tree}
+use Rattle.sedpass.proofs.RowLemmas.{InTree-inside, ended_is, enters_tree}
 
 -- the row is that of a place, where those leaves took the byte before it
 module _ (nodes : List Node) (w : List ℕ) (r p : ℕ) (s : Starts) (arena : IsArena nodes) (inside : r < length nodes) (keeps first : Bool) (null took : ℕ → Bool) (nulls : AreNull nodes w p null) (begins : IsTrue first ↔ IsStart s p)

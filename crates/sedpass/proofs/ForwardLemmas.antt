@@ -1,5 +1,5 @@
 -- Passes for the whole expression.
-use Rattle.sedpass.proofs.Words.{IsExpr, rules, inl, inr, ◌≡◌, ℕ, ◌+◌, ◌-◌, ◌*◌, ◌/◌, ◌^◌, ◌<◌, ◌≤◌, ◌⊎◌, ◌↔◌, Bool, true, false, List, length, Option, Some, None, IsTrue, refl, sym, subst, true≢false, arith, mul-le-mul_left, slice_get, is_some, IfSome, mul-sub, common_steps, then_some, option_or, cases_lt, cases_Bool, both_ways, slice_get_within, IsArena, expression_tree, Tree, Node, Starts, TakesAtLeast, LooksPast, HasSpan, IsStart, SomeSpan, IsLongestFrom, Matches, SomeFound, Matches-forward, Matches-within, IsPlace, StateFlags, PlaceKind, WrittenExpression, Way, Table, Passed, seen-arena, seen-length, least_less, least_since, least_both, cases_eq, nodes_of, at_begin, at_edge, root_of, PassState, state_of, FlagsShow, LeadsOn, BeginsIn, NamesState, IsTable, IsForwardOne, SameShape, code_of, starts_of, LastBelow, IsPassEnd, Arrives, EndsBelow, PassIs, is_over, ap, byte_is_in, ◌∙◌}
+use Rattle.sedpass.proofs.Words.{IsExpr, rules, inl, inr, ◌≡◌, ℕ, ◌+◌, ◌-◌, ◌*◌, ◌/◌, ◌^◌, ◌<◌, ◌≤◌, ◌⊎◌, ◌↔◌, Bool, true, false, List, length, Option, Some, None, IsTrue, refl, sym, subst, true≢false, arith, mul-le-mul_left, slice_get, is_some, IfSome, mul-sub, common_steps, then_some, option_or, cases_lt, cases_Bool, both_ways, slice_get_within, IsArena, expression_tree, Tree, Node, Starts, TakesAtLeast, LooksPast, HasSpan, IsStart, SomeSpan, IsLongestFrom, Matches, SomeFound, Matches-forward, Matches-within, IsPlace, StateFlags, PlaceKind, WrittenExpression, Way, Table, Passed, seen-arena, seen-length, least_less, least_since, least_both, cases_eq, nodes_of, at_begin, at_edge, root_of, PassState, state_of, FlagsShow, LeadsOn, BeginsIn, NamesState, IsTable, IsForwardOne, SameShape, code_of, starts_of, LastBelow, IsPassEnd, Arrives, EndsBelow, PassIs, is_over, ◌∙◌}
 use Rattle.sedpass.proofs.RowLemmas.{dead, row_root, row_empty}
 use Rattle.sedpass.proofs.TableLemmas.{leads_place, names_state, names_flags, names_shown, names_map}
 

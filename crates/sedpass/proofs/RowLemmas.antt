@@ -1,5 +1,5 @@
 -- How the marks at a place follow from what the leaves took, and what a row shows.
-use Rattle.sedpass.proofs.Words.{rules, ◌≡◌, ◌≢◌, ℕ, ◌+◌, ◌<◌, ◌≤◌, ◌⊎◌, ◌↔◌, Bool, List, length, Option, Some, IsTrue, refl, sym, ◌∙◌, inl, inr, true≢false, true, false, ◌&&◌, ◌||◌, arith, slice_get, slice_index_or, reverse, slice_get_within, cases_eq, lt-ltb, IsArena, IsPart, WrittenExpression, tree_at, mirror_node, seen, seen-node, old_node, Node, NodeId, Set, Seq, Alt, Group, Star, Opt, Starts, AgreeBelow, KeepsRows, row_of, HasSpan, IsStart, one_start, SomeSpan, BeginsWith, Enters, at_root, with_whole, after_left, again, CanEnd, Matches-forward, CopiesLead-append, CopiesLead-last, open_at, close_at, takes_some, FromNode, Enters-from, Enters-part, Enters-root, BeginsWith-part, both-iff, either-iff, ReachesEnd, MeetsAt, Took, SameBytes, InTree, is_tree, part_of, IsNodeRange, ended_by, AreWide, bits, ShowTook, RowOfPlace, has_mark}
+use Rattle.sedpass.proofs.Words.{rules, ◌≡◌, ◌≢◌, ℕ, ◌+◌, ◌<◌, ◌≤◌, ◌⊎◌, ◌↔◌, Bool, List, length, Option, Some, IsTrue, refl, sym, ◌∙◌, inl, inr, true≢false, true, false, ◌&&◌, ◌||◌, arith, slice_get, slice_index_or, reverse, cases_eq, lt-ltb, IsArena, IsPart, WrittenExpression, tree_at, mirror_node, seen, seen-node, old_node, Node, NodeId, Set, Seq, Alt, Group, Star, Opt, Starts, AgreeBelow, KeepsRows, row_of, HasSpan, IsStart, one_start, SomeSpan, BeginsWith, Enters, at_root, with_whole, after_left, again, CanEnd, Matches-forward, CopiesLead-append, CopiesLead-last, open_at, close_at, takes_some, FromNode, Enters-part, Enters-root, BeginsWith-part, both-iff, either-iff, ReachesEnd, MeetsAt, Took, SameBytes, InTree, is_tree, part_of, IsNodeRange, ended_by, AreWide, bits, ShowTook, RowOfPlace}
 use Rattle.sedpass.proofs.LeaveLemmas.{reaches_mirror, Opposite}
 use Rattle.sedpass.proofs.MeetingLemmas.{meets_whole}
 

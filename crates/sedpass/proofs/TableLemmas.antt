@@ -1,5 +1,5 @@
 -- Tables of states.
-use Rattle.sedpass.proofs.Words.{Node, SameNulls, cases_Bool, not, InTree, at_begin, at_edge, seen-arena, Starts, IsStart, IsPlace, RowOfPlace, StateAt, Took, true≢false, byte_is_in, slice_get, middle, root_of, ◌≡◌, ℕ, ◌+◌, ◌*◌, ◌/◌, ◌%◌, ◌^◌, ◌<◌, ◌≤◌, ◌⊎◌, ◌↔◌, Bool, true, false, List, length, Option, Some, IsTrue, refl, sym, ap, ◌∙◌, subst, inl, inr, arith, min, mul-le-mul_left, slice_index_or, slice_set, replicate, rules, vec_capacity, Vec, Global, get_or_past, length-replicate, same_from_place, shl-shr, shl_whole, with_item, pow-le-pow_right, cases_eq, cases_lt, get_or-replicate, get_or-set_same, get_or-set_other, get_or_default, IsExpr, WrittenExpression, seen, old_node, KeepsRows, row_of, StateFlags, PlaceKind, Way, Beginning, Table, IsApart, nodes_of, leaves_row, ends_row, SameBytes, PassState, HasRows, state_of, FlagsShow, HasNewRow, IsMade, LeadsOn, BeginsIn, NamesState, IsNext, IsOffset, cell_of, LeadsBy, kind_number, beginning_at, beginning_of, MayBegin, HasRoom, IsRoomy, IsTable, SameRoom, SameShape, AddsStates, Codes, code_of, cell_for, cells_in, column_for, IsLayout, Layout, Act, length-set, takers_row, AreTakers, ◌≢◌, Set, ◌||◌, ◌&&◌, has_mark, bits, HasTakers, HasOrigin, IsOrigin, IfSome, IsBase, RowFollows, null_in, edge_kind, None, IsArena, seen-length, node_at, and_from, and_parts}
+use Rattle.sedpass.proofs.Words.{Node, SameNulls, not, InTree, at_begin, at_edge, seen-arena, Starts, IsStart, IsPlace, RowOfPlace, StateAt, Took, true≢false, byte_is_in, slice_get, ◌≡◌, ℕ, ◌+◌, ◌*◌, ◌/◌, ◌%◌, ◌^◌, ◌<◌, ◌≤◌, ◌⊎◌, ◌↔◌, Bool, true, false, List, length, Option, Some, IsTrue, refl, sym, ap, ◌∙◌, subst, inl, inr, arith, min, mul-le-mul_left, slice_index_or, slice_set, replicate, rules, vec_capacity, Vec, Global, get_or_past, length-replicate, same_from_place, shl-shr, shl_whole, with_item, pow-le-pow_right, cases_eq, cases_lt, get_or-replicate, get_or-set_same, get_or-set_other, IsExpr, WrittenExpression, seen, old_node, KeepsRows, row_of, StateFlags, PlaceKind, Way, Beginning, Table, IsApart, nodes_of, leaves_row, ends_row, SameBytes, PassState, HasRows, state_of, FlagsShow, HasNewRow, IsMade, LeadsOn, BeginsIn, NamesState, IsNext, IsOffset, cell_of, LeadsBy, kind_number, beginning_at, beginning_of, MayBegin, HasRoom, IsRoomy, IsTable, SameRoom, SameShape, AddsStates, Codes, code_of, cell_for, cells_in, column_for, IsLayout, Layout, Act, length-set, takers_row, AreTakers, ◌≢◌, Set, ◌||◌, ◌&&◌, has_mark, bits, HasTakers, HasOrigin, IsOrigin, IfSome, IsBase, RowFollows, null_in, edge_kind, None, IsArena, seen-length, node_at, and_from, and_parts}
 use Rattle.sedpass.specs.Table.{AreColumns, HasEdgeCells}
 use Rattle.sedpass.proofs.ActLemmas.{same_truth}
 use Rattle.sedpass.proofs.LeaveLemmas.{twice}

@@ -1,6 +1,6 @@
 -- Private to the proofs: no contract that `sedmatch` makes public cites what is here.
 -- What is found out once of an expression: facts of each node, as its groups and how long its spans are.
-use Rattle.std.specs.Prelude.{◌≡◌, ℕ, ◌+◌, ◌-◌, ◌*◌, ◌<◌, ◌≤◌, Bool, true, false, ◌&&◌, ◌||◌, not, eqb, List, length, slice_get, slice_index_or, cond, Option, Some, None, IfSome, nat_lt, vec_capacity}
+use Rattle.std.specs.Prelude.{◌≡◌, ℕ, ◌+◌, ◌-◌, ◌*◌, ◌<◌, ◌≤◌, ◌↔◌, Bool, true, false, ◌&&◌, ◌||◌, not, eqb, List, length, slice_get, slice_index_or, cond, Option, Some, None, IfSome, nat_lt, vec_capacity}
 use Rattle.std.specs.Int.{bit_at, from_bool}
 use Rattle.sedre.specs.Tree.{Tree, byte_of, text_begin, text_end, sequence, either_of, grouped, any_copies, WrittenExpression, expression_tree, tree_at, null_string, one_or_none, size}
 use Rattle.sedre.specs.Arena.{IsPart}
@@ -104,8 +104,8 @@ HasNodeRoom count f = (count ≤ vec_capacity f.facts) × (count ≤ vec_capacit
 pub record IsAnalysis (e : WrittenExpression) (f : Analysis) : Type 0 where
   pub all : length f.facts.items ≡ length e.nodes
   pub facts : AreFacts e.nodes f.facts.items
-  pub begins : f.begin_tells ≡ false → SameNulls e.nodes true (length e.nodes)
-  pub ends : f.end_tells ≡ false → SameNulls e.nodes false (length e.nodes)
+  pub begins : (f.begin_tells ≡ false) ↔ SameNulls e.nodes true (length e.nodes)
+  pub ends : (f.end_tells ≡ false) ↔ SameNulls e.nodes false (length e.nodes)
   pub parents_all : length f.parents.items ≡ length e.nodes
   pub parents : AreParents e.nodes f.parents.items (length e.nodes)
   pub classes : AreClasses e.nodes f.classes.of f.classes.count

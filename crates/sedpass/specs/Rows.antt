@@ -6,10 +6,10 @@ use Rattle.sedre.specs.Tree.{WrittenExpression}
 use Rattle.sedre.specs.Mirror.{seen}
 use Rattle.sedre.specs.declared.types.Node.{Node}
 use Rattle.sedre.specs.declared.types.Node.TheVariants.{Set, Seq, Alt, Group, Star, Opt}
-use Rattle.sedtext.specs.Reach.{Starts, HasSpan, IsStart, Enters, one_start}
+use Rattle.sedtext.specs.Reach.{Starts, HasSpan, Enters}
 use Rattle.sedtext.specs.Matching.{byte_is_in}
 use Rattle.sedtext.specs.Places.{IsPlace}
-use Rattle.sedtext.specs.Words.{AgreeBelow, row_of}
+use Rattle.sedtext.specs.Words.{row_of}
 use Rattle.sedpass.specs.Regions.{EndsPastIn, IsSetAt}
 use Rattle.sedpass.specs.declared.nodes.PlaceKind.{PlaceKind}
 use Rattle.sedpass.specs.declared.rows.Way.{Way}

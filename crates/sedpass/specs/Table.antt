@@ -1,6 +1,6 @@
 -- Private to the proofs: no contract that `sedmatch` makes public cites what is here.
 -- A table of the passes of one way: its states, its cells, and the codes by which they name states.
-use Rattle.std.specs.Prelude.{◌&&◌, ◌||◌, not, IfSome, Option, ◌≡◌, ℕ, ◌+◌, ◌*◌, ◌/◌, ◌%◌, ◌^◌, ◌<◌, ◌≤◌, ◌↔◌, ◌⊎◌, Bool, true, false, List, length, slice_index_or, Some, IsTrue, vec_capacity}
+use Rattle.std.specs.Prelude.{◌&&◌, ◌||◌, not, IfSome, ◌≡◌, ℕ, ◌+◌, ◌*◌, ◌/◌, ◌%◌, ◌^◌, ◌<◌, ◌≤◌, ◌↔◌, ◌⊎◌, Bool, true, false, List, length, slice_index_or, Some, IsTrue, vec_capacity}
 use Rattle.std.specs.Int.{from_bool}
 use Rattle.sedre.specs.Arena.{IsExpr}
 use Rattle.sedre.specs.declared.types.Node.{Node}
@@ -15,7 +15,6 @@ use Rattle.sedpass.specs.declared.rows.Way.{Way}
 use Rattle.sedpass.specs.declared.cells.StateFlags.{StateFlags}
 use Rattle.sedpass.specs.declared.cells.Layout.{Layout}
 use Rattle.sedpass.specs.declared.table.Beginning.{Beginning}
-use Rattle.sedpass.specs.declared.table.Slot.{Slot}
 use Rattle.sedpass.specs.declared.table.Table.{Table}
 
 -- Codes of states, and where the cells of a state are.

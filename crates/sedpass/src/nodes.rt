@@ -54,7 +54,7 @@ fn has_kind(kinds: u8, kind: PlaceKind) -> bool
 
 /// Whether these are other kinds at an edge of the text, its beginning or its end, than at places between the edges.
 fn edge_tells(kinds: u8, begin: bool) -> bool
-    ensures { result ≡ false → null_at kinds begin (not begin) ≡ null_at kinds false false }
+    ensures { (result ≡ false) ↔ (null_at kinds begin (not begin) ≡ null_at kinds false false) }
 {
     let edge = PlaceKind { begin, end: !begin };
     let middle = PlaceKind {
@@ -335,7 +335,7 @@ impl<'a> Prepared<'a> {
 
     /// Whether it tells something for null strings that a place is the edge to which passes go.
     pub fn edge_tells(&self, mirrored: bool) -> bool
-        ensures { result ≡ false → SameNulls self.now.nodes mirrored (length self.now.nodes) }
+        ensures { (result ≡ false) ↔ SameNulls self.now.nodes mirrored (length self.now.nodes) }
     {
         if mirrored {
             self.analysis.begin_tells

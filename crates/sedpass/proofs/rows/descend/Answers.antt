@@ -1,5 +1,5 @@
 use Rattle.std.specs.Option.{is_none}
-use Rattle.sedpass.proofs.Words.{rules, Bool, Option, false, is_some, not, true, EntersDownTo, IfSome, RowFollows, RowIs, EndsUpTo, bits, leaves_row, ends_row, marks_of, row_of, None, Some, sym, List, ◌||◌, ◌&&◌, ap, arith, InTree, IsApart, IsCounted, IsTrue, KeepsRows, TakesAtLeast, length, has_mark, nodes_of, null_in, refl, seen-arena, seen-length, slice_set, ℕ, ◌+◌, ◌-◌, ◌<◌, ◌∙◌, ◌≡◌, ◌≢◌, ◌≤◌}
+use Rattle.sedpass.proofs.Words.{rules, Bool, Option, false, is_some, not, true, EntersDownTo, IfSome, RowFollows, RowIs, EndsUpTo, leaves_row, ends_row, marks_of, row_of, None, Some, sym, ◌||◌, ◌&&◌, ap, arith, InTree, IsApart, IsCounted, IsTrue, KeepsRows, TakesAtLeast, length, has_mark, nodes_of, null_in, refl, seen-arena, seen-length, slice_set, ℕ, ◌+◌, ◌-◌, ◌<◌, ◌∙◌, ◌≡◌, ◌≢◌, ◌≤◌}
 use Rattle.std.proofs.lemmas.Option.{IfSome_then}
 use Rattle.sedpass.proofs.FollowLemmas.{marks_kept, nothing, row_added}
 use Rattle.sedpass.proofs.ActLemmas.{down_skip, down_step, enters_first, leaves_none, leaves_skip, leaves_step, still_marked}

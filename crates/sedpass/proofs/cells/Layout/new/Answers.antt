@@ -1,4 +1,4 @@
-use Rattle.sedpass.proofs.Words.{◌≡◌, ℕ, ◌+◌, ◌-◌, ◌/◌, ◌^◌, ◌<◌, ◌≤◌, ◌⊎◌, ◌∙◌, ap, inl, inr, min, false, sym, true≢false, ⊎_elim, arith, cases_lt, column_for, pow-le-pow_right, slice_index_or}
+use Rattle.sedpass.proofs.Words.{◌≡◌, ℕ, ◌+◌, ◌-◌, ◌/◌, ◌^◌, ◌<◌, ◌≤◌, ◌⊎◌, ◌∙◌, inl, inr, min, false, sym, true≢false, ⊎_elim, arith, cases_lt, pow-le-pow_right, slice_index_or}
 use Rattle.sedpass.specs.Table.{AreColumns, HasEdgeCells}
 use Rattle.sedpass.proofs.cells.Layout.new.Goals as goal
 use Rattle.sedpass.proofs.cells.Layout.new.Goals.{then-tells, else-tells, then-tells-2, else-tells-2, then-alone, else-alone}
@@ -48,5 +48,5 @@ returns c =
       small = few_bits r (omega (arith, log.power_le, cells, c.min-most.ensures));
       tight = omega (arith, log.power_le, cells, c.min-most.ensures, c.nodes.ensures.value);
       fits = omega (arith, log.next_power_gt, some.0);
-      edges = elim edge [ inl e ↦ inl (omega (arith, e.0)) | inr e ↦ inr (e.0, c.edge_tells-tells.ensures e.1) ];
+      edges = elim edge [ inl e ↦ inl (omega (arith, e.0)) | inr e ↦ inr (e.0, c.edge_tells-tells.ensures.0 e.1) ];
     }

@@ -1,5 +1,5 @@
 use Rattle.std.proofs.lemmas.Option.{IfSome_then}
-use Rattle.sedpass.proofs.Words.{arith, leaves_row, length, refl, row_of, seen-arena, state_of, sym, ◌||◌, ◌∙◌}
+use Rattle.sedpass.proofs.Words.{leaves_row, length, refl, row_of, seen-arena, state_of, sym, ◌||◌, ◌∙◌}
 use Rattle.sedpass.proofs.TableLemmas.{adds_none, base_alone, base_next, names_map, names_more}
 use Rattle.sedpass.proofs.table.Table.base.Goals as goal
 

@@ -1,4 +1,4 @@
-use Rattle.sedpass.proofs.Words.{false, get_or-replicate, length, replicate, rules}
+use Rattle.sedpass.proofs.Words.{rules}
 use Rattle.sedpass.proofs.TableLemmas.{emptied, same_all}
 use Rattle.sedpass.proofs.table.Table.fit.Goals as goal
 

@@ -1,5 +1,5 @@
 use Rattle.std.proofs.lemmas.Option.{IfSome_then}
-use Rattle.sedpass.proofs.Words.{IsCounted, Takes, TakesAtLeast, length-set, rules, with_item, ◌*◌, ap, ends_row, true, AreTakers, Bool, Codes, EndsUpTo, HasNewRow, IfSome, InTree, IsApart, IsBase, IsMade, IsTrue, KeepsRows, None, Option, RowFollows, RowIs, Some, TookBy, Way, arith, bits, false, has_mark, is_some, leaves_row, length, middle, nodes_of, null_in, refl, root_of, row_of, seen-arena, seen-length, slice_get_within, state_of, subst, sym, true≢false, ℕ, ◌+◌, ◌<◌, ◌||◌, ◌∙◌, ◌≡◌, ◌≢◌, ◌≤◌}
+use Rattle.sedpass.proofs.Words.{IsCounted, Takes, TakesAtLeast, length-set, rules, with_item, ◌*◌, ap, ends_row, true, Bool, Codes, IfSome, IsApart, IsBase, IsMade, IsTrue, KeepsRows, None, Option, RowIs, Some, TookBy, arith, bits, false, has_mark, is_some, leaves_row, length, nodes_of, refl, root_of, row_of, seen-arena, seen-length, slice_get_within, state_of, sym, true≢false, ℕ, ◌<◌, ◌||◌, ◌∙◌, ◌≡◌, ◌≤◌}
 use Rattle.sedpass.proofs.FollowLemmas.{took_same}
 use Rattle.sedpass.proofs.RowLemmas.{InTree-inside, bits_here, keeps_then}
 use Rattle.sedpass.proofs.TableLemmas.{adds_none, adds_rows, names_map, names_noted, names_offset, names_state, table_rows, with_links, with_origin}

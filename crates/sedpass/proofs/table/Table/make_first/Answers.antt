@@ -1,4 +1,4 @@
-use Rattle.sedpass.proofs.Words.{◌≡◌, ◌↔◌, ◌≤◌, Bool, Enters-from, InTree, IsApart, IsTrue, KeepsRows, Set, Some, Starts, Took, arith, false, null_in, slice_get, true, nodes_of, refl, row_of, seen-arena, sym, true≢false, List, ℕ}
+use Rattle.sedpass.proofs.Words.{◌≡◌, ◌↔◌, ◌≤◌, Bool, Enters-from, InTree, IsApart, IsTrue, KeepsRows, Set, Some, Starts, Took, arith, false, null_in, slice_get, true, nodes_of, refl, seen-arena, sym, true≢false, List, ℕ}
 use Rattle.sedpass.proofs.FactLemmas.{inside_seen, null_shows}
 use Rattle.sedpass.proofs.FollowLemmas.{row_of_place}
 use Rattle.sedpass.proofs.RowLemmas.{keeps_then}

@@ -1,4 +1,4 @@
-use Rattle.sedpass.proofs.Words.{arith, get_or_default, refl, shl-shr, slice_index_or, ◌<◌, ◌≡◌}
+use Rattle.sedpass.proofs.Words.{arith, get_or_default, refl, shl-shr, ◌<◌}
 use Rattle.sedpass.proofs.TableLemmas.{shifted}
 use Rattle.sedpass.proofs.table.Table.next_of.Goals as goal
 
