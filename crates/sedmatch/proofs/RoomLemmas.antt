@@ -16,6 +16,9 @@ unused p t = ((refl, refl, refl, refl), inl refl)
 pub used : (p : WrittenExpression) (t fitted after : Table) → SameRoom t fitted → SameShape fitted after → IsTable p after → IsUsed p t after
 used p t fitted after fit shape table = ((shape.0 ∙ fit.0, shape.1 ∙ fit.1, shape.3 ∙ fit.2, shape.4 ∙ fit.3), inr table)
 
+pub used_so : (p : WrittenExpression) (t fitted after : Table) → SameRoom t fitted → SameRoom fitted after → IsTable p after → IsUsed p t after
+used_so p t fitted after fit room table = ((room.0 ∙ fit.0, room.1 ∙ fit.1, room.2 ∙ fit.2, room.3 ∙ fit.3), inr table)
+
 pub roomy : (m : ℕ) (p : WrittenExpression) (t u : Table) → IsRoomy m t → IsUsed p t u → IsRoomy m u
 roomy m p t u has is = grind (arith, roomy_still)
 
