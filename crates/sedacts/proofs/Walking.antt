@@ -1,5 +1,5 @@
 -- The commands that are reached on a line that none of them touches.
-use Rattle.std.proofs.Common.{◌≡◌, ℕ, suc, ◌<◌, ◌+◌, ◌≤◌, ◌⊎◌, inl, inr, zero, cond, get_or, Bool, true, false, List, [], ◌∷◌, length, Option, Some, None, subst, sym, ap, ◌∙◌, arith, add-one, refl}
+use Rattle.std.proofs.Common.{◌≡◌, ℕ, suc, ◌<◌, ◌+◌, ◌≤◌, ◌⊎◌, inl, inr, zero, cond, get_or, Bool, true, false, List, length, Option, Some, None, subst, sym, ap, ◌∙◌, arith, add-one, refl}
 use Rattle.std.specs.Prelude.{is_some, min, slice_get, ◌-◌}
 use Rattle.std.specs.Option.{option_or, option_map}
 use Rattle.std.proofs.lemmas.Option.{same_Some, slice_get_past}
@@ -10,7 +10,7 @@ use Rattle.sedscript.specs.declared.types.Action.TheVariants.{Substitute}
 use Rattle.sedscript.specs.declared.types.Command.{Command}
 use Rattle.sedscript.specs.declared.substitution.Substitution.{Substitution}
 use Rattle.sedscript.specs.Ranges.{AddressWithin, IsOneOf}
-use Rattle.sedacts.specs.Idle.{Cleared, NeedWithin, need_by, need_of, need_of_action, need_of_address, need_of_substitution, behind, behind_by, place_at, need_at, judged_by, judged, Walked, Notes, DescribesAll}
+use Rattle.sedacts.specs.Idle.{Cleared, NeedWithin, need_by, need_of, need_of_action, need_of_address, need_of_substitution, behind, behind_by, place_at, need_at, judged_by, judged, Walked, NotesNeed, DescribesAll}
 use Rattle.sedacts.specs.declared.idle.Need.{Need}
 use Rattle.sedacts.specs.declared.idle.Need.TheVariants.{NoMatch, NotLast, OtherNumber}
 use Rattle.sedacts.specs.declared.idle.Idle.{Idle}
@@ -66,7 +66,7 @@ last_or_before j n h = grind arith
 
 -- one more is
 pub walked_more : (cs : List Command) (ts : List Substitution) (a b : Idle) (c : Command) (need : Need) (place : ℕ) → Walked cs ts a → slice_get cs a.place ≡ Some c → Some need ≡ need_of ts (Some c) → place ≡ behind_by c.first c.action a.place →
-    Notes a b need place → Walked cs ts b
+    NotesNeed a b need place → Walked cs ts b
 walked_more cs ts a b c need place w is needed behind_is n =
     let here : slice_get cs (place_at cs a.reached) ≡ Some c = ap (slice_get cs) (sym w.place) ∙ is in
     let need_is : need_at cs ts a.reached ≡ Some need = ap (need_of ts) here ∙ sym needed in
@@ -144,9 +144,3 @@ cleared_more cs ts ranges number j k place place' most more c w next is idle beh
       idle = λ i less. elim (last_or_before i j (omega arith)) [ inl same ↦ (rw same (ap (λ p. get_or ranges p false) (sym w.at) ∙ idle)) | inr before ↦ w.idle i before ];
       clear = λ n asks. elim (last_or_before asks.0 j (let less = asks.1 in omega arith)) [ inl same ↦ clear n (number_first ts c.first c.negate c.action n (ap (need_of ts) (sym here) ∙ ap (need_at cs ts) (sym same) ∙ asks.2)) | inr before ↦ fewer_clear n number more most fewer (w.clear n (asks.0, before, asks.2)) ];
     }
-
--- a command that has a need is one of the script
-pub place_within : (cs : List Command) (ts : List Substitution) (k : ℕ) → is_some (need_of ts (slice_get cs k)) ≡ true → k < length cs
-place_within [] ts k h = cc
-place_within (c ∷ cs) ts zero h = omega arith
-place_within (c ∷ cs) ts (suc k) h = let less = place_within cs ts k h in omega arith

@@ -93,7 +93,7 @@ pub record Walked (cs : List Command) (ts : List Substitution) (i : Idle) : Type
   pub expressions : (e : ℕ) → IsNeeded cs ts i.reached (NoMatch e) → Contains i.expressions.items e
 
 -- One more command was found to have this need, behind which the script goes on at this place.
-pub record Notes (old new : Idle) (need : Need) (place : ℕ) : Type 0 where
+pub record NotesNeed (old new : Idle) (need : Need) (place : ℕ) : Type 0 where
   pub reached : new.reached ≡ old.reached + 1
   pub next : new.place ≡ place
   pub judged : new.judged ≡ option_or (judged_by (Some need)) old.judged

@@ -2,7 +2,7 @@
 ghost use Rattle.std.specs.Prelude.{◌≡◌, ◌<◌, ◌≤◌, ◌+◌, ◌^◌, ◌⊎◌, IfOk, IfSome, IsNone, OnOk, Some, ℕ, false, is_some, length, true};
 ghost use Rattle.sedscript.specs.declared.types.Address.TheVariants.{Line};
 ghost use Rattle.sedscript.specs.Ranges.{AddressWithin, CommandWithin};
-ghost use Rattle.sedacts.specs.Idle.{AsksNoNumber, IsIdleOf, NeedWithin, Notes, RangesIdle, need_at, need_of, need_of_address};
+ghost use Rattle.sedacts.specs.Idle.{AsksNoNumber, IsIdleOf, NeedWithin, NotesNeed, RangesIdle, need_at, need_of, need_of_address};
 ghost use Rattle.sedacts.specs.Idle.{behind_by, need_of_action};
 ghost use Rattle.sedscript.specs.Script.{ActionWithin};
 
@@ -101,7 +101,7 @@ impl Idle {
     /// Notes what one more command needs, behind which the script goes on at this place.
     fn note(&mut self, need: Need, place: usize) -> Result<(), AllocError>
         requires { self.old.reached + 1 < 2 ^ 64 }
-        ensures { OnOk result (Notes self.old self.new need place) }
+        ensures { OnOk result (NotesNeed self.old self.new need place) }
     {
         match need {
             Need::NoMatch(e) => {
