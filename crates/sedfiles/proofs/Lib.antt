@@ -3,4 +3,3 @@ pub mod JoinLemmas
 pub mod MemoryFinding
 pub mod PartsLemmas
 pub mod MemorySinkLemmas
-pub mod MemoryNameLemmas

@@ -45,7 +45,7 @@ pub use Rattle.sedtext.specs.Groups.{SpansOfGroups, deeper, forget, group_depth,
 pub use Rattle.sedtext.specs.Matching.{byte_is_in, groups_after, leftmost_longest}
 pub use Rattle.sedtext.specs.Nodes.{IsRepetitionOf, parts_of}
 pub use Rattle.sedtext.specs.Places.{Ascending, IsPlace}
-pub use Rattle.sedtext.specs.Reach.{BeginsWith, CanEnd, Enters, HasSpan, IsLongestFrom, IsStart, Marked, PartFrom, SomeSpan, Starts, after_left, again, at_root, one_start, starts_to, with_whole}
+pub use Rattle.sedtext.specs.Reach.{BeginsWith, CanEnd, Enters, HasSpan, IsLongestFrom, IsStart, SomeSpan, Starts, after_left, again, at_root, one_start, starts_to, with_whole}
 pub use Rattle.sedtext.specs.Spans.{CopiesLead, Matches, NotFound, SomeFound, no_copy, one_more}
 pub use Rattle.sedtext.specs.Words.{AgreeBelow, KeepsRows, row_of}
 pub use Rattle.sedpass.specs.Classes.{IsFiner, IsNumbering}

@@ -104,6 +104,10 @@ has_mark marks c = slice_index_or marks c false
 abbrev pub AddsMarks : List Bool → List Bool → (ℕ → Type 0) → Type 0
 AddsMarks before after P = (c : ℕ) → IsTrue (has_mark after c) ↔ (IsTrue (has_mark before c) ⊎ P c)
 
+-- the mark is set in both, and not in the first
+abbrev pub Lacks : List Bool → List Bool → List Bool → ℕ → ℕ → Type 0
+Lacks first one other count c = (c < count) × (has_mark first c ≡ false) × IsTrue (has_mark one c) × IsTrue (has_mark other c)
+
 -- the parts of a node that begin where it does
 abbrev pub StartsWith : (ℕ → Bool) → Node → ℕ → Type 0
 StartsWith null node c = IsPart node c × IsTrue (entered_by true null (λ n. false) node c)

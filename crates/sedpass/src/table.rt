@@ -5,8 +5,8 @@
 //! an act and a state for each byte, never more.
 ghost use Rattle.std.specs.Prelude.{◌≡◌, ◌&&◌, ◌||◌, ℕ, ◌+◌, ◌-◌, ◌*◌, ◌/◌, ◌^◌, ◌<◌, ◌≤◌, ◌↔◌, length, IfOk, IfSome, IsTrue, None, Some, is_some, eqb, false, min, ◌≢◌, slice_index_or, vec_len};
 ghost use Rattle.sedre.specs.Steps.{Takes, TakesAtLeast};
-ghost use Rattle.sedtext.specs.Words.{KeepsRows, Lacks, row_of};
-ghost use Rattle.sedpass.specs.Rows.{AreTakers, nodes_of, IsApart, bits, has_mark, leaves_row, root_of};
+ghost use Rattle.sedtext.specs.Words.{KeepsRows, row_of};
+ghost use Rattle.sedpass.specs.Rows.{AreTakers, nodes_of, IsApart, Lacks, bits, has_mark, leaves_row, root_of};
 ghost use Rattle.sedpass.specs.declared.cells.StateFlags.{StateFlags};
 ghost use Rattle.sedpass.specs.Table.{IsBase, KnowsNext, LinksTo, Notes, cell_for, cell_of, column_for, code_of, middle, state_of, HasNewRow, IsMade, BeginsIn, NamesState, edge_kind, IsNext, IsOffset, beginning_at, MayBegin, IsRoomy, IsTable, SameRoom, SameShape, AddsStates, Codes};
 
@@ -302,15 +302,17 @@ impl Table {
         ensures less { (c : ℕ) → c < length prepared.now.nodes → IsTrue (has_mark (row_of self.new.rows 1) c) → IsTrue (has_mark (row_of self.old.rows 1) c) }
         ensures none { result ≡ false → row_of self.new.rows 1 ≡ row_of self.old.rows 1 }
         ensures lacks { result ≡ false → (c : ℕ) × Lacks (row_of self.old.rows 1) (row_of self.old.rows (leaves_row link)) (row_of self.old.rows takers) (length prepared.now.nodes) c }
-        ensures cost { Takes steps.old steps.new (2 * length prepared.now.nodes) }
+        ensures cost { Takes steps.old steps.new (4 * length prepared.now.nodes) }
     {
-        let (nodes, leaves) = (prepared.nodes(), leaves_row(link));
+        let (nodes, leaves, spare) = (prepared.nodes(), leaves_row(link), leaves_row(self.count));
         let rows = &mut self.rows;
-        // The row of what begins is free until `ascend`.
-        if !rows.take_off(ENTERED, ENDED, leaves, takers, nodes, steps) {
+        // The rows of what begins, and of the state that is made, are free until `ascend`.
+        rows.blend(Blend::Both, ENTERED, leaves, takers, nodes, steps);
+        rows.blend(Blend::Without, spare, ENTERED, ENDED, nodes, steps);
+        if rows.meets(spare, rows, spare, nodes, steps) {
             return false;
         }
-        rows.blend(Blend::First, ENDED, ENTERED, ENTERED, nodes, steps);
+        rows.blend(Blend::Without, ENDED, ENDED, ENTERED, nodes, steps);
         true
     }
 

@@ -1,7 +1,7 @@
 -- Marks as words of 64, and the lowest bits of words.
 use Rattle.std.specs.Prelude.{min}
 use Rattle.sedtext.proofs.Words.{ap, ext_get_or, inl, inr, refl, suc, sym, zero, ◌++◌, ◌∷◌, ◌%◌, ◌&&◌, ◌*◌, ◌+◌, ◌-◌, ◌/◌, ◌<◌, ◌^◌, ◌↔◌, ◌∙◌, ◌≡◌, ◌≢◌, ◌≤◌, ◌⊎◌, [], arith, bit_and, bit_at, bit_at_not, bit_at_or, bit_not, bit_or, blended, Blend, not, ◌||◌, bit_at-lt, bit_at-trailing_zeros, bit_at-zero, bit_at_and, Bool, cases_eq, cases_lt, eqb}
-use Rattle.sedtext.proofs.Words.{eqb-true, false, get_or-map-range_with_len, get_or-replicate, get_or-set_other, get_or-set_same, get_or_default, get_or_past, Inside, is_set, IsTrue, KeepsRows, Lacks, length}
+use Rattle.sedtext.proofs.Words.{eqb-true, false, get_or-map-range_with_len, get_or-replicate, get_or-set_other, get_or-set_same, get_or_default, get_or_past, Inside, is_set, IsTrue, KeepsRows, length}
 use Rattle.sedtext.proofs.Words.{length-map-range_with_len, length-replicate, length-set, List, mul-le-mul_left, padded, replicate, row_at, row_of, rows_of, same_lists, slice_index_or, slice_set, tabulated, trailing_zeros, w64, ℕ}
 
 -- the bit of a number
@@ -30,28 +30,6 @@ module _ (marks others : List Bool) (count x word two low : ℕ)
 pub meet_past : (marks others : List Bool) (words more : List ℕ) (count c : ℕ) → ((k : ℕ) → k < 64 → 64 * (c / 64) + k < count → IsTrue (slice_index_or marks (64 * (c / 64) + k) false) ↔ (bit_at (slice_index_or words (c / 64) 0) k ≡ 1)) →
     ((k : ℕ) → k < 64 → 64 * (c / 64) + k < count → IsTrue (slice_index_or others (64 * (c / 64) + k) false) ↔ (bit_at (slice_index_or more (c / 64) 0) k ≡ 1)) → min (length words) (length more) ≤ c / 64 → Meet marks others count c → ⊥
 meet_past marks others words more count c mine theirs past met = let k = c % 64 in grind (arith, get_or_past, bit_at-zero k, mine k, theirs k)
-
--- marks that are bits of words, and the lowest bits that two of these have in common and the first hasn't
-module _ (first one other : List Bool) (count x word common low : ℕ) (had : (k : ℕ) → k < 64 → 64 * x + k < count → IsTrue (slice_index_or first (64 * x + k) false) ↔ (bit_at word k ≡ 1))
-    (both : (k : ℕ) → k < 64 → 64 * x + k < count → (IsTrue (slice_index_or one (64 * x + k) false) × IsTrue (slice_index_or other (64 * x + k) false)) ↔ (bit_at common k ≡ 1))
-    (bits : (k : ℕ) → k < 64 → k < count - 64 * x → eqb (bit_at low k) 1 ≡ (eqb (bit_at common k) 1 && not (eqb (bit_at word k) 1))) where
-  pub lacks_here : low ≢ 0 → low < 2 ^ 64 → ((i : ℕ) → count - 64 * x ≤ i → bit_at low i ≡ 0) → (c : ℕ) × Lacks first one other count c
-  lacks_here some fits none =
-      let k = trailing_zeros w64 low in
-      let is = bit_at-trailing_zeros w64 low (omega (arith, some)) fits in
-      (64 * x + k, grind (arith, is, none k, bits k, bit_at-lt word k, bit_at-lt common k, had k, both k))
-
-  pub lacks_later : low ≡ 0 → ((c : ℕ) → c < 64 * x → Lacks first one other count c → ⊥) → (c : ℕ) → c < 64 * (x + 1) → Lacks first one other count c → ⊥
-  lacks_later none before c up lacks = let k = c - 64 * x in grind (arith, before c, bits k, bit_at-zero k, bit_at-lt word k, bit_at-lt common k, had k, both k)
-
--- where a word's bits are those of one without those that two others have in common, so are its marks
-pub marked_left : (words other : List ℕ) (base had one two i : ℕ) →
-    ((k : ℕ) → k < 64 → eqb (bit_at (slice_index_or words (base + i / 64) 0) k) 1 ≡ (eqb (bit_at (slice_index_or other (had + i / 64) 0) k) 1 && not (eqb (bit_at (slice_index_or other (one + i / 64) 0) k) 1 && eqb (bit_at (slice_index_or other (two + i / 64) 0) k) 1))) →
-    is_set words (64 * base + i) ≡ (is_set other (64 * had + i) && not (is_set other (64 * one + i) && is_set other (64 * two + i)))
-marked_left words other base had one two i made =
-    let k = i % 64 in
-    let bit = λ (ws : List ℕ) (from : ℕ). set_at ws (64 * from + i) (from + i / 64) k (omega arith) (omega arith) in
-    rw (bit words base, bit other had, bit other one, bit other two) (made k (omega arith))
 
 -- marks that are bits of a word which aren't set
 pub marks_none : (marks : List Bool) (count x word from least : ℕ) → ((k : ℕ) → k < 64 → 64 * x + k < count → IsTrue (slice_index_or marks (64 * x + k) false) ↔ (bit_at word k ≡ 1)) →

@@ -48,7 +48,7 @@ pub use Rattle.sedtext.specs.Hints.{AllBegin, AreHints, CanBegin, IsRequired, Na
 pub use Rattle.sedtext.specs.Runs.{IsRun, RunBegins, SetRepeats}
 pub use Rattle.sedtext.specs.Sieve.{AllPass, HasLanes, IsMarked, MarksPlaces, NoneBefore, PassesSieve}
 pub use Rattle.sedtext.specs.Spans.{CopiesLead, IsIn, IsLeftmostLongest, Matches, no_copy, NotFound, one_more, SomeFound}
-pub use Rattle.sedtext.specs.Words.{KeepsRows, Lacks, Touched, blended, row_of}
+pub use Rattle.sedtext.specs.Words.{KeepsRows, Touched, blended, row_of}
 pub use Rattle.sedtext.specs.declared.counted.rows.Blend.{Blend}
 unfoldable pub use Rattle.sedtext.specs.Words.{padded, row_at, rows_of, tabulated}
 pub use Rattle.sedtext.specs.declared.hints.Begins.TheVariants.{Before, With}

@@ -1,6 +1,6 @@
 -- Private to the proofs: no contract that `sedmatch` makes public cites what is here.
 -- At which places of a text the nodes of an expression can begin and end, in matches that begin at one of some starts.
-use Rattle.std.specs.Prelude.{◌≡◌, ℕ, ◌<◌, ◌≤◌, Bool, false, ◌⊎◌, ◌↔◌, List, slice_get, slice_index_or, Option, Some, None, IsTrue}
+use Rattle.std.specs.Prelude.{◌≡◌, ℕ, ◌<◌, ◌≤◌, Bool, List, slice_get, Option, Some, None}
 use Rattle.sedre.specs.Tree.{Tree, tree_at}
 use Rattle.sedtext.specs.Spans.{Matches}
 use Rattle.sedre.specs.Arena.{IsPart}
@@ -48,14 +48,6 @@ CanEnd nodes w r s x j = (i : ℕ) × (i < j) × Enters nodes w r s x i × HasSp
 -- the node r matches from one of the starts to j
 abbrev pub SomeSpan : List Node → List ℕ → ℕ → Starts → ℕ → Type 0
 SomeSpan nodes w r s j = (i : ℕ) × IsStart s i × HasSpan nodes w r i j
-
--- the marks show, of each place that S has, whether P is true of it
-abbrev pub Marked : List Bool → (ℕ → Type 0) → (ℕ → Type 0) → Type 0
-Marked marks S P = (c : ℕ) → S c → IsTrue (slice_index_or marks c false) ↔ P c
-
--- c is r, or a part of a node from y to r
-abbrev pub PartFrom : List Node → ℕ → ℕ → ℕ → Type 0
-PartFrom nodes r y c = (c ≡ r) ⊎ ((z : ℕ) × (node : Node) × (y ≤ z) × (z ≤ r) × (slice_get nodes z ≡ Some node) × IsPart node c)
 
 -- the longest span from i, if there is one
 abbrev pub IsLongestFrom : Tree → List ℕ → ℕ → Option ℕ → Type 0

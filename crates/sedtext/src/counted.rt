@@ -2,7 +2,7 @@
 //!
 //! The bytes of a text without a count are seen here alone and in the modules below: in [`lookups`], [`members`] and
 //! [`set_finder`], which count what they look at, and in what works for these on bare bytes. A text gives them out nowhere.
-ghost use Rattle.std.specs.Prelude.{◌≡◌, ℕ, List, ◌+◌, ◌^◌, ◌<◌, ◌≤◌, length, slice_get, Some};
+ghost use Rattle.std.specs.Prelude.{◌≡◌, ℕ, List, ◌+◌, ◌^◌, ◌<◌, ◌≤◌, length, slice_get, IfSome, Some, option_map};
 ghost use Rattle.sedtext.specs.Bytes.{FirstFrom, passed_to};
 ghost use Rattle.sedre.specs.Steps.{TakesExactly};
 
@@ -74,18 +74,8 @@ impl<'a> Text<'a> {
         ensures first { FirstFrom (λ k. slice_get self.now k ≡ Some value) from result }
         ensures cost { TakesExactly steps.old steps.new (passed_to (length self.now) from 1 result) }
     {
-        let bytes = uncounted(self);
-        let after = &bytes[from..];
-        match memchr(value, after) {
-            None => {
-                steps.add(after.len());
-                None
-            }
-            Some(place) => {
-                steps.add(place + 1);
-                Some(from + place)
-            }
-        }
+        let found = memchr(value, &uncounted(self)[from..]);
+        found_behind(self, from, 1, found, steps)
     }
 }
 
@@ -94,4 +84,28 @@ fn uncounted<'a>(text: &Text<'a>) -> &'a [u8]
     ensures { result.now ≡ text.now }
 {
     text.bytes
+}
+
+/// Where something of `width` bytes is in a text that was found so far behind a place. Counts a look for each byte from that place to
+/// its end, or to the text's end where nothing was found.
+#[inline(always)]
+fn found_behind(
+    text: &Text,
+    from: usize,
+    width: usize,
+    found: Option<usize>,
+    steps: &mut Steps,
+) -> Option<usize>
+    requires from { from ≤ length text.now }
+    requires found { IfSome found (λ k. from + k + width ≤ length text.now) }
+    ensures place { result ≡ option_map (λ k. from + k) found }
+    ensures cost { TakesExactly steps.old steps.new (passed_to (length text.now) from width result) }
+{
+    let length = text.len();
+    let Some(place) = found else {
+        steps.add(length - from);
+        return None;
+    };
+    steps.add(place + width);
+    Some(from + place)
 }

@@ -6,7 +6,7 @@ ghost use Rattle.sedtext.specs.Sieve.{NoneBefore, PassesSieve};
 ghost use Rattle.sedre.specs.Steps.{Takes, TakesAtLeast, TakesExactly};
 
 use super::sieve::Sieve;
-use super::{Text, uncounted};
+use super::{Text, found_behind, uncounted};
 use memchr::memmem::Finder;
 use sedre::Steps;
 
@@ -17,18 +17,8 @@ pub fn find_literal(text: &Text, finder: &Finder, from: usize, steps: &mut Steps
     ensures first { FirstFrom (OccursAt text.now finder.now) from result }
     ensures cost { TakesExactly steps.old steps.new (passed_to (length text.now) from (length finder.now) result) }
 {
-    let bytes = uncounted(text);
-    let after = &bytes[from..];
-    match finder.find(after) {
-        None => {
-            steps.add(after.len());
-            None
-        }
-        Some(k) => {
-            steps.add(k + finder.needle().len());
-            Some(from + k)
-        }
-    }
+    let found = finder.find(&uncounted(text)[from..]);
+    found_behind(text, from, finder.needle().len(), found, steps)
 }
 
 /// A place from `from` on before which bytes of the sieve's three sets come together after none, if they may come after one.

@@ -1,8 +1,8 @@
 //! Marks, and rows of them: one for each of several states.
-ghost use Rattle.std.specs.Prelude.{◌≡◌, ◌≢◌, ℕ, Bool, List, ◌&&◌, not, ◌+◌, ◌-◌, ◌*◌, ◌^◌, ◌<◌, ◌≤◌, length, min, slice_index_or, slice_set, replicate, IfOk, IsTrue, ◌↔◌, false, eqb};
+ghost use Rattle.std.specs.Prelude.{◌≡◌, ◌≢◌, ℕ, Bool, List, ◌+◌, ◌-◌, ◌*◌, ◌^◌, ◌<◌, ◌≤◌, length, min, slice_index_or, slice_set, replicate, IfOk, IsTrue, ◌↔◌, false, eqb};
 ghost use Rattle.sedtext.specs.Places.{Ascending};
 ghost use Rattle.std.specs.Int.{bit_at};
-ghost use Rattle.sedtext.specs.Words.{AgreeBelow, KeepsRows, Lacks, blended, rows_of, row_of};
+ghost use Rattle.sedtext.specs.Words.{AgreeBelow, KeepsRows, blended, rows_of, row_of};
 ghost use Rattle.sedre.specs.Steps.{CostsWithin, TakesExactly};
 
 use crate::counted::lazy_words::LazyWords;
@@ -173,13 +173,7 @@ impl Rows {
         ensures clear { (c : ℕ) → c < count → slice_index_or (row_of self.new row) c false ≡ false }
         ensures cost { TakesExactly steps.old steps.new count }
     {
-        steps.add(count);
-        let at = self.width * row;
-        let words = &mut self.words;
-        words.reach(at + self.width);
-        for x in 0..count.div_ceil(64) {
-            words.set(at + x, 0);
-        }
+        self.blend(Blend::Without, row, row, row, count, steps);
     }
 
     /// Copies the first `count` marks of a row of others into a row, a word at a time; those after them in the row may change too.
@@ -253,45 +247,6 @@ impl Rows {
             let word = how.word(words.read(first + x), words.read(second + x));
             words.set(to + x, word);
         }
-    }
-
-    /// Makes the first `count` marks of a row those of `from` without the ones that two others have in common, a word at a time, if `from`
-    /// has all of these, and says whether it has. Counts a look for each of the `count`.
-    pub fn take_off(
-        &mut self,
-        row: usize,
-        from: usize,
-        one: usize,
-        other: usize,
-        count: usize,
-        steps: &mut Steps,
-    ) -> bool
-        requires row { row < length self.old }
-        requires others { (from < length self.old) × (one < length self.old) × (other < length self.old) }
-        requires apart { (from ≢ row) × (one ≢ row) × (other ≢ row) }
-        requires inside { (q : ℕ) → q < length self.old → count ≤ length (row_of self.old q) }
-        ensures keeps { KeepsRows (λ q. q ≢ row) self.old self.new }
-        ensures marks { IsTrue result → (c : ℕ) → c < count → slice_index_or (row_of self.new row) c false ≡
-            (slice_index_or (row_of self.old from) c false && not (slice_index_or (row_of self.old one) c false && slice_index_or (row_of self.old other) c false)) }
-        ensures all { IsTrue result → (c : ℕ) → Lacks (row_of self.old from) (row_of self.old one) (row_of self.old other) count c → ⊥ }
-        ensures lacks { result ≡ false → (c : ℕ) × Lacks (row_of self.old from) (row_of self.old one) (row_of self.old other) count c }
-        ensures cost { TakesExactly steps.old steps.new count }
-    {
-        steps.add(count);
-        let (to, had) = (self.width * row, self.width * from);
-        let (first, second) = (self.width * one, self.width * other);
-        let words = &mut self.words;
-        words.reach(to.max(had).max(first.max(second)) + self.width);
-        for x in 0..count.div_ceil(64) {
-            let word = words.read(had + x);
-            let these = words.read(first + x);
-            let common = these & words.read(second + x);
-            if lowest(common & !word, count - 64 * x) != 0 {
-                return false;
-            }
-            words.set(to + x, word & !common);
-        }
-        true
     }
 
     /// The first mark of a row that is set, from one on; `to` where none before it is. Counts a look for each that it passes.

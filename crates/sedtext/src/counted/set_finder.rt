@@ -7,7 +7,7 @@ ghost use Rattle.sedtext.specs.Bytes.{FirstFrom, MemberAt, passed_to};
 ghost use Rattle.sedtext.specs.Few.{AreMembers, HasFew};
 
 use super::members::first_member;
-use super::{Text, uncounted};
+use super::{Text, found_behind, uncounted};
 use memchr::{memchr, memchr2, memchr3};
 use sedre::{ByteSet, Steps};
 use std::marker::Model;
@@ -111,17 +111,7 @@ impl SetFinder {
         ensures first { FirstFrom (MemberAt self.now text.now) from result }
         ensures cost { TakesExactly steps.old steps.new (passed_to (length text.now) from 1 result) }
     {
-        let bytes = uncounted(text);
-        let after = &bytes[from..];
-        match self.first_in(after) {
-            None => {
-                steps.add(after.len());
-                None
-            }
-            Some(place) => {
-                steps.add(place + 1);
-                Some(from + place)
-            }
-        }
+        let found = self.first_in(&uncounted(text)[from..]);
+        found_behind(text, from, 1, found, steps)
     }
 }

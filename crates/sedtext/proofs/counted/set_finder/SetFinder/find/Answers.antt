@@ -1,8 +1,5 @@
-use Rattle.sedtext.proofs.Closing.{member_behind, None, Some}
+use Rattle.sedtext.proofs.Closing.{member_behind}
 use Rattle.sedtext.proofs.counted.set_finder.SetFinder.find.Goals as goal
 
-pub returns-in-None-clause-first : goal.returns-in-None-clause-first
-returns-in-None-clause-first c = member_behind _ _ _ c.uncounted-bytes.ensures c.requires.from _ None c.in-None.ensures
-
-pub returns-in-Some-clause-first : goal.returns-in-Some-clause-first
-returns-in-Some-clause-first c = member_behind _ _ _ c.uncounted-bytes.ensures c.requires.from _ (Some c.in-Some.place) c.in-Some.ensures
+pub returns-clause-first : goal.returns-clause-first
+returns-clause-first c = rw c.found_behind.ensures.place (member_behind _ _ _ c.uncounted.ensures c.requires.from _ _ c.first_in-found.ensures)
