@@ -37,9 +37,6 @@ pub marks_none : (marks : List Bool) (count x word from least : ℕ) → ((k : �
 marks_none marks count x word from least mine none few c low high under = let k = c - 64 * x in grind (arith, mine k, none k)
 
 -- the bits of two words
-pub both_bits : (a b k : ℕ) → eqb (bit_at (bit_and a b) k) 1 ≡ (eqb (bit_at a k) 1 && eqb (bit_at b k) 1)
-both_bits a b k = grind (arith, bit_at_and a b k, bit_at-lt a k, bit_at-lt b k)
-
 pub either_bits : (a b k : ℕ) → eqb (bit_at (bit_or a b) k) 1 ≡ (eqb (bit_at a k) 1 || eqb (bit_at b k) 1)
 either_bits a b k = grind (arith, bit_at_or a b k, bit_at-lt a k, bit_at-lt b k)
 

@@ -1,10 +1,11 @@
 //! Hints: what an expression shows of where its matches begin, so that most of a text is passed over. No match begins before the
 //! place that a hint gives, and none at all where it gives none.
-ghost use Rattle.std.specs.Prelude.{◌≡◌, List, ◌-◌, ◌*◌, ◌≤◌, length, IfOk, IfSome, Some};
+ghost use Rattle.std.specs.Prelude.{◌≡◌, ℕ, List, ◌-◌, ◌*◌, ◌≤◌, length, IfOk, IfSome, IsTrue, None, Some};
 ghost use Rattle.sedre.specs.Tree.{expression_tree, Tree};
 ghost use Rattle.sedre.specs.declared.types.Node.{Node};
-ghost use Rattle.sedtext.specs.Bytes.{passed_to};
-ghost use Rattle.sedtext.specs.Hints.{AllBegin, AreHints, IsRequired, Narrowed};
+ghost use Rattle.memchr.specs.Find.{OccursAt};
+ghost use Rattle.sedtext.specs.Bytes.{FirstFrom, passed_to};
+ghost use Rattle.sedtext.specs.Hints.{AllBegin, AreHints, IsRequired, Narrowed, ShowsFirst};
 ghost use Rattle.sedtext.specs.Branches.{AreBranches};
 ghost use Rattle.sedre.specs.Steps.{CostsWithin, Takes, TakesAtLeast};
 ghost use Rattle.sedtext.specs.Links.{IsChain};
@@ -206,6 +207,8 @@ impl Hints {
         requires from { from ≤ length text.now }
         ensures narrowed { (e : Tree) → AreHints e self.now → Narrowed e text.now from result }
         ensures lies { IfSome result (λ q. (from ≤ q) × (q ≤ length text.now)) }
+        ensures none { IfSome self.now.required (λ r. ((k : ℕ) → from ≤ k → OccursAt text.now r.finder k → ⊥) → result ≡ None) }
+        ensures first { IfSome self.now.required (λ r. IsTrue r.is_prefix → FirstFrom (OccursAt text.now r.finder) from result) }
         ensures cost { CostsWithin steps.old steps.new (length text.now) from }
         ensures counts { IfSome result (λ q. TakesAtLeast steps.old steps.new (q - from)) }
     {
@@ -223,6 +226,7 @@ impl Hints {
         requires from { from ≤ length text.now }
         ensures narrowed { (e : Tree) → AreHints e self.now → Narrowed e text.now from result }
         ensures lies { IfSome result (λ q. (from ≤ q) × (q ≤ length text.now)) }
+        ensures first { ShowsFirst self.now.begins text.now from result }
         ensures cost { Takes steps.old steps.new (3 * passed_to (length text.now) from 1 result) }
         ensures counts { IfSome result (λ q. TakesAtLeast steps.old steps.new (q - from)) }
     {

@@ -1,11 +1,12 @@
 //! An expression as a chain of links: what its spans are made of, one after another. What follows asks chains alone for what an
 //! expression shows of its matches.
-ghost use Rattle.std.specs.Prelude.{◌≡◌, ℕ, List, [], ◌+◌, ◌<◌, ◌≤◌, ◌↔◌, length, slice_get, take, IfOk, IfSome, Some};
+ghost use Rattle.std.specs.Prelude.{◌≡◌, ℕ, List, [], ◌+◌, ◌<◌, ◌≤◌, ◌↔◌, length, slice_get, take, IfOk, IfSome, None, Some};
 ghost use Rattle.std.specs.List.{All};
 ghost use Rattle.sedre.specs.Arena.{IsArena};
 ghost use Rattle.sedre.specs.Tree.{expression_tree};
 ghost use Rattle.sedtext.specs.Links.{AreAlternatives, IsContinuation, IsChain, IsLiteral, IsWithin, LinkLeads};
 ghost use Rattle.sedtext.specs.Reach.{HasSpan};
+ghost use Rattle.sedtext.specs.declared.links.Link.TheVariants.{Either};
 
 use sedre::{ByteSet, Expr, Node, Steps};
 use std::alloc::{AllocError, Global};
@@ -88,7 +89,8 @@ pub fn alternatives_at(
     steps: &mut Steps,
 ) -> Result<Option<(Vec<Link>, Vec<Link>)>, AllocError>
     requires within { All (IsWithin (length expr.now.nodes)) chain.now }
-    ensures { IfOk result (λ r. IfSome r (λ p. AreAlternatives expr.now.nodes (take (at + 1) chain.now) p.0.items p.1.items)) }
+    ensures some { IfOk result (λ r. IfSome r (λ p. AreAlternatives expr.now.nodes (take (at + 1) chain.now) p.0.items p.1.items)) }
+    ensures none { IfOk result (λ r. r ≡ None → (left right : ℕ) → slice_get chain.now at ≡ Some (Either left right) → ⊥) }
 {
     let Some(Link::Either(left, right)) = chain.get(at) else {
         return Ok(None);

@@ -1,5 +1,5 @@
 //! Sets of bytes that vectors decide, by the two nibbles of a byte.
-ghost use Rattle.std.specs.Prelude.{◌≡◌, ℕ, ◌/◌, ◌%◌, ◌<◌, ◌^◌, slice_index, IsTrue};
+ghost use Rattle.std.specs.Prelude.{◌≡◌, ℕ, ◌/◌, ◌%◌, ◌<◌, ◌^◌, ◌↔◌, slice_index, IsTrue};
 ghost use Rattle.std.specs.Int.{bit_at};
 ghost use Rattle.sedtext.specs.Sieve.{HasLanes, IsMarked};
 ghost use Rattle.sedtext.specs.Spans.{IsIn};
@@ -46,7 +46,7 @@ impl Nibbles {
 
     /// Whether the byte is marked.
     pub fn has(&self, byte: u8) -> bool
-        ensures { IsMarked self.now.rows byte → IsTrue result }
+        ensures { IsTrue result ↔ IsMarked self.now.rows byte }
     {
         let row = self.rows[(byte % 16) as usize];
         has_bit(row as u64, (byte / 16 % 8) as usize)

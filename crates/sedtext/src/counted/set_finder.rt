@@ -78,7 +78,7 @@ impl SetFinder {
 
     /// Whether it is the same set that is sought.
     pub fn same(&self, other: &SetFinder) -> bool
-        ensures { IsTrue result → self.now ≡ other.now }
+        ensures { IsTrue result ↔ (self.now ≡ other.now) }
     {
         self.set.same(&other.set)
     }

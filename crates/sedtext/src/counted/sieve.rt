@@ -1,6 +1,6 @@
 //! Three sets of bytes at fixed distances after a place: the places after which bytes of all three come are found by vectors of
 //! 32 bytes.
-ghost use Rattle.std.specs.Prelude.{◌+◌, ◌≤◌, length, IfSome, IsTrue};
+ghost use Rattle.std.specs.Prelude.{◌+◌, ◌≤◌, ◌↔◌, length, IfSome, IsTrue};
 ghost use Rattle.sedtext.specs.Sieve.{MarksPlaces, NoneBefore, FixedAt, PassesSieve};
 
 use super::nibbles::Nibbles;
@@ -35,7 +35,7 @@ impl Fixed {
     /// Whether one of them is at the distance after the place.
     fn stands(&self, bytes: &[u8], place: usize) -> bool
         requires { place ≤ length bytes.now }
-        ensures { FixedAt self.now bytes.now place → IsTrue result }
+        ensures { IsTrue result ↔ FixedAt self.now bytes.now place }
     {
         self.offset < bytes.len() - place && self.set.has(bytes[place + self.offset])
     }
@@ -66,7 +66,7 @@ impl Sieve {
     /// Whether bytes of all three come after the place.
     fn passes(&self, bytes: &[u8], place: usize) -> bool
         requires { place ≤ length bytes.now }
-        ensures { PassesSieve self.now bytes.now place → IsTrue result }
+        ensures { IsTrue result ↔ PassesSieve self.now bytes.now place }
     {
         self.first.stands(bytes, place)
             && self.second.stands(bytes, place)
