@@ -8,7 +8,7 @@ pub use Rattle.sedtext.proofs.FixedRunLemmas.{repeated_before, run_stops, runs_o
 pub use Rattle.sedtext.proofs.LinkLemmas.{all_hold, AllLeadTo, at_node, both_ways, branches_last, branches_more, byte_leads, IsLeft, lead_more, left_behind, left_inner, left_parts, one_longer, part_inside, required_first, required_none, run_leads}
 pub use Rattle.sedtext.proofs.MatchingLemmas.{groups_after-iff, not_found-iff, some_found-iff, spans-iff}
 pub use Rattle.sedtext.proofs.RunLemmas.{run_ends}
-pub use Rattle.sedtext.proofs.SieveLemmas.{AllMarked, first_marked, lanes_looked_up, lanes_with, lanes_zip, marked_lane, marked_more, none_marked, nonzero_few, nonzero_lane, narrowed_by, first_lies, first_member_at, passes_within}
+pub use Rattle.sedtext.proofs.SieveLemmas.{AllMarked, first_marked, lanes_looked_up, lanes_with, lanes_zip, marked_lane, marked_more, none_marked, nonzero_few, nonzero_lane, narrowed_by, first_lies, later_marks, passes_within}
 pub use Rattle.sedtext.proofs.SpanLemmas.{CopiesLead-append}
 pub use Rattle.sedtext.proofs.WordLemmas.{length-row, length-rows_of, mark_keeps, mark_read, mark_written, marked_same, Meet, meet_here, meet_later, new_bit, row_bit, row_clear, row_there, row_written, word_at, zero_unmarked}
 pub use Rattle.sedtext.proofs.NodeLemmas.{total_size}

@@ -1,37 +1,43 @@
 -- Where bytes of three sets are, and bytes of one; what the lanes of a vector hold, and the rows of marked bytes.
 use Rattle.sedtext.proofs.Words.{◌%◌, ◌*◌, ◌++◌, ◌+◌, ◌-◌, ◌/◌, ◌<◌, ◌^◌, ◌∙◌, ◌≡◌, ◌≢◌, ◌≤◌, agree_below_at, ap, arith, bit_and, bit_at, bit_at-lt, bit_at-trailing_zeros, bit_at-zero, bit_at_above, bit_at_and, bit_at_or}
+use Rattle.std.proofs.lemmas.Nat.{and_le_r, shr-shr}
+use Rattle.std.proofs.lemmas.Bool.{eq-eqb, ltb-true}
+use Rattle.std.specs.Bool.{nat_lt}
+use Rattle.std.proofs.Math.Nat.{div-le_self}
 use Rattle.sedtext.proofs.Words.{bit_at_set_same, bit_mask_l, bit_or, bitmask_splat, Bool, cases_lt, cond, eqb, eqb-true, FirstFrom, get_or, get_or-map, get_or-replicate, get_or-set_other, get_or-set_same, get_or-swz_l_below, get_or-take}
 use Rattle.sedtext.proofs.Words.{get_or-zip2, get_or_append_left, HasLanes, IfSome, IsIn, IsMarked, length, length-map, length-replicate, length-swz_l, length-take-le, length-zip2, List, map, MarksPlaces, mask_l, mask_l-lt, max, MemberAt}
-use Rattle.sedtext.proofs.Words.{ne_eqb, Narrowed, Matches, Tree, None, NoneBefore, not, Option, PassesSieve, refl, replicate, Sieve, slice_get_within, slice_index, slice_set, Some, swz_l, take, top, trailing_zeros, true, UPPER, w64, w8, zip2, ℕ}
+use Rattle.sedtext.proofs.Words.{◌≢◌, ◌↔◌, ne_eqb, Narrowed, Matches, Tree, None, not, Option, PassesSieve, refl, replicate, Sieve, slice_get_within, slice_index, slice_set, Some, swz_l, take, top, trailing_zeros, true, UPPER, w64, w8, zip2, ℕ}
 
--- none up to a place, and marks from that place on, or from one before it
-module _ (P : ℕ → Type 0) (from q p marks : ℕ) (near : p ≤ q) (are : MarksPlaces P p marks) (before : NoneBefore P from (Some q)) where
+-- none up to a place, and marks from that place on
+module _ (P : ℕ → Type 0) (from p marks : ℕ) (up : from ≤ p) (are : MarksPlaces P p marks) (before : (i : ℕ) → from ≤ i → i < p → P i → ⊥) where
   pub none_marked : marks ≡ 0 → (i : ℕ) → from ≤ i → i < p + 32 → P i → ⊥
-  none_marked none i low high is = grind (arith, before.1 i, cases_lt i q, are.1 (i - p), bit_at-zero)
+  none_marked none i low high is = grind (arith, before i, cases_lt i p, are.1 (i - p), bit_at-zero)
 
-  pub first_marked : marks ≢ 0 → (trailing_zeros w64 marks < 32) × ((to : ℕ) → q ≤ to → to ≤ max q (p + trailing_zeros w64 marks) → NoneBefore P from (Some to))
+  pub first_marked : marks ≢ 0 → FirstFrom P from (Some (p + trailing_zeros w64 marks))
   first_marked some =
+      let k = trailing_zeros w64 marks in
       let lowest = bit_at-trailing_zeros w64 marks (omega (arith, some)) (omega (arith, are.0)) in
-      let few : trailing_zeros w64 marks < 32 = grind (arith, lowest, bit_at_above marks 32 (trailing_zeros w64 marks) are.0) in
-      (few, λ to ge le. (omega (arith, before.0, ge), λ i low high is. grind (arith, lowest, few, before.1 i, cases_lt i q, are.1 (i - p))))
+      let few : k < 32 = grind (arith, lowest, bit_at_above marks 32 k are.0) in
+      (omega (arith, up), (are.1 k few).0 lowest.1, λ i low high is. grind (arith, lowest, few, before i, cases_lt i p, are.1 (i - p)))
+
+-- the marks from a place of these on, where the places behind them aren't marked
+pub later_marks : (P : ℕ → Type 0) (p s marks : ℕ) → s < 32 → MarksPlaces P p marks → ((i : ℕ) → P i → i < p + 32) → MarksPlaces P (p + s) (marks / 2 ^ s)
+later_marks P p s marks low are within = (
+  omega (arith, are.0, div-le_self marks (2 ^ s)),
+  λ k lt. let bit = ap (λ n. n % 2) (shr-shr marks s k) in grind (arith, bit, are.1 (s + k), within (p + s + k), bit_at_above marks 32 (s + k) are.0),
+)
 
 -- a place after which they come is farther from the end than the greatest distance
 pub passes_within : (s : Sieve) (w : List ℕ) (i : ℕ) → PassesSieve s w i → i + max (max s.first.offset s.second.offset) s.third.offset < length w
 passes_within s w i is = grind (arith, slice_get_within)
 
 -- where a match can begin, as something shows that is true of each place where one does
-pub narrowed_by : (e : Tree) (w : List ℕ) (p : ℕ) (P : ℕ → Type 0) (r : Option ℕ) → ((i k : ℕ) → Matches e w i k → P i) → NoneBefore P p r → IfSome r (λ k. k ≤ length w) → Narrowed e w p r
-narrowed_by e w p P None begins none inside = λ i k low within span. none i low (begins i k span)
-narrowed_by e w p P (Some q) begins none inside = (none.0, inside, λ i k low lt span. none.1 i low (omega arith) (begins i k span))
+pub narrowed_by : (e : Tree) (w : List ℕ) (p : ℕ) (P : ℕ → Type 0) (r : Option ℕ) → ((i k : ℕ) → Matches e w i k → P i) → FirstFrom P p r → IfSome r (λ k. k ≤ length w) → Narrowed e w p r
+narrowed_by e w p P r begins first inside = grind arith
 
--- the first place that has a byte of the set
-pub first_member_at : (w : List ℕ) (p : ℕ) (s : List Bool) (r : Option ℕ) → FirstFrom (MemberAt s w) p r → NoneBefore (MemberAt s w) p r
-first_member_at w p s None first = first
-first_member_at w p s (Some k) first = (first.0, first.2)
-
+-- a place that has a byte is in the text
 pub first_lies : (w : List ℕ) (p : ℕ) (s : List Bool) (r : Option ℕ) → FirstFrom (MemberAt s w) p r → IfSome r (λ k. (p ≤ k) × (k ≤ length w))
-first_lies w p s None first = tt
-first_lies w p s (Some k) first = let inside = slice_get_within w k first.1.0 first.1.1 in (first.0, omega (arith, inside))
+first_lies w p s r first = grind (arith, slice_get_within)
 
 -- two vectors combined lane by lane, and one with the same number in each lane
 pub lanes_zip : (f : ℕ → ℕ → ℕ) (a b : List ℕ) → length a ≡ 32 → length b ≡ 32 → HasLanes (zip2 f a b) (λ k. f (get_or a k 0) (get_or b k 0))
@@ -60,17 +66,34 @@ module _ (v : List ℕ) (long : length v ≡ 32) where
   pub nonzero_few : bits_of < 2 ^ 32
   nonzero_few = grind (arith, bits_are, length-map, mask_l-lt)
 
-  pub nonzero_lane : (k : ℕ) → k < 32 → get_or v k 0 ≢ 0 → bit_at bits_of k ≡ 1
-  nonzero_lane k lt some = grind (arith, bit_mask_l, bits_are, get_or-map, ne_eqb)
+  pub nonzero_lane : (k : ℕ) → k < 32 → (bit_at bits_of k ≡ 1) ↔ (get_or v k 0 ≢ 0)
+  nonzero_lane k lt = grind (arith, bit_mask_l, bits_are, get_or-map, ne_eqb, eqb-true)
 
--- the bit of an upper nibble
-upper_bit : (u : ℕ) → u < 16 → bit_at (get_or UPPER u 0) (u % 8) ≡ 1
-upper_bit u lt = eqb-true (bit_at (get_or UPPER u 0) (u % 8)) 1 (agree_below_at (λ u. eqb (bit_at (get_or UPPER u 0) (u % 8)) 1) (λ u. true) 16 u refl lt)
+-- the one bit of an upper nibble
+upper_bit : (u i : ℕ) → u < 16 → i < 8 → eqb (bit_at (get_or UPPER u 0) i) 1 ≡ eqb i (u % 8)
+upper_bit u i lt low =
+    let n = 8 * u + i in
+    let table = agree_below_at (λ n. eqb (bit_at (get_or UPPER (n / 8) 0) (n % 8)) 1) (λ n. eqb (n % 8) (n / 8 % 8)) 128 n refl (omega arith) in
+    let at : (n / 8 ≡ u) × (n % 8 ≡ i) = (omega arith, omega arith) in
+    rw (at.0, at.1) at table
 
--- a byte that is marked is so in its row and its bit together
-pub marked_lane : (rows : List ℕ) (byte row bit lane : ℕ) → byte < 256 → IsMarked rows byte → row ≡ get_or rows (byte % 16) 0 → bit ≡ get_or UPPER (byte / 16) 0 → lane ≡ bit_and row bit → lane ≢ 0
-marked_lane rows byte row bit lane small mark is_row is_bit is none =
-    let at = byte / 16 % 8 in grind (arith, upper_bit (byte / 16), mark small, bit_at_and row bit at, bit_at-zero at)
+upper_small : (u : ℕ) → u < 16 → get_or UPPER u 0 < 256
+upper_small u lt = ltb-true _ _ (agree_below_at (λ u. nat_lt (get_or UPPER u 0) 256) (λ u. true) 16 u refl lt)
+
+-- a byte is marked where its row and its bit have something in common
+pub marked_lane : (rows : List ℕ) (byte row bit lane : ℕ) → byte < 256 → row ≡ get_or rows (byte % 16) 0 → bit ≡ get_or UPPER (byte / 16) 0 → lane ≡ bit_and row bit → (lane ≢ 0) ↔ IsMarked rows byte
+marked_lane rows byte row bit lane small is_row is_bit is =
+    let u = byte / 16 in
+    let i = u % 8 in
+    let few = upper_small u (omega arith) in (
+      λ some under.
+          let k = trailing_zeros w64 lane in
+          let lowest = bit_at-trailing_zeros w64 lane (omega (arith, some)) (omega (arith, is, is_bit, few, and_le_r row bit)) in
+          let both = bit_at_and row bit k in
+          let low : k < 8 = grind (arith, lowest, bit_at_above bit 8 k (omega (arith, is_bit, few)), both, bit_at-lt row k) in
+          grind (arith, upper_bit u k (omega arith) low, lowest, is, is_bit, is_row, both, eqb-true, bit_at-lt row k, bit_at-lt bit k),
+      λ mark none. grind (arith, upper_bit u i (omega arith) (omega arith), mark small, is, is_bit, is_row, bit_at_and row bit i, bit_at-zero i),
+    )
 
 -- the members among the first n bytes are marked
 abbrev pub AllMarked : List Bool → ℕ → List ℕ → Type 0

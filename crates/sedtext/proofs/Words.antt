@@ -46,7 +46,7 @@ pub use Rattle.sedtext.specs.Nodes.{IsRepetitionOf, parts_of}
 pub use Rattle.sedtext.specs.Reach.{after_left, again, at_root, BeginsWith, Enters, HasSpan, IsLongestFrom, IsStart, Starts, with_whole}
 pub use Rattle.sedtext.specs.Hints.{AllBegin, AreHints, CanBegin, IsRequired, Narrowed, NoneIn, Requires}
 pub use Rattle.sedtext.specs.Runs.{IsRun, RunBegins, SetRepeats}
-pub use Rattle.sedtext.specs.Sieve.{AllPass, HasLanes, IsMarked, MarksPlaces, NoneBefore, PassesSieve}
+pub use Rattle.sedtext.specs.Sieve.{AllPass, HasLanes, IsMarked, MarksPlaces, PassesSieve}
 pub use Rattle.sedtext.specs.Spans.{CopiesLead, IsIn, IsLeftmostLongest, Matches, no_copy, NotFound, one_more, SomeFound}
 pub use Rattle.sedtext.specs.Words.{KeepsRows, Touched, blended, row_of}
 pub use Rattle.sedtext.specs.declared.counted.rows.Blend.{Blend}

@@ -3,8 +3,8 @@
 use Rattle.std.specs.Prelude.{◌≡◌, ℕ, ◌<◌, ◌≤◌, List, Bool, length, Option, Some, None, IsTrue}
 use Rattle.memchr.specs.Find.{OccursAt}
 use Rattle.sedre.specs.Tree.{Tree}
-use Rattle.sedtext.specs.Bytes.{FirstFrom, MemberAt}
-use Rattle.sedtext.specs.Sieve.{NoneBefore, PassesSieve}
+use Rattle.sedtext.specs.Bytes.{MemberAt}
+use Rattle.sedtext.specs.Sieve.{PassesSieve}
 use Rattle.sedtext.specs.Spans.{Matches, NotFound}
 use Rattle.sedtext.specs.declared.hints.Begins.{Begins}
 use Rattle.sedtext.specs.declared.hints.Begins.TheVariants.{Anyhow, AtStart, With, Before}
@@ -26,11 +26,6 @@ CanBegin Anyhow w i = Unit {0}
 CanBegin AtStart w i = i ≡ 0
 CanBegin (With s) w i = MemberAt s w i
 CanBegin (Before s) w i = PassesSieve s w i
-
--- the first place from p on at which a span that begins so can begin; by a sieve, one that passes none from p on before it
-abbrev pub ShowsFirst : Begins → List ℕ → ℕ → Option ℕ → Type 0
-ShowsFirst (Before s) w p r = NoneBefore (PassesSieve s w) p r
-ShowsFirst begins w p r = FirstFrom (CanBegin begins w) p r
 
 -- all spans of the expression begin so
 abbrev pub AllBegin : Tree → Begins → Type 0

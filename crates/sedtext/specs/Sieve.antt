@@ -1,6 +1,6 @@
 -- Private to the proofs: no contract that `sedmatch` makes public cites what is here.
 -- Sets of bytes that are decided by the nibbles of a byte, and where bytes of three of them are.
-use Rattle.std.specs.Prelude.{◌≡◌, ℕ, ◌+◌, ◌/◌, ◌%◌, ◌^◌, ◌<◌, ◌≤◌, List, length, slice_get, slice_index, Option, Some, None}
+use Rattle.std.specs.Prelude.{◌≡◌, ℕ, ◌+◌, ◌/◌, ◌%◌, ◌^◌, ◌<◌, ◌↔◌, List, length, slice_get, slice_index, Option, Some, None}
 use Rattle.std.specs.Int.{bit_at}
 use Rattle.sedre.specs.Tree.{Tree}
 use Rattle.sedtext.specs.Spans.{Matches}
@@ -25,12 +25,7 @@ PassesSieve s w i = FixedAt s.first w i × FixedAt s.second w i × FixedAt s.thi
 
 -- of the 32 places from p on those of which P is true have their bit set
 abbrev pub MarksPlaces : (ℕ → Type 0) → ℕ → ℕ → Type 0
-MarksPlaces P p marks = (marks < 2 ^ 32) × ((k : ℕ) → k < 32 → P (p + k) → bit_at marks k ≡ 1)
-
--- a place from p on, and P is true of none from p on before it; or it is true of none from p on
-abbrev pub NoneBefore : (ℕ → Type 0) → ℕ → Option ℕ → Type 0
-NoneBefore P p None = (i : ℕ) → p ≤ i → P i → ⊥
-NoneBefore P p (Some k) = (p ≤ k) × ((i : ℕ) → p ≤ i → i < k → P i → ⊥)
+MarksPlaces P p marks = (marks < 2 ^ 32) × ((k : ℕ) → k < 32 → (bit_at marks k ≡ 1) ↔ P (p + k))
 
 -- a byte of the set is at the distance after the beginning of each span of the expression
 abbrev pub AllFixed : Tree → Fixed → Type 0

@@ -5,7 +5,7 @@ ghost use Rattle.sedre.specs.Tree.{expression_tree, Tree};
 ghost use Rattle.sedre.specs.declared.types.Node.{Node};
 ghost use Rattle.memchr.specs.Find.{OccursAt};
 ghost use Rattle.sedtext.specs.Bytes.{FirstFrom, passed_to};
-ghost use Rattle.sedtext.specs.Hints.{AllBegin, AreHints, IsRequired, Narrowed, ShowsFirst};
+ghost use Rattle.sedtext.specs.Hints.{AllBegin, AreHints, CanBegin, IsRequired, Narrowed};
 ghost use Rattle.sedtext.specs.Branches.{AreBranches};
 ghost use Rattle.sedre.specs.Steps.{CostsWithin, Takes, TakesAtLeast};
 ghost use Rattle.sedtext.specs.Links.{IsChain};
@@ -226,7 +226,7 @@ impl Hints {
         requires from { from ≤ length text.now }
         ensures narrowed { (e : Tree) → AreHints e self.now → Narrowed e text.now from result }
         ensures lies { IfSome result (λ q. (from ≤ q) × (q ≤ length text.now)) }
-        ensures first { ShowsFirst self.now.begins text.now from result }
+        ensures first { FirstFrom (CanBegin self.now.begins text.now) from result }
         ensures cost { Takes steps.old steps.new (3 * passed_to (length text.now) from 1 result) }
         ensures counts { IfSome result (λ q. TakesAtLeast steps.old steps.new (q - from)) }
     {

@@ -2,7 +2,7 @@
 ghost use Rattle.std.specs.Prelude.{◌*◌, ◌≤◌, length, IfSome};
 ghost use Rattle.memchr.specs.Find.{OccursAt};
 ghost use Rattle.sedtext.specs.Bytes.{FirstFrom, passed_to};
-ghost use Rattle.sedtext.specs.Sieve.{NoneBefore, PassesSieve};
+ghost use Rattle.sedtext.specs.Sieve.{PassesSieve};
 ghost use Rattle.sedre.specs.Steps.{Takes, TakesAtLeast, TakesExactly};
 
 use super::sieve::Sieve;
@@ -21,12 +21,12 @@ pub fn find_literal(text: &Text, finder: &Finder, from: usize, steps: &mut Steps
     found_behind(text, from, finder.needle().len(), found, steps)
 }
 
-/// A place from `from` on before which bytes of the sieve's three sets come together after none, if they may come after one.
+/// The first place from `from` on after which bytes of all three sets of the sieve come, if there is one.
 /// Counts three looks for each place from `from` to that one, or to the end where there is none.
 #[inline(always)]
 pub fn sift(text: &Text, sieve: &Sieve, from: usize, steps: &mut Steps) -> Option<usize>
     requires from { from ≤ length text.now }
-    ensures none { NoneBefore (PassesSieve sieve.now text.now) from result }
+    ensures first { FirstFrom (PassesSieve sieve.now text.now) from result }
     ensures inside { IfSome result (λ k. k ≤ length text.now) }
     ensures cost { Takes steps.old steps.new (3 * passed_to (length text.now) from 1 result) }
     ensures counts { TakesAtLeast steps.old steps.new (passed_to (length text.now) from 1 result) }

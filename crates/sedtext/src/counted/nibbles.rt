@@ -55,7 +55,7 @@ impl Nibbles {
     /// Of 32 lanes those whose byte is marked, a bit each.
     pub(super) fn marked(&self, lanes: u8x32) -> u64
         ensures few { result < 2 ^ 32 }
-        ensures marked { (k : ℕ) → k < 32 → IsMarked self.now.rows (slice_index lanes k) → bit_at result k ≡ 1 }
+        ensures marked { (k : ℕ) → k < 32 → (bit_at result k ≡ 1) ↔ IsMarked self.now.rows (slice_index lanes k) }
     {
         let rows = look_up(&self.rows, lanes & u8x32::splat(15));
         let bits = look_up(&UPPER, lanes >> u8x32::splat(4));

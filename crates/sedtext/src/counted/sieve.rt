@@ -1,7 +1,8 @@
 //! Three sets of bytes at fixed distances after a place: the places after which bytes of all three come are found by vectors of
 //! 32 bytes.
 ghost use Rattle.std.specs.Prelude.{◌+◌, ◌≤◌, ◌↔◌, length, IfSome, IsTrue};
-ghost use Rattle.sedtext.specs.Sieve.{MarksPlaces, NoneBefore, FixedAt, PassesSieve};
+ghost use Rattle.sedtext.specs.Bytes.{FirstFrom};
+ghost use Rattle.sedtext.specs.Sieve.{MarksPlaces, FixedAt, PassesSieve};
 
 use super::nibbles::Nibbles;
 use std::simd::prelude::*;
@@ -76,7 +77,7 @@ impl Sieve {
     /// The first place from one on after which bytes of all three come, byte by byte.
     fn find_slowly(&self, bytes: &[u8], from: usize) -> Option<usize>
         requires { from ≤ length bytes.now }
-        ensures none { NoneBefore (PassesSieve self.now bytes.now) from result }
+        ensures first { FirstFrom (PassesSieve self.now bytes.now) from result }
         ensures inside { IfSome result (λ k. k ≤ length bytes.now) }
     {
         for place in from..bytes.len() {
@@ -87,10 +88,10 @@ impl Sieve {
         None
     }
 
-    /// A place from one on before which bytes of all three come after none, if they may come after one.
+    /// The first place from one on after which bytes of all three come.
     pub(super) fn find(&self, bytes: &[u8], from: usize) -> Option<usize>
         requires { from ≤ length bytes.now }
-        ensures none { NoneBefore (PassesSieve self.now bytes.now) from result }
+        ensures first { FirstFrom (PassesSieve self.now bytes.now) from result }
         ensures inside { IfSome result (λ k. k ≤ length bytes.now) }
     {
         let nearer = self.first.offset.max(self.second.offset);
@@ -107,10 +108,13 @@ impl Sieve {
             }
             place += LANES;
         }
-        let marks = self.marks(bytes, last);
+        if place >= last + LANES {
+            return None;
+        }
+        let marks = self.marks(bytes, last) >> (place - last);
         if marks == 0 {
             return None;
         }
-        Some(place.max(last + marks.trailing_zeros() as usize))
+        Some(place + marks.trailing_zeros() as usize)
     }
 }

@@ -6,5 +6,5 @@ loop-place-preserved c i low high is =
     let here = λ (e : i ≡ c.loop-place.place). true≢false (sym (c.passes.ensures.1 (subst (PassesSieve c.args.self.now c.args.bytes.now) e is)) ∙ c.if-passes.false) in
     ⊎_elim (λ (lt : i < c.loop-place.place). c.loop-place.invariant i low lt is) (λ (ge : c.loop-place.place ≤ i). here (omega arith)) (cases_lt i c.loop-place.place)
 
-pub returns-clause-none : goal.returns-clause-none
-returns-clause-none c i low is = c.loop-place.invariant i low (omega (arith, passes_within c.args.self.now c.args.bytes.now i is)) is
+pub returns-clause-first : goal.returns-clause-first
+returns-clause-first c i low is = c.loop-place.invariant i low (omega (arith, passes_within c.args.self.now c.args.bytes.now i is)) is
