@@ -31,33 +31,6 @@ pub meet_past : (marks others : List Bool) (words more : List ℕ) (count c : �
     ((k : ℕ) → k < 64 → 64 * (c / 64) + k < count → IsTrue (slice_index_or others (64 * (c / 64) + k) false) ↔ (bit_at (slice_index_or more (c / 64) 0) k ≡ 1)) → min (length words) (length more) ≤ c / 64 → Meet marks others count c → ⊥
 meet_past marks others words more count c mine theirs past met = let k = c % 64 in grind (arith, get_or_past, bit_at-zero k, mine k, theirs k)
 
--- marks that are bits of words, and the lowest bits that two of these have in common and the first hasn't
-module _ (first one other : List Bool) (count x word common low : ℕ) (had : (k : ℕ) → k < 64 → 64 * x + k < count → IsTrue (slice_index_or first (64 * x + k) false) ↔ (bit_at word k ≡ 1))
-    (both : (k : ℕ) → k < 64 → 64 * x + k < count → (IsTrue (slice_index_or one (64 * x + k) false) × IsTrue (slice_index_or other (64 * x + k) false)) ↔ (bit_at common k ≡ 1))
-    (bits : (k : ℕ) → k < 64 → k < count - 64 * x → eqb (bit_at low k) 1 ≡ (eqb (bit_at common k) 1 && not (eqb (bit_at word k) 1))) where
-  pub lacks_here : low ≢ 0 → low < 2 ^ 64 → ((i : ℕ) → count - 64 * x ≤ i → bit_at low i ≡ 0) → (c : ℕ) × Lacks first one other count c
-  lacks_here some fits none =
-      let k = trailing_zeros w64 low in
-      let is = bit_at-trailing_zeros w64 low (omega (arith, some)) fits in
-      (64 * x + k, grind (arith, is, none k, bits k, bit_at-lt word k, bit_at-lt common k, had k, both k))
-
-  pub lacks_later : low ≡ 0 → ((c : ℕ) → c < 64 * x → Lacks first one other count c → ⊥) → (c : ℕ) → c < 64 * (x + 1) → Lacks first one other count c → ⊥
-  lacks_later none before c up lacks = let k = c - 64 * x in grind (arith, before c, bits k, bit_at-zero k, bit_at-lt word k, bit_at-lt common k, had k, both k)
-
--- where a word's bits are those of one without those that two others have in common, so are its marks
-pub marked_left : (words other : List ℕ) (base had one two i : ℕ) →
-    ((k : ℕ) → k < 64 → eqb (bit_at (slice_index_or words (base + i / 64) 0) k) 1 ≡ (eqb (bit_at (slice_index_or other (had + i / 64) 0) k) 1 && not (eqb (bit_at (slice_index_or other (one + i / 64) 0) k) 1 && eqb (bit_at (slice_index_or other (two + i / 64) 0) k) 1))) →
-    is_set words (64 * base + i) ≡ (is_set other (64 * had + i) && not (is_set other (64 * one + i) && is_set other (64 * two + i)))
-marked_left words other base had one two i made =
-    let k = i % 64 in
-    let bit = λ (ws : List ℕ) (from : ℕ). set_at ws (64 * from + i) (from + i / 64) k (omega arith) (omega arith) in
-    rw (bit words base, bit other had, bit other one, bit other two) (made k (omega arith))
-
--- marks that are bits of a word which aren't set
-pub marks_none : (marks : List Bool) (count x word from least : ℕ) → ((k : ℕ) → k < 64 → 64 * x + k < count → IsTrue (slice_index_or marks (64 * x + k) false) ↔ (bit_at word k ≡ 1)) →
-    ((i : ℕ) → from ≤ i → i < least → bit_at word i ≡ 0) → least ≤ 64 → (c : ℕ) → 64 * x + from ≤ c → c < 64 * x + least → c < count → slice_index_or marks c false ≡ false
-marks_none marks count x word from least mine none few c low high under = let k = c - 64 * x in grind (arith, mine k, none k)
-
 -- the bits of two words
 pub both_bits : (a b k : ℕ) → eqb (bit_at (bit_and a b) k) 1 ≡ (eqb (bit_at a k) 1 && eqb (bit_at b k) 1)
 both_bits a b k = grind (arith, bit_at_and a b k, bit_at-lt a k, bit_at-lt b k)
@@ -160,15 +133,6 @@ pub marked_same : (words other : List ℕ) (base from i : ℕ) → slice_index_o
 unfolding is_set
 marked_same words other base from i same = grind arith
 
--- where a word's bits are made of those of two others, its marks are made so of theirs
-pub marked_blend : (how : Blend) (words other : List ℕ) (base one two i : ℕ) →
-    ((k : ℕ) → k < 64 → eqb (bit_at (slice_index_or words (base + i / 64) 0) k) 1 ≡ blended how (eqb (bit_at (slice_index_or other (one + i / 64) 0) k) 1) (eqb (bit_at (slice_index_or other (two + i / 64) 0) k) 1)) →
-    is_set words (64 * base + i) ≡ blended how (is_set other (64 * one + i)) (is_set other (64 * two + i))
-marked_blend how words other base one two i made =
-    let k = i % 64 in
-    let bit = λ (ws : List ℕ) (from : ℕ). set_at ws (64 * from + i) (from + i / 64) k (omega arith) (omega arith) in
-    rw (bit words base, bit other one, bit other two) (made k (omega arith))
-
 -- a row whose words are the same is the same
 row_kept : (words after : List ℕ) (width marks q : ℕ) → marks ≤ 64 * width →
     ((k : ℕ) → k < width → slice_index_or after (width * q + k) 0 ≡ slice_index_or words (width * q + k) 0) → row_at after width marks q ≡ row_at words width marks q
@@ -179,13 +143,21 @@ row_kept words after width marks q low same = table-is _ marks _ (length-table _
 pub row_apart : (width q p k c : ℕ) → k < width → c ≤ width → q ≢ p → (width * q + k < width * p) ⊎ (width * p + c ≤ width * q + k)
 row_apart width q p k c lt low apart = grind (arith, cases_lt q p, mul-le-mul_left {m = q + 1} {n = p} width, mul-le-mul_left {m = p + 1} {n = q} width)
 
+-- the first x words of a row were written, each so that P is true of it, and no others
+pub record Written (P : ℕ → ℕ → Type 0) (initial words : List ℕ) (to x : ℕ) : Type 0 where
+  pub long : length words ≡ length initial
+  pub each : (k : ℕ) → k < x → P k (slice_index_or words (to + k) 0)
+  pub before : (k : ℕ) → k < to → slice_index_or words k 0 ≡ slice_index_or initial k 0
+  pub rest : (k : ℕ) → to + x ≤ k → slice_index_or words k 0 ≡ slice_index_or initial k 0
+
 -- a word that isn't of the row, or comes later, isn't written
-pub unwritten : (initial words : List ℕ) (x width row other : ℕ) → x < width → ((k : ℕ) → k < width * row → slice_index_or words k 0 ≡ slice_index_or initial k 0) → ((k : ℕ) → width * row + x ≤ k → slice_index_or words k 0 ≡ slice_index_or initial k 0) →
-    slice_index_or words (width * other + x) 0 ≡ slice_index_or initial (width * other + x) 0
-unwritten initial words x width row other less before rest = elim (cases_eq row other) [
-  | inl e ↦ rest (width * other + x) (omega (arith, ap (λ n. width * n) e))
-  | inr apart ↦ grind (arith, before (width * other + x), rest (width * other + x), row_apart width other row x x less (omega (arith, less)) (λ e. apart (sym e)))
-]
+pub unwritten : (P : ℕ → ℕ → Type 0) (initial words : List ℕ) (x width row other : ℕ) → Written P initial words (width * row) x → x < width → slice_index_or words (width * other + x) 0 ≡ slice_index_or initial (width * other + x) 0
+unwritten P initial words x width row other old less = grind (arith, cases_eq row other, old.before (width * other + x), old.rest (width * other + x), row_apart width other row x x less)
+
+-- the word's bits are made so of those of three others
+abbrev pub MadeOf : (Bool → Bool → Bool → Bool) → List ℕ → ℕ → ℕ → ℕ → ℕ → ℕ → Type 0
+MadeOf f words one two three k word =
+    (i : ℕ) → i < 64 → eqb (bit_at word i) 1 ≡ f (eqb (bit_at (slice_index_or words (one + k) 0) i) 1) (eqb (bit_at (slice_index_or words (two + k) 0) i) 1) (eqb (bit_at (slice_index_or words (three + k) 0) i) 1)
 
 -- what is known of the words of a row, for rows that contracts see as a list
 module _ (r : Inside) (seen : List (List Bool)) (is : rows_of r.words.all r.width r.marks r.count ≡ seen) (inside : (r.marks ≤ 64 * r.width) × (r.width * r.count ≤ length r.words.all) × (length r.words.all < 2 ^ 63)) where
@@ -226,11 +198,59 @@ module _ (r : Inside) (seen : List (List Bool)) (is : rows_of r.words.all r.widt
   mark_written q i old word v lt low read same other = grind (arith, marks_seen, row_at-set, row_seen, row_there, rows_of-get, rows_seen)
 
   -- where words of one row alone were written, the others are as they were
-  pub row_written : (after : List ℕ) (p c : ℕ) → c ≤ r.width → ((k : ℕ) → k < r.width * p → slice_index_or after k 0 ≡ slice_index_or r.words.all k 0) →
-      ((k : ℕ) → r.width * p + c ≤ k → slice_index_or after k 0 ≡ slice_index_or r.words.all k 0) → KeepsRows (λ q. q ≢ p) seen (rows_of after r.width r.marks r.count)
-  row_written after p c narrow before rest = grind (arith, get_or_past, length-row, length-rows_of, marks_seen, row_apart, row_kept, row_seen, rows_of-get, rows_seen)
+  others_kept : (after : List ℕ) (p x : ℕ) → x ≤ r.width → ((k : ℕ) → k < r.width * p → slice_index_or after k 0 ≡ slice_index_or r.words.all k 0) →
+      ((k : ℕ) → r.width * p + x ≤ k → slice_index_or after k 0 ≡ slice_index_or r.words.all k 0) → KeepsRows (λ q. q ≢ p) seen (rows_of after r.width r.marks r.count)
+  others_kept after p x narrow before rest = grind (arith, get_or_past, length-row, length-rows_of, marks_seen, row_apart, row_kept, row_seen, rows_of-get, rows_seen)
+
+  pub row_written : (P : ℕ → ℕ → Type 0) (initial after : List ℕ) (p x : ℕ) → initial ≡ r.words.all → x ≤ r.width → Written P initial after (r.width * p) x → KeepsRows (λ q. q ≢ p) seen (rows_of after r.width r.marks r.count)
+  row_written P initial after p x is narrow wrote = others_kept after p x narrow (rw is at wrote.before) (rw is at wrote.rest)
 
   pub mark_keeps : (p i word : ℕ) → p < length seen → i < length (row_of seen p) → KeepsRows (λ q. q ≢ p) seen (rows_of (slice_set r.words.all (r.width * p + i / 64) word) r.width r.marks r.count)
   mark_keeps p i word lt low =
+      let there = row_there p lt in
       let other = λ (k : ℕ). get_or-set_other r.words.all (r.width * p + i / 64) k word 0 in
-      row_written _ p r.width (omega arith) (λ k under. other k (omega (arith, under))) (λ k over. other k (omega (arith, over, row_there p lt)))
+      others_kept _ p r.width (omega arith) (λ k under. other k (omega arith)) (λ k over. other k (omega arith))
+
+  -- one more word of it
+  pub row_more : (P : ℕ → ℕ → Type 0) (initial words : List ℕ) (p x count word : ℕ) → initial ≡ r.words.all → p < length seen → count ≤ length (row_of seen p) → 64 * x < count → P x word → Written P initial words (r.width * p) x →
+      Written P initial (slice_set words (r.width * p + x) word) (r.width * p) (x + 1)
+  row_more P initial words p x count word is lt few inside here old =
+      let there : r.width * p + x < length words = omega (arith, old.long, ap length is, row_there p lt) in record {
+        long = length-set words (r.width * p + x) word ∙ old.long;
+        each = λ k low. grind (arith, cases_eq k x, get_or-set_same, get_or-set_other, here, there, old.each k);
+        before = λ k low. grind (arith, get_or-set_other, old.before k);
+        rest = λ k high. grind (arith, get_or-set_other, old.rest k);
+      }
+
+  -- marks whose words were made so of those of other rows were made so too
+  pub row_made : (f : Bool → Bool → Bool → Bool) (initial words : List ℕ) (p one two three count x : ℕ) → initial ≡ r.words.all → p < length seen → one < length seen → two < length seen → three < length seen → count ≤ length (row_of seen p) → count ≤ 64 * x →
+      Written (MadeOf f initial (r.width * one) (r.width * two) (r.width * three)) initial words (r.width * p) x → (c : ℕ) → c < count →
+      slice_index_or (row_of (rows_of words r.width r.marks r.count) p) c false ≡ f (slice_index_or (row_of seen one) c false) (slice_index_or (row_of seen two) c false) (slice_index_or (row_of seen three) c false)
+  row_made f initial words p one two three count x is lt lt1 lt2 lt3 few past made c low =
+      let bit = λ (ws : List ℕ) (q : ℕ). set_at ws (64 * (r.width * q) + c) (r.width * q + c / 64) (c % 64) (omega arith) (omega arith) in
+      let had = λ (q : ℕ) (lt' : q < length seen). row_bit q (c + 1) lt' (omega (arith, low, few, marks_seen q lt', marks_seen p lt)) c (omega arith) in
+      let each = rw is at (made.each (c / 64) (omega arith) (c % 64) (omega arith)) in
+      rw (new_bit words p c lt (omega arith), had one lt1, had two lt2, had three lt3, bit words p, bit r.words.all one, bit r.words.all two, bit r.words.all three) each
+
+  -- marks of a word that isn't set there
+  pub none_more : (q count x from least word : ℕ) → q < length seen → count ≤ length (row_of seen q) → word ≡ slice_index_or r.words.all (r.width * q + x) 0 → ((i : ℕ) → from ≤ i → i < least → bit_at word i ≡ 0) → least ≤ 64 →
+      (c : ℕ) → 64 * x + from ≤ c → c < 64 * x + least → c < count → slice_index_or (row_of seen q) c false ≡ false
+  none_more q count x from least word lt low read none few c from' to under = let k = c - 64 * x in grind (arith, word_at q count x word lt low read k, none k)
+
+  -- the lowest bits that words of two rows have in common and that of a first one hasn't
+  module _ (initial : List ℕ) (from one two count x word these those low : ℕ) (begun : initial ≡ r.words.all) (lt : (from < length seen) × (one < length seen) × (two < length seen)) (counts : (q : ℕ) → q < length seen → count ≤ length (row_of seen q))
+      (same : word ≡ slice_index_or initial (r.width * from + x) 0) (same1 : these ≡ slice_index_or initial (r.width * one + x) 0) (same2 : those ≡ slice_index_or initial (r.width * two + x) 0) (small : word < 2 ^ 64)
+      (lowest : (k : ℕ) → k < count - 64 * x → bit_at low k ≡ bit_at (bit_and (bit_and these those) (bit_not w64 word)) k) where
+    lacking : (k : ℕ) → k < 64 → 64 * x + k < count → (bit_at low k ≡ 1) ↔ Lacks (row_of seen from) (row_of seen one) (row_of seen two) count (64 * x + k)
+    lacking k below under =
+        let at = λ (q w : ℕ) (le : q < length seen) (is' : w ≡ slice_index_or initial (r.width * q + x) 0). word_at q count x w le (counts q le) (rw begun at is') k below under in
+        grind (arith, bit_at_and (bit_and these those) (bit_not w64 word) k, bit_at_and these those k, bit_at_not w64 word k small below, bit_at-lt word k, bit_at-lt these k, bit_at-lt those k, lowest k, at from word lt.0 same, at one these lt.1 same1, at two those lt.2 same2)
+
+    pub lacks_here : low ≢ 0 → low < 2 ^ 64 → ((i : ℕ) → count - 64 * x ≤ i → bit_at low i ≡ 0) → (c : ℕ) × Lacks (row_of seen from) (row_of seen one) (row_of seen two) count c
+    lacks_here some fits none =
+        let k = trailing_zeros w64 low in
+        let is = bit_at-trailing_zeros w64 low (omega (arith, some)) fits in
+        (64 * x + k, (lacking k is.0 (grind (arith, is, none k))).0 is.1)
+
+    pub lacks_later : low ≡ 0 → ((c : ℕ) → c < 64 * x → Lacks (row_of seen from) (row_of seen one) (row_of seen two) count c → ⊥) → (c : ℕ) → c < 64 * (x + 1) → Lacks (row_of seen from) (row_of seen one) (row_of seen two) count c → ⊥
+    lacks_later none before c up lacks = let k = c - 64 * x in grind (arith, before c, bit_at-zero k, lacking k)

@@ -1,11 +1,6 @@
-use Rattle.sedtext.proofs.Words.{◌+◌, ◌<◌, ◌≡◌, ◌≤◌, length, slice_index_or, ℕ}
+use Rattle.sedtext.proofs.Words.{◌≡◌}
+use Rattle.sedtext.proofs.WordLemmas.{Written}
 use Rattle.sedtext.proofs.counted.rows.Rows.clear.Given as goal
 
 abbrev pub invariant-loop-x : goal.invariant-loop-x
-invariant-loop-x l = record {
-  long : length l.words.all ≡ length l.initial.words.all;
-  there : l.words.there ≡ l.initial.words.there;
-  clear : (k : ℕ) → k < l.x → slice_index_or l.words.all (l.at + k) 0 ≡ 0;
-  before : (k : ℕ) → k < l.at → slice_index_or l.words.all k 0 ≡ slice_index_or l.initial.words.all k 0;
-  rest : (k : ℕ) → l.at + l.x ≤ k → slice_index_or l.words.all k 0 ≡ slice_index_or l.initial.words.all k 0;
-}
+invariant-loop-x l = Written (λ k word. word ≡ 0) l.initial.words.all l.words.all l.at l.x × (l.words.there ≡ l.initial.words.there)
