@@ -2,7 +2,7 @@
 use Rattle.sedtext.proofs.Words.{◌%◌, ◌*◌, ◌++◌, ◌+◌, ◌-◌, ◌/◌, ◌<◌, ◌^◌, ◌∙◌, ◌≡◌, ◌≢◌, ◌≤◌, agree_below_at, ap, arith, bit_and, bit_at, bit_at-lt, bit_at-trailing_zeros, bit_at-zero, bit_at_above, bit_at_and, bit_at_or}
 use Rattle.sedtext.proofs.Words.{bit_at_set_same, bit_mask_l, bit_or, bitmask_splat, Bool, cases_lt, cond, eqb, eqb-true, FirstFrom, get_or, get_or-map, get_or-replicate, get_or-set_other, get_or-set_same, get_or-swz_l_below, get_or-take}
 use Rattle.sedtext.proofs.Words.{get_or-zip2, get_or_append_left, HasLanes, IfSome, IsIn, IsMarked, length, length-map, length-replicate, length-swz_l, length-take-le, length-zip2, List, map, MarksPlaces, mask_l, mask_l-lt, max, MemberAt}
-use Rattle.sedtext.proofs.Words.{ne_eqb, Narrowed, Matches, Tree, None, NoneBefore, not, Option, PassesSieve, refl, replicate, Sieve, slice_get_within, slice_index, slice_set, Some, swz_l, take, top, trailing_zeros, true, UPPER, w64, w8, zip2, ℕ}
+use Rattle.sedtext.proofs.Words.{ne_eqb, Narrowed, Matches, Tree, NoneBefore, not, Option, PassesSieve, refl, replicate, Sieve, slice_get_within, slice_index, slice_set, Some, swz_l, take, top, trailing_zeros, true, UPPER, w64, w8, zip2, ℕ}
 
 -- none up to a place, and marks from that place on, or from one before it
 module _ (P : ℕ → Type 0) (from q p marks : ℕ) (near : p ≤ q) (are : MarksPlaces P p marks) (before : NoneBefore P from (Some q)) where
@@ -21,17 +21,14 @@ passes_within s w i is = grind (arith, slice_get_within)
 
 -- where a match can begin, as something shows that is true of each place where one does
 pub narrowed_by : (e : Tree) (w : List ℕ) (p : ℕ) (P : ℕ → Type 0) (r : Option ℕ) → ((i k : ℕ) → Matches e w i k → P i) → NoneBefore P p r → IfSome r (λ k. k ≤ length w) → Narrowed e w p r
-narrowed_by e w p P None begins none inside = λ i k low within span. none i low (begins i k span)
-narrowed_by e w p P (Some q) begins none inside = (none.0, inside, λ i k low lt span. none.1 i low (omega arith) (begins i k span))
+narrowed_by e w p P r begins none inside = grind arith
 
 -- the first place that has a byte of the set
 pub first_member_at : (w : List ℕ) (p : ℕ) (s : List Bool) (r : Option ℕ) → FirstFrom (MemberAt s w) p r → NoneBefore (MemberAt s w) p r
-first_member_at w p s None first = first
-first_member_at w p s (Some k) first = (first.0, first.2)
+first_member_at w p s r first = grind arith
 
 pub first_lies : (w : List ℕ) (p : ℕ) (s : List Bool) (r : Option ℕ) → FirstFrom (MemberAt s w) p r → IfSome r (λ k. (p ≤ k) × (k ≤ length w))
-first_lies w p s None first = tt
-first_lies w p s (Some k) first = let inside = slice_get_within w k first.1.0 first.1.1 in (first.0, omega (arith, inside))
+first_lies w p s r first = grind (arith, slice_get_within)
 
 -- two vectors combined lane by lane, and one with the same number in each lane
 pub lanes_zip : (f : ℕ → ℕ → ℕ) (a b : List ℕ) → length a ≡ 32 → length b ≡ 32 → HasLanes (zip2 f a b) (λ k. f (get_or a k 0) (get_or b k 0))
@@ -63,14 +60,11 @@ module _ (v : List ℕ) (long : length v ≡ 32) where
   pub nonzero_lane : (k : ℕ) → k < 32 → get_or v k 0 ≢ 0 → bit_at bits_of k ≡ 1
   nonzero_lane k lt some = grind (arith, bit_mask_l, bits_are, get_or-map, ne_eqb)
 
--- the bit of an upper nibble
-upper_bit : (u : ℕ) → u < 16 → bit_at (get_or UPPER u 0) (u % 8) ≡ 1
-upper_bit u lt = eqb-true (bit_at (get_or UPPER u 0) (u % 8)) 1 (agree_below_at (λ u. eqb (bit_at (get_or UPPER u 0) (u % 8)) 1) (λ u. true) 16 u refl lt)
-
 -- a byte that is marked is so in its row and its bit together
 pub marked_lane : (rows : List ℕ) (byte row bit lane : ℕ) → byte < 256 → IsMarked rows byte → row ≡ get_or rows (byte % 16) 0 → bit ≡ get_or UPPER (byte / 16) 0 → lane ≡ bit_and row bit → lane ≢ 0
 marked_lane rows byte row bit lane small mark is_row is_bit is none =
-    let at = byte / 16 % 8 in grind (arith, upper_bit (byte / 16), mark small, bit_at_and row bit at, bit_at-zero at)
+    let upper = agree_below_at (λ u. eqb (bit_at (get_or UPPER u 0) (u % 8)) 1) (λ u. true) 16 (byte / 16) refl (omega arith) in
+    grind (arith, eqb-true, upper, mark small, bit_at_and row bit (byte / 16 % 8), bit_at-zero (byte / 16 % 8))
 
 -- the members among the first n bytes are marked
 abbrev pub AllMarked : List Bool → ℕ → List ℕ → Type 0

@@ -1,8 +1,8 @@
 -- Marks as words of 64, and the lowest bits of words.
 use Rattle.std.specs.Prelude.{min}
-use Rattle.sedtext.proofs.Words.{ap, ext_get_or, inl, inr, refl, suc, sym, zero, ◌++◌, ◌∷◌, ◌%◌, ◌&&◌, ◌*◌, ◌+◌, ◌-◌, ◌/◌, ◌<◌, ◌^◌, ◌↔◌, ◌∙◌, ◌≡◌, ◌≢◌, ◌≤◌, ◌⊎◌, [], arith, bit_and, bit_at, bit_at_not, bit_at_or, bit_not, bit_or, blended, Blend, not, ◌||◌, bit_at-lt, bit_at-trailing_zeros, bit_at-zero, bit_at_and, Bool, cases_eq, cases_lt, eqb}
+use Rattle.sedtext.proofs.Words.{common_steps, ap, ext_get_or, sym, ◌++◌, ◌∷◌, ◌%◌, ◌&&◌, ◌*◌, ◌+◌, ◌-◌, ◌/◌, ◌<◌, ◌^◌, ◌↔◌, ◌∙◌, ◌≡◌, ◌≢◌, ◌≤◌, ◌⊎◌, [], arith, bit_and, bit_at, bit_at_not, bit_at_or, bit_not, bit_or, not, ◌||◌, bit_at-lt, bit_at-trailing_zeros, bit_at-zero, bit_at_and, Bool, cases_eq, cases_lt, eqb}
 use Rattle.sedtext.proofs.Words.{eqb-true, false, get_or-map-range_with_len, get_or-replicate, get_or-set_other, get_or-set_same, get_or_default, get_or_past, Inside, is_set, IsTrue, KeepsRows, Lacks, length}
-use Rattle.sedtext.proofs.Words.{length-map-range_with_len, length-replicate, length-set, List, mul-le-mul_left, padded, replicate, row_at, row_of, rows_of, same_lists, slice_index_or, slice_set, tabulated, trailing_zeros, w64, ℕ}
+use Rattle.sedtext.proofs.Words.{length-map-range_with_len, length-replicate, length-set, List, mul-le-mul_left, padded, replicate, row_at, row_of, rows_of, slice_index_or, slice_set, tabulated, trailing_zeros, w64, ℕ}
 
 -- the bit of a number
 pub set_at : (words : List ℕ) (c x k : ℕ) → c ≡ 64 * x + k → k < 64 → is_set words c ≡ eqb (bit_at (slice_index_or words x 0) k) 1
@@ -41,14 +41,6 @@ either_bits a b k = grind (arith, bit_at_or a b k, bit_at-lt a k, bit_at-lt b k)
 pub other_bits : (a b k : ℕ) → b < 2 ^ 64 → k < 64 → eqb (bit_at (bit_and a (bit_not w64 b)) k) 1 ≡ (eqb (bit_at a k) 1 && not (eqb (bit_at b k) 1))
 other_bits a b k small low = grind (arith, bit_at_and a (bit_not w64 b) k, bit_at_not w64 b k small low, bit_at-lt a k, bit_at-lt b k)
 
--- one bit is written
-pub bit_put : (words : List ℕ) (c x b old word : ℕ) (v : Bool) → c ≡ 64 * x + b → x < length words → b < 64 → old ≡ slice_index_or words x 0 → eqb (bit_at word b) 1 ≡ v →
-    ((i : ℕ) → i < 64 → i ≢ b → bit_at word i ≡ bit_at old i) →
-    (is_set (slice_set words x word) c ≡ v) × ((k : ℕ) → k ≢ c → is_set (slice_set words x word) k ≡ is_set words k)
-bit_put words c x b old word v at inside small is same other =
-    let bit = λ (k : ℕ) (ws : List ℕ). set_at ws k (k / 64) (k % 64) (omega arith) (omega arith) in
-    grind (arith, get_or-set_same, get_or-set_other, bit, set_at (slice_set words x word) c x b)
-
 length-table : {X : Type 0} → (f : ℕ → X) (n : ℕ) → length (tabulated f n) ≡ n
 unfolding tabulated
 length-table f n = length-map-range_with_len f 0 n
@@ -59,7 +51,7 @@ table-get f n i d lt = get_or-map-range_with_len f 0 n i i d lt (omega arith)
 
 -- the list that has these values
 table-is : (f : ℕ → Bool) (n : ℕ) (xs : List Bool) → length xs ≡ n → ((k : ℕ) → k < n → f k ≡ slice_index_or xs k false) → tabulated f n ≡ xs
-table-is f n xs long same = grind (arith, get_or_default, length-table, same_lists, table-get)
+table-is f n xs long same = grind (arith, ext_get_or false, length-table, table-get)
 
 table-set : (f g : ℕ → Bool) (n i : ℕ) (v : Bool) → i < n → g i ≡ v → ((k : ℕ) → k < n → k ≢ i → g k ≡ f k) → tabulated g n ≡ slice_set (tabulated f n) i v
 table-set f g n i v lt here other = table-is g n _ (simp (length-set, length-table)) (λ k low. grind (arith, other k low, cases_eq k i, length-table, get_or-set_same, get_or-set_other, table-get))
@@ -75,20 +67,14 @@ length-padded words n = length-table _ n
 
 pub padded-get : (words : List ℕ) (n i : ℕ) → length words ≤ n → slice_index_or (padded words n) i 0 ≡ slice_index_or words i 0
 unfolding padded
-padded-get words n i few = elim (cases_lt i n) [
-  | inl lt ↦ table-get _ n i 0 lt
-  | inr past ↦ get_or_past _ i 0 (omega (arith, past, length-table (λ k. slice_index_or words k 0) n)) ∙ sym (get_or_past words i 0 (omega (arith, past, few)))
-]
+padded-get words n i few = grind (arith, cases_lt i n, get_or_past, length-table, table-get)
 
 padded-is : (words more : List ℕ) (n : ℕ) → length words ≤ n → length more ≡ n → ((k : ℕ) → k < n → slice_index_or words k 0 ≡ slice_index_or more k 0) → padded words n ≡ more
 padded-is words more n few long same = ext_get_or 0 _ _ (length-padded words n ∙ sym long) (λ k lt. padded-get words n k few ∙ same k (omega (arith, lt, length-padded words n)))
 
 -- a 0 more
 pub zero_more : (words : List ℕ) (k : ℕ) → slice_index_or (words ++ (0 ∷ [])) k 0 ≡ slice_index_or words k 0
-zero_more [] zero = refl
-zero_more [] (suc k) = refl
-zero_more (word ∷ rest) zero = refl
-zero_more (word ∷ rest) (suc k) = zero_more rest k
+zero_more words k = grind (arith, common_steps, get_or_past, cases_lt k (length words))
 
 pub padded-none : (n : ℕ) → padded [] n ≡ replicate n 0
 padded-none n = padded-is [] (replicate n 0) n (omega arith) (length-replicate n 0) (λ k lt. sym (get_or-replicate n k 0 0 lt))
@@ -98,10 +84,7 @@ padded-same words more n few few' same = padded-is words (padded more n) n few (
 
 pub padded-set : (words : List ℕ) (n i word : ℕ) → length words ≤ n → i < length words → padded (slice_set words i word) n ≡ slice_set (padded words n) i word
 padded-set words n i word few lt =
-    padded-is (slice_set words i word) (slice_set (padded words n) i word) n (omega (arith, few, length-set words i word)) (length-set (padded words n) i word ∙ length-padded words n) (λ k low. elim (cases_eq k i) [
-      | inl e ↦ rw e (get_or-set_same words i word 0 lt ∙ sym (get_or-set_same (padded words n) i word 0 (omega (arith, lt, few, length-padded words n))))
-      | inr ne ↦ get_or-set_other words i k word 0 ne ∙ sym (padded-get words n k few) ∙ sym (get_or-set_other (padded words n) i k word 0 ne)
-    ])
+    padded-is (slice_set words i word) (slice_set (padded words n) i word) n (simp length-set few) (simp (length-set, length-padded)) (λ k low. grind (arith, cases_eq k i, get_or-set_same, get_or-set_other, length-padded, padded-get))
 
 -- a mark of a row
 pub length-rows_of : (words : List ℕ) (width marks n : ℕ) → length (rows_of words width marks n) ≡ n
@@ -114,7 +97,7 @@ rows_of-get words width marks n q lt = table-get (row_at words width marks) n q 
 
 pub length-row : (words : List ℕ) (width marks n q : ℕ) → q < n → length (row_of (rows_of words width marks n) q) ≡ marks
 unfolding row_at
-length-row words width marks n q lt = rw rows_of-get (length-table _ marks)
+length-row words width marks n q lt = simp (rows_of-get, length-table)
 
 -- a row of no marks
 pub row_clear : (words : List ℕ) (width n : ℕ) → n ≤ 64 * width → words ≡ replicate width 0 → row_of (rows_of words width n 1) 0 ≡ replicate n false
@@ -126,7 +109,9 @@ row_at-set : (words : List ℕ) (width marks q i old word : ℕ) (v : Bool) → 
     eqb (bit_at word (i % 64)) 1 ≡ v → ((b : ℕ) → b < 64 → b ≢ i % 64 → bit_at word b ≡ bit_at old b) →
     row_at (slice_set words (width * q + i / 64) word) width marks q ≡ slice_set (row_at words width marks q) i v
 unfolding row_at
-row_at-set words width marks q i old word v lt inside is same other = grind (arith, bit_put, table-set)
+row_at-set words width marks q i old word v lt inside is same other =
+    let bit = λ (k : ℕ) (ws : List ℕ). set_at ws k (k / 64) (k % 64) (omega arith) (omega arith) in
+    grind (arith, get_or-set_same, get_or-set_other, bit, set_at (slice_set words (width * q + i / 64) word) (64 * (width * q) + i) (width * q + i / 64) (i % 64), table-set)
 
 -- the same words, wherever they are, have the same marks
 pub marked_same : (words other : List ℕ) (base from i : ℕ) → slice_index_or words (base + i / 64) 0 ≡ slice_index_or other (from + i / 64) 0 → is_set words (64 * base + i) ≡ is_set other (64 * from + i)
