@@ -142,7 +142,8 @@ groups_after-is (either_of a b) w i j old s = grind (arith, nat_tests, cond_both
 groups_after-is (grouped k a) w i j old s = grind (arith, groups_after-is a w i j (forget (grouped k a) old) s)
 groups_after-is (any_copies a first) w i j old s =
     let c = last_start j (spans a w) i j in
-    grind (arith, and_from, and_parts, cond_both, ltb-true, nat_tests, spans-iff, CopiesLead-forward (Matches a w) j i s, last_start-is (spans a w) (Matches a w) (spans-iff a w) j i j, LastCopy-copy, groups_after-is a w c j (forget a old), groups_after-is a w i i (forget a old))
+    let last = last_start-is (spans a w) (Matches a w) (spans-iff a w) j i j in
+    grind (arith, and_from, and_parts, cond_both, ltb-true, nat_tests, spans-iff, CopiesLead-forward (Matches a w) j i s, last, LastCopy-copy, groups_after-is a w c j (forget a old), groups_after-is a w i i (forget a old))
 groups_after-is (one_or_none a first) w i j old s =
     grind (arith, and_from, and_parts, cond_both, ltb-true, nat_tests, spans-iff, Matches-forward (one_or_none a first) w i j s, groups_after-is a w i j (forget a old), groups_after-is a w i i (forget a old))
 groups_after-is _ w i j old s = refl

@@ -218,8 +218,8 @@ module _ (r : Inside) (seen : List (List Bool)) (is : rows_of r.words.all r.widt
       rw (new_bit words p c lt (omega arith), had one lt1, had two lt2, had three lt3, bit words p, bit r.words.all one, bit r.words.all two, bit r.words.all three) each
 
   -- marks of a word that isn't set there
-  pub none_more : (q count x from least word : ℕ) → q < length seen → count ≤ length (row_of seen q) → word ≡ slice_index_or r.words.all (r.width * q + x) 0 → ((i : ℕ) → from ≤ i → i < least → bit_at word i ≡ 0) → least ≤ 64 →
-      (c : ℕ) → 64 * x + from ≤ c → c < 64 * x + least → c < count → slice_index_or (row_of seen q) c false ≡ false
+  pub none_more : (q count x from least word : ℕ) → q < length seen → count ≤ length (row_of seen q) → word ≡ slice_index_or r.words.all (r.width * q + x) 0 →
+      ((i : ℕ) → from ≤ i → i < least → bit_at word i ≡ 0) → least ≤ 64 → (c : ℕ) → 64 * x + from ≤ c → c < 64 * x + least → c < count → slice_index_or (row_of seen q) c false ≡ false
   none_more q count x from least word lt low read none few c from' to under = let k = c - 64 * x in grind (arith, word_at q count x word lt low read k, none k)
 
   -- the lowest bits that words of two rows have in common and that of a first one hasn't
@@ -229,7 +229,7 @@ module _ (r : Inside) (seen : List (List Bool)) (is : rows_of r.words.all r.widt
     lacking : (k : ℕ) → k < 64 → 64 * x + k < count → (bit_at low k ≡ 1) ↔ Lacks (row_of seen from) (row_of seen one) (row_of seen two) count (64 * x + k)
     lacking k below under =
         let at = λ (q w : ℕ) (le : q < length seen) (is' : w ≡ slice_index_or initial (r.width * q + x) 0). word_at q count x w le (counts q le) (rw begun at is') k below under in
-        grind (arith, bit_at_and (bit_and these those) (bit_not w64 word) k, bit_at_and these those k, bit_at_not w64 word k small below, bit_at-lt word k, bit_at-lt these k, bit_at-lt those k, lowest k, at from word lt.0 same, at one these lt.1 same1, at two those lt.2 same2)
+        grind (arith, bit_at_and, bit_at_not w64 word k small below, bit_at-lt, lowest k, at from word lt.0 same, at one these lt.1 same1, at two those lt.2 same2)
 
     pub lacks_here : low ≢ 0 → low < 2 ^ 64 → ((i : ℕ) → count - 64 * x ≤ i → bit_at low i ≡ 0) → (c : ℕ) × Lacks (row_of seen from) (row_of seen one) (row_of seen two) count c
     lacks_here some fits none =
