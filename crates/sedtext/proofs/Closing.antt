@@ -10,7 +10,8 @@ pub use Rattle.sedtext.proofs.MatchingLemmas.{groups_after-iff, not_found-iff, s
 pub use Rattle.sedtext.proofs.RunLemmas.{run_ends}
 pub use Rattle.sedtext.proofs.SieveLemmas.{AllMarked, first_marked, lanes_looked_up, lanes_with, lanes_zip, marked_lane, marked_more, none_marked, nonzero_few, nonzero_lane, narrowed_by, first_lies, later_marks, passes_within}
 pub use Rattle.sedtext.proofs.SpanLemmas.{CopiesLead-append}
-pub use Rattle.sedtext.proofs.WordLemmas.{length-row, length-rows_of, mark_keeps, mark_read, mark_written, marked_same, Meet, meet_here, meet_later, new_bit, row_bit, row_clear, row_there, row_written, word_at, zero_unmarked}
+pub use Rattle.sedtext.proofs.WordLemmas.{either_bits, other_bits, padded-get, padded-set, padded-none, padded-same, zero_more, length-padded, length-row, length-rows_of, mark_keeps, mark_read, mark_written, marked_same, Meet, meet_here, meet_later, new_bit, row_bit, row_clear, row_there, row_written, word_at, zero_unmarked}
+pub use Rattle.sedtext.proofs.Words.{get_or_past}
 pub use Rattle.sedtext.proofs.NodeLemmas.{total_size}
 
-pub ruleset closing = (and_le_l, bit_at_and, CopiesLead-append, repeated_before, all_gathered, branches_last, byte_leads, Captures-unique, get_or_default, groups_after-iff, length-row, length-rows_of, length-set, mark_read, mark_written, mark_keeps, marked_more, marked_same, new_bit, no_copy, not_found-iff, one_longer, row_bit, row_clear, row_there, run_leads, slice_get-get_or, some_found-iff, spans-iff, times_here, zero_unmarked)
+pub ruleset closing = (narrowed_by, first_lies, required_none, and_le_l, bit_at_and, either_bits, other_bits, padded-get, padded-set, padded-none, padded-same, zero_more, length-padded, get_or_past, CopiesLead-append, repeated_before, all_gathered, branches_last, byte_leads, Captures-unique, get_or_default, groups_after-iff, length-row, length-rows_of, length-set, mark_read, mark_written, mark_keeps, marked_more, marked_same, new_bit, no_copy, not_found-iff, one_longer, row_bit, row_clear, row_there, run_leads, slice_get-get_or, some_found-iff, spans-iff, times_here, zero_unmarked)

@@ -1,7 +1,7 @@
 -- Bytes of a set that are sought in what is left of a text.
-use Rattle.sedtext.proofs.Words.{◌+◌, ◌-◌, ◌<◌, ◌||◌, ◌↔◌, ◌∙◌, ◌≡◌, ◌≤◌, ap, AreMembers, arith, Bool, common_steps, drop, Few, FirstFrom, FirstFrom, OccursAt, get_or-drop}
+use Rattle.sedtext.proofs.Words.{◌+◌, ◌-◌, ◌<◌, ◌||◌, ◌↔◌, ◌≡◌, ◌≤◌, AreMembers, arith, Bool, common_steps, drop, Few, FirstFrom, FirstFrom, OccursAt, get_or-drop}
 use Rattle.sedtext.proofs.Words.{get_or_from_slice_get, get_or_past, has, HasFew, IfSome, is_byte, IsFirst, IsFirstByte, IsIn, length, length-drop, length-set_of, List, MemberAt}
-use Rattle.sedtext.proofs.Words.{nat_tests, None, OccursAt, Option, option_map, Passes, slice_get, slice_get-get_or, slice_get_within, slice_index, Some, sym, take, take_rest, union, ℕ}
+use Rattle.sedtext.proofs.Words.{nat_tests, None, OccursAt, Option, option_map, Passes, slice_get, slice_get-get_or, slice_get_within, slice_index, Some, take, take_rest, union, ℕ}
 
 -- the first place of what is left of a text, as one of the text
 first_behind : (P Q : ℕ → Type 0) (p n : ℕ) → ((k : ℕ) → P (p + k) ↔ ((k < n) × Q k)) → (r : Option ℕ) → IsFirst Q 0 n r → FirstFrom P p (option_map (λ k. p + k) r)
@@ -22,11 +22,7 @@ module _ (w v : List ℕ) (p : ℕ) (same : v ≡ w) (from : p ≤ length w) whe
   byte_behind byte r = first_behind _ (Passes (is_byte byte) rest) p (length rest) (λ k. grind (arith, length-rest, slice_get-get_or, slice_get_within, get_or_from_slice_get, rest_at, nat_tests)) r
 
   pub member_behind : (set : List Bool) (r : Option ℕ) → IsFirstByte (has set) rest r → FirstFrom (MemberAt set w) p (option_map (λ k. p + k) r)
-  member_behind set r =
-      first_behind (MemberAt set w) (Passes (has set) rest) p (length rest) (λ k. (
-        λ at. grind (arith, length-rest, slice_get_within, get_or_from_slice_get, rest_at),
-        λ h. (_, slice_get-get_or w (p + k) 0 (omega (arith, length-rest, h.0)), ap (has set) (sym (rest_at k)) ∙ h.1),
-      )) r
+  member_behind set r = first_behind (MemberAt set w) (Passes (has set) rest) p (length rest) (λ k. grind (arith, length-rest, slice_get_within, get_or_from_slice_get, slice_get-get_or, rest_at)) r
 
   pub literal_behind : (literal : List ℕ) (r : Option ℕ) → IsFirst (OccursAt rest literal) 0 (length rest + 1) r → FirstFrom (OccursAt w literal) p (option_map (λ k. p + k) r)
   literal_behind literal r = first_behind (OccursAt w literal) (OccursAt rest literal) p (length rest + 1) (λ k. grind (arith, common_steps, length-rest, rest_at)) r

@@ -1,6 +1,6 @@
 -- An expression without groups leaves all groups as they are.
 use Rattle.sedtext.proofs.Words.{◌<◌, ◌≡◌, any_copies, arith, Captures, either_of, forget, grouped, groups_after, IsExpr, length, List, Matches}
-use Rattle.sedtext.proofs.Words.{Node, one_or_none, sequence, slice_get_within, SpansOfGroups, subst, suc, Tree, tree_at, tree_at-node, zero, ℕ}
+use Rattle.sedtext.proofs.Words.{Node, one_or_none, sequence, slice_get_within, SpansOfGroups, suc, Tree, tree_at, tree_at-node, zero, ℕ}
 use Rattle.sedtext.proofs.NodeLemmas.{node_at, parts_below}
 use Rattle.sedtext.proofs.MatchingLemmas.{groups_after-is}
 
@@ -29,7 +29,7 @@ groups_after-none (one_or_none a first) none w i j g = grind (arith, forget-none
 groups_after-none _ none w i j g = grind arith
 
 pub Captures-none : (e : Tree) → NoGroups e → (w : List ℕ) (i j : ℕ) (g : SpansOfGroups) → Matches e w i j → Captures e w i j g g
-Captures-none e none w i j g s = subst (λ h. Captures e w i j g h) (groups_after-none e none w i j g) (groups_after-is e w i j g s)
+Captures-none e none w i j g s = grind (arith, groups_after-none e none w i j g, groups_after-is e w i j g s)
 
 module _ (nodes : List Node) (groups : ℕ) (expr : IsExpr nodes groups) (few : groups ≡ 0) where
   none_below : (n x : ℕ) → x < n → x < length nodes → NoGroups (tree_at nodes x)

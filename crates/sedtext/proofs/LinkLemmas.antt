@@ -43,10 +43,6 @@ total_join : (nodes : List Node) (xs ys : List ℕ) → total_size nodes (xs ++ 
 total_join nodes [] ys = omega arith
 total_join nodes (x ∷ xs) ys = omega (arith, total_join nodes xs ys)
 
--- a link leads on, within the text
-link_forward : (nodes : List Node) (w : List ℕ) (l : Link) (i j : ℕ) → LinkLeads nodes w l i j → i ≤ j
-link_forward nodes w l i j at = grind (arith, CopiesLead-forward, Matches-forward)
-
 link_within : (nodes : List Node) (w : List ℕ) (l : Link) (i j : ℕ) → i ≤ length w → LinkLeads nodes w l i j → j ≤ length w
 link_within nodes w (Run s) i j within at = Matches-within (any_copies (byte_of s) false) w i j within at
 link_within nodes w l i j within at = grind (arith, slice_get_within, Matches-within)
@@ -54,9 +50,8 @@ link_within nodes w l i j within at = grind (arith, slice_get_within, Matches-wi
 -- where a chain leads from a place, its links from some one on do from there or later
 pub chain_on : (nodes : List Node) (w : List ℕ) (q : ℕ) (links : List Link) (i j : ℕ) → i ≤ length w → ChainLeads nodes w links i j →
     (k : ℕ) × (i ≤ k) × (k ≤ length w) × ChainLeads nodes w (drop q links) k j
-chain_on nodes w zero links i j within at = (i, omega arith, within, at)
-chain_on nodes w (suc q) [] i j within at = (i, omega arith, within, at)
-chain_on nodes w (suc q) (l ∷ ls) i j within at = grind (arith, link_forward, link_within, chain_on nodes w q ls at.0 j (link_within nodes w l i at.0 within at.1) at.2)
+chain_on nodes w (suc q) (l ∷ ls) i j within at = grind (arith, CopiesLead-forward, Matches-forward, link_within, chain_on nodes w q ls at.0 j (link_within nodes w l i at.0 within at.1) at.2)
+chain_on nodes w q links i j within at = (i, omega arith, within, at)
 
 -- what a node spans that is a link
 module _ (nodes : List Node) (arena : IsArena nodes) (x : ℕ) where

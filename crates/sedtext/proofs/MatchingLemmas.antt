@@ -1,5 +1,5 @@
 -- The computed match is the one that the relations describe.
-use Rattle.sedtext.proofs.Words.{◌&&◌, ◌+◌, ◌-◌, ◌<◌, ◌||◌, ◌↔◌, ◌≡◌, ◌≤◌, ◌⊎◌, and_from, and_parts, any, any_copies, arith, Bool, byte_of, Captures, cases_lt, cond, cond_both, copies, CopiesLead, Decides-and}
+use Rattle.sedtext.proofs.Words.{◌&&◌, ◌+◌, ◌-◌, ◌<◌, ◌||◌, ◌↔◌, ◌≡◌, ◌≤◌, ◌⊎◌, and_from, and_parts, any, any_copies, arith, Bool, byte_of, Captures, cases_lt, cond_both, copies, CopiesLead, Decides-and}
 use Rattle.sedtext.proofs.Words.{Decides-below_or, Decides-eqb, Decides-or, either_of, eqb, first_copy, forget, found_from, greatest, greatest_cut, grouped, groups_after, is_some, IsLeftmostLongest, IsLongestFrom}
 use Rattle.sedtext.proofs.Words.{IsReport, IsTrue, last_start, LastCopy, LastCut, leftmost_longest, length, List, longest, ltb, ltb-true, Matches, nat_tests, no_copy, no_groups, None, none-some, NotFound, one_more}
 use Rattle.sedtext.proofs.Words.{one_or_none, only, Option, option_map, refl, reported_groups, same_from_decides, sequence, slice_get_within, Some, SomeFound, spans, SpansOfGroups, subst, suc, sym, then_copy, Tree, unwrap_or, zero, ℕ, ⊎_elim}
@@ -24,7 +24,7 @@ GreatestBelow P n (Some l) = (l < n) × P l × ((k : ℕ) → k < n → P k → 
 
 greatest-is : (test : ℕ → Bool) (P : ℕ → Type 0) → ((k : ℕ) → IsTrue (test k) ↔ P k) → (n : ℕ) → GreatestBelow P n (greatest test n)
 unfolding greatest
-greatest-is test P each zero = λ k lt h. absurd (omega arith)
+greatest-is test P each zero = λ k lt h. omega arith
 greatest-is test P each (suc n) = grind (arith, each n, greatest-is test P each n)
 
 module _ (step : ℕ → ℕ → Bool) (R : ℕ → ℕ → Type 0) (each : (i k : ℕ) → IsTrue (step i k) ↔ R i k) where
@@ -43,8 +43,7 @@ module _ (step : ℕ → ℕ → Bool) (R : ℕ → ℕ → Type 0) (each : (i k
   copies-iff zero i j few = grind (arith, nat_tests, no_copy, CopiesLead-forward R j i)
   copies-iff (suc n) i j few =
       let each_copy = λ (k : ℕ). copy-is (copies n step k j) (CopiesLead R j k) i k (λ up. copies-iff n k j (omega arith)) in
-      let is = Decides-or (eqb i j) _ (Decides-eqb i j) (any-is _ (λ k. (i < k) × (R i k × CopiesLead R j k)) each_copy (j + 1)) in
-      (λ h. (copies-begin j i).1 (is.0 h), λ at. is.1 ((copies-begin j i).0 at))
+      grind (arith, copies-begin j i, Decides-or (eqb i j) _ (Decides-eqb i j) (any-is _ (λ k. (i < k) × (R i k × CopiesLead R j k)) each_copy (j + 1)))
 
   copies-all : (j k : ℕ) → IsTrue (copies j step k j) ↔ CopiesLead R j k
   copies-all j k = copies-iff j k j (omega arith)
@@ -89,7 +88,7 @@ answer-step : (e : Tree) (w : List ℕ) (p : ℕ) (best : Option ℕ) (rest : Op
 answer-step e w p best rest none later = grind arith
 
 found_from-is : (e : Tree) (w : List ℕ) (n p : ℕ) → p + n ≡ length w + 1 → IsAnswer e w p (found_from e w n p)
-unfolding found_from
+unfolding found_from longest
 found_from-is e w zero p all = λ i k from fits s. omega arith
 found_from-is e w (suc n) p all = grind (arith, answer-step, longest-is, found_from-is e w n (p + 1) (omega arith))
 
@@ -135,13 +134,6 @@ pub LastCopy-copy : (R : ℕ → ℕ → Type 0) (j i c : ℕ) → LastCopy R j 
 LastCopy-copy R j i c (only _ lt r) = r
 LastCopy-copy R j i c (then_copy _ k _ up low r rest most last) = LastCopy-copy R j k c last
 
--- copies of which the groups are g, or one of the null string, or none
-copied : (a : Tree) (first : Bool) (w : List ℕ) (i j : ℕ) (old g : SpansOfGroups) (T : SpansOfGroups → Type 0) → i ≤ j → (i < j → T g) →
-    (Matches a w i i → Captures a w i i (forget a old) (groups_after a w i i (forget a old))) →
-    let new = cond (ltb i j) g (cond (first && spans a w i i) (groups_after a w i i (forget a old)) old) in
-    ((i < j) × T new) ⊎ (((i ≡ j) × IsTrue first × Matches a w i i × Captures a w i i (forget a old) new) ⊎ ((i ≡ j) × ((IsTrue first → Matches a w i i → ⊥) × (new ≡ old))))
-copied a first w i j old g T on some inner = grind (arith, and_from, and_parts, cond_both, ltb-true, nat_tests, spans-iff)
-
 pub groups_after-is : (e : Tree) (w : List ℕ) (i j : ℕ) (old : SpansOfGroups) → Matches e w i j → Captures e w i j old (groups_after e w i j old)
 unfolding groups_after
 groups_after-is (sequence a b) w i j old s =
@@ -150,13 +142,10 @@ groups_after-is (either_of a b) w i j old s = grind (arith, nat_tests, cond_both
 groups_after-is (grouped k a) w i j old s = grind (arith, groups_after-is a w i j (forget (grouped k a) old) s)
 groups_after-is (any_copies a first) w i j old s =
     let c = last_start j (spans a w) i j in
-    copied a first w i j old (groups_after a w c j (forget a old)) (λ new. (c : ℕ) × LastCopy (Matches a w) j i c × Captures a w c j (forget a old) new) (CopiesLead-forward (Matches a w) j i s)
-    (λ lt. grind (arith, last_start-is (spans a w) (Matches a w) (spans-iff a w) j i j lt (omega arith) s, LastCopy-copy, groups_after-is a w c j (forget a old)))
-    (groups_after-is a w i i (forget a old))
+    let last = last_start-is (spans a w) (Matches a w) (spans-iff a w) j i j in
+    grind (arith, and_from, and_parts, cond_both, ltb-true, nat_tests, spans-iff, CopiesLead-forward (Matches a w) j i s, last, LastCopy-copy, groups_after-is a w c j (forget a old), groups_after-is a w i i (forget a old))
 groups_after-is (one_or_none a first) w i j old s =
-    copied a first w i j old (groups_after a w i j (forget a old)) (Captures a w i j (forget a old)) (Matches-forward (one_or_none a first) w i j s)
-    (λ lt. grind (arith, groups_after-is a w i j (forget a old)))
-    (groups_after-is a w i i (forget a old))
+    grind (arith, and_from, and_parts, cond_both, ltb-true, nat_tests, spans-iff, Matches-forward (one_or_none a first) w i j s, groups_after-is a w i j (forget a old), groups_after-is a w i i (forget a old))
 groups_after-is _ w i j old s = refl
 
 pub groups_after-iff : (e : Tree) (w : List ℕ) (i j : ℕ) (old new : SpansOfGroups) → Matches e w i j → (new ≡ groups_after e w i j old) ↔ Captures e w i j old new

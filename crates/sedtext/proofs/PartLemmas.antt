@@ -22,9 +22,7 @@ pub Captures-lie : (n : ℕ) (e : Tree) (w : List ℕ) (i j : ℕ) (old new : Sp
 Captures-lie n (sequence a b) w i j old new up high h lie = grind (arith, Matches-forward, Captures-lie n a w i h.0 old h.2.0, Captures-lie n b w h.0 j h.2.0 new)
 Captures-lie n (either_of a b) w i j old new up high h lie = grind (arith, Captures-lie n a w i j old new, Captures-lie n b w i j old new)
 Captures-lie n (grouped k a) w i j old new up high h lie = grind (arith, Lie-set n h.0 k (Some (i, j)), Captures-lie n a w i j (forget (grouped k a) old) h.0, Lie-forget n (grouped k a) old lie)
-Captures-lie n (any_copies a first) w i j old new up high h lie =
-    let on = λ (c d : ℕ) (le : c ≤ d) (ends : d ≤ n) (s : Captures a w c d (forget a old) new). Captures-lie n a w c d (forget a old) new le ends s (Lie-forget n a old lie) in
-    grind (arith, on, Matches-forward a w, LastCopy-copy)
+Captures-lie n (any_copies a first) w i j old new up high h lie = grind (arith, Captures-lie n a w, Lie-forget n a old lie, Matches-forward a w, LastCopy-copy)
 Captures-lie n (one_or_none a first) w i j old new up high h lie = grind (arith, Lie-forget n a old lie, Captures-lie n a w i j (forget a old) new, Captures-lie n a w i i (forget a old) new)
 Captures-lie n _ w i j old new up high h lie = grind arith
 

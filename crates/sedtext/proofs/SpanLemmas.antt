@@ -3,7 +3,7 @@ use Rattle.sedtext.proofs.Words.{◌<◌, ◌≡◌, ◌≤◌, ◌⊎◌, any_c
 
 pub CopiesLead-forward : (R : ℕ → ℕ → Type 0) (j i : ℕ) → CopiesLead R j i → i ≤ j
 CopiesLead-forward R j i no_copy = omega arith
-CopiesLead-forward R j i (one_more _ k lt r rest) = let on = CopiesLead-forward R j k rest in omega arith
+CopiesLead-forward R j i (one_more _ k lt r rest) = omega (arith, CopiesLead-forward R j k rest)
 
 pub Matches-forward : (e : Tree) (w : List ℕ) (i j : ℕ) → Matches e w i j → i ≤ j
 Matches-forward (sequence a b) w i j s = omega (arith, Matches-forward a w i s.0 s.1, Matches-forward b w s.0 j s.2)

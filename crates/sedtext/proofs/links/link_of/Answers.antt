@@ -12,7 +12,6 @@ returns-in-End-clause-leads c = at_node c.args.expr.now.nodes c.requires.arena c
 
 pub returns-in-Alt : goal.returns-in-Alt
 returns-in-Alt c =
-    let inside = part_inside c.args.expr.now.nodes c.requires.arena c.args.index (Alt c.in-Alt.left c.in-Alt.right) in record {
-      leads = rw (c.index.ensures, c.index-in-Alt.ensures) (at_node c.args.expr.now.nodes c.requires.arena c.args.index (Alt c.in-Alt.left c.in-Alt.right) (cc));
-      within = rw (c.index.ensures, c.index-in-Alt.ensures) (inside c.in-Alt.left.index (cc) (inl refl), inside c.in-Alt.right.index (cc) (inr refl));
-    }
+    let node = Alt c.in-Alt.left c.in-Alt.right in
+    let inside = part_inside c.args.expr.now.nodes c.requires.arena c.args.index node in
+    rw (c.index.ensures, c.index-in-Alt.ensures) (record { leads = at_node _ c.requires.arena c.args.index node (cc); within = (inside c.in-Alt.left.index (cc) (inl refl), inside c.in-Alt.right.index (cc) (inr refl)) })

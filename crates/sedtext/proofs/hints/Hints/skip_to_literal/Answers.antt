@@ -1,8 +1,5 @@
-use Rattle.sedtext.proofs.Closing.{required_first, required_none}
+use Rattle.sedtext.proofs.Closing.{required_first}
 use Rattle.sedtext.proofs.hints.Hints.skip_to_literal.Goals as goal
-
-pub returns-in_err-place-in-Some-clause-narrowed : goal.returns-in_err-place-in-Some-clause-narrowed
-returns-in_err-place-in-Some-clause-narrowed c e hints = required_none e _ _ c.in-Some.required _ c.in-Some.is hints.required _ (cc) c.in_err-place-in-Some.ensures.first
 
 pub returns-then-required-clause-narrowed : goal.returns-then-required-clause-narrowed
 returns-then-required-clause-narrowed c e hints = required_first e _ _ c.in-Some.required _ c.in-Some.is hints.required _ c.if-required.true c.in_ok-place-in-Some.ensures.first

@@ -1,11 +1,7 @@
-use Rattle.sedtext.proofs.Words.{◌+◌, ◌<◌, ◌≡◌, ◌≤◌, bit_at, blended, eqb, length, slice_index_or, ℕ}
+use Rattle.sedtext.proofs.Words.{◌≡◌}
+use Rattle.sedtext.proofs.WordLemmas.{Blended, Written}
 use Rattle.sedtext.proofs.counted.rows.Rows.blend.Given as goal
 
 abbrev pub invariant-loop-x : goal.invariant-loop-x
-invariant-loop-x l = record {
-  long : length l.words.all ≡ length l.initial.words.all;
-  there : l.words.there ≡ l.initial.words.there;
-  met : (k : ℕ) → k < l.x → (i : ℕ) → i < 64 → eqb (bit_at (slice_index_or l.words.all (l.to + k) 0) i) 1 ≡ blended l.how (eqb (bit_at (slice_index_or l.initial.words.all (l.first + k) 0) i) 1) (eqb (bit_at (slice_index_or l.initial.words.all (l.second + k) 0) i) 1);
-  before : (k : ℕ) → k < l.to → slice_index_or l.words.all k 0 ≡ slice_index_or l.initial.words.all k 0;
-  rest : (k : ℕ) → l.to + l.x ≤ k → slice_index_or l.words.all k 0 ≡ slice_index_or l.initial.words.all k 0;
-}
+invariant-loop-x l =
+    Written (Blended l.how l.initial.words.all l.first l.second) l.initial.words.all l.words.all l.to l.x × (l.words.there ≡ l.initial.words.there)
