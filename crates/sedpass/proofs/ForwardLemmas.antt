@@ -1,7 +1,7 @@
 -- Passes for the whole expression.
 use Rattle.sedpass.proofs.Words.{IsExpr, rules, inl, inr, ◌≡◌, ℕ, ◌+◌, ◌-◌, ◌*◌, ◌/◌, ◌^◌, ◌<◌, ◌≤◌, ◌⊎◌, ◌↔◌, Bool, true, false, List, length, Option, Some, None, IsTrue, refl, sym, subst, true≢false, arith, mul-le-mul_left, slice_get, is_some, IfSome, mul-sub, common_steps, then_some, option_or, cases_lt, cases_Bool, both_ways, slice_get_within, IsArena, expression_tree, Tree, Node, Starts, TakesAtLeast, LooksPast, HasSpan, IsStart, SomeSpan, IsLongestFrom, Matches, SomeFound, Matches-forward, Matches-within, IsPlace, StateFlags, PlaceKind, WrittenExpression, Way, Table, Passed, seen-arena, seen-length, least_less, least_since, least_both, cases_eq, nodes_of, at_begin, at_edge, root_of, PassState, state_of, FlagsShow, LeadsOn, BeginsIn, NamesState, IsTable, IsForwardOne, SameShape, code_of, starts_of, LastBelow, IsPassEnd, Arrives, EndsBelow, PassIs, is_over, ◌∙◌}
 use Rattle.sedpass.proofs.RowLemmas.{dead, row_root, row_empty}
-use Rattle.sedpass.proofs.TableLemmas.{leads_place, names_state, names_flags, names_shown, names_map}
+use Rattle.sedpass.proofs.TableLemmas.{leads_place, names_state, names_flags, names_map}
 
 -- The starts of a pass.
 
@@ -51,7 +51,7 @@ module _ (p : WrittenExpression) (t : Table) (w : List ℕ) (start place code o 
       let inside : root_of p < length (nodes_of t.way p) = omega (arith, table.expr.arena.nonempty, seen-length t.way.mirrored p) in
       all_below _ w _ _ _ _ noted (λ k late some. dead _ w here.root place some.0 k _ arena (rw arrived.0 inside) none some.1 (omega (arith, (rw single at some.1).1)) (omega arith) (rw arrived.0 some.2))
 
-  pub arrive_at : (noted : Option ℕ) (over : Bool) → noted ≡ option_or (then_some flags.ends place) end → over ≡ is_over t.way.all_starts flags → PassIs p t w start (record { offset = o; place = place; end = noted; over = over })
+  pub arrive_at : (noted : Option ℕ) (over : Bool) → noted ≡ option_or (then_some flags.ends place) end → (IsTrue over → IsTrue (is_over t.way.all_starts flags)) → PassIs p t w start (record { offset = o; place = place; end = noted; over = over })
   arrive_at noted over is_noted is_over =
       let all : EndsBelow p t.way w start (place + 1) noted = elim (cases_Bool flags.ends) [
         | inl is ↦ rw (is_noted, is) (omega arith, ends_here.0 is, λ k low h. omega arith)
@@ -59,11 +59,10 @@ module _ (p : WrittenExpression) (t : Table) (w : List ℕ) (start place code o 
       ] in
       search (rules, arrived, ends_here, both_ways, dead, dead_end)
 
-  -- where the state shows nothing the pass goes on
-  pub arrive_plain : ((f : StateFlags) (u : ℕ) → u < 536870912 → code ≡ code_of f u → (f.ends ≡ false) × (f.dead ≡ false)) → PassIs p t w start (record { offset = o; place = place; end = end; over = false })
-  arrive_plain plain =
-      let none = names_shown p t table (Arrives p t.way w start place) code o n shows (λ f. (flags.ends ≡ false) × (flags.dead ≡ false)) (λ f u small is. rw (shown f u small is) (plain f u small is)) in
-      arrive_at end false (rw none.0 refl) (grind (arith, none))
+-- the code of a state that shows nothing
+pub plain_shows : (code o : ℕ) → o + 536870912 ≡ code → ((f : StateFlags) (u : ℕ) → u < 536870912 → code ≡ code_of f u → (f.ends ≡ false) × (f.dead ≡ false)) →
+    (f : StateFlags) (u : ℕ) → u < 536870912 → code ≡ code_of f u → (o ≡ u) × (record { ends = false; dead = false } ≡ f)
+plain_shows code o sum plain f u small is = let two = plain f u small is in search rules
 
 -- Further on.
 
