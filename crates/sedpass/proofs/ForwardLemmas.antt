@@ -29,16 +29,13 @@ none_before p way w from k low some = search (rules, Matches-forward)
 module _ (p : WrittenExpression) (t : Table) (w : List ℕ) (start place code o : ℕ) (end : Option ℕ) (flags : StateFlags) (table : IsTable p t) (after : start ≤ place) (within : place ≤ length w)
     (shows : (f : StateFlags) (u : ℕ) → u < 536870912 → code ≡ code_of f u → o ≡ u) (shown : (f : StateFlags) (u : ℕ) → u < 536870912 → code ≡ code_of f u → flags ≡ f)
     (n : NamesState (length p.nodes) t (Arrives p t.way w start place) code) (last : EndsBelow p t.way w start place end) where
-  abbrev here : PassState
-  here = state_of (length p.nodes) t (o / 2 ^ t.layout.shift)
-
   arena : IsArena (nodes_of t.way p)
   arena = seen-arena t.way.mirrored p table.expr.arena
 
-  arrived : Arrives p t.way w start place here
+  arrived : Arrives p t.way w start place (state_of (length p.nodes) t (o / 2 ^ t.layout.shift))
   arrived = names_state p t table (Arrives p t.way w start place) code o n shows
 
-  is_shown : FlagsShow here flags
+  is_shown : FlagsShow (state_of (length p.nodes) t (o / 2 ^ t.layout.shift)) flags
   is_shown = names_flags p t table (Arrives p t.way w start place) code o n shows flags shown
 
   ends_here : IsTrue flags.ends ↔ SomeSpan (nodes_of t.way p) w (root_of p) (starts_of t.way.all_starts start w) place
@@ -47,9 +44,9 @@ module _ (p : WrittenExpression) (t : Table) (w : List ℕ) (start place code o 
   -- where no leaf is entered no match goes on
   dead_end : (noted : Option ℕ) → t.way.all_starts ≡ false → IsTrue flags.dead → EndsBelow p t.way w start (place + 1) noted → IsPassEnd t.way.all_starts (nodes_of t.way p) w (root_of p) (starts_of t.way.all_starts start w) noted
   dead_end noted single is =
-      let none = row_empty _ w here.root place _ t.way.mirrored here.entered here.ended arrived.1 (is_shown.1.0 is) in
+      let none = row_empty _ w _ place _ t.way.mirrored _ _ arrived.1 (is_shown.1.0 is) in
       let inside : root_of p < length (nodes_of t.way p) = omega (arith, table.expr.arena.nonempty, seen-length t.way.mirrored p) in
-      all_below _ w _ _ _ _ noted (λ k late some. dead _ w here.root place some.0 k _ arena (rw arrived.0 inside) none some.1 (omega (arith, (rw single at some.1).1)) (omega arith) (rw arrived.0 some.2))
+      all_below _ w _ _ _ _ noted (λ k late some. dead _ w _ place some.0 k _ arena (rw arrived.0 inside) none some.1 (omega (arith, (rw single at some.1).1)) (omega arith) (rw arrived.0 some.2))
 
   pub arrive_at : (noted : Option ℕ) (over : Bool) → noted ≡ option_or (then_some flags.ends place) end → (IsTrue over → IsTrue (is_over t.way.all_starts flags)) → PassIs p t w start (record { offset = o; place = place; end = noted; over = over })
   arrive_at noted over is_noted is_over =
@@ -69,9 +66,7 @@ plain_shows code o sum plain f u small is = let two = plain f u small is in sear
 pub arrives_next : (p : WrittenExpression) (way : Way) (w : List ℕ) (start place byte : ℕ) (edge : Bool) (a b : PassState) → IsExpr p.nodes p.groups → start ≤ place → slice_get w place ≡ Some byte → place < length w → (IsTrue edge ↔ (place + 1 ≡ length w)) →
     Arrives p way w start place a → LeadsOn p way a byte edge b → Arrives p way w start (place + 1) b
 arrives_next p way w start place byte edge a b expr after is inside edges here leads =
-    let starts = starts_of way.all_starts start w in
-    let next : IsTrue way.all_starts ↔ IsStart starts (place + 1) = search rules in
-    (leads.0 ∙ here.0, leads_place p way w starts place byte edge a b expr (omega (arith, here.0, expr.arena.nonempty)) is edges next here.1 leads)
+    (leads.0 ∙ here.0, leads_place p way w _ place byte edge a b expr (omega (arith, here.0, expr.arena.nonempty)) is edges (search rules) here.1 leads)
 
 -- a pass goes on, in the table as it was or in one that was added to
 pub goes_on : (p : WrittenExpression) (t u : Table) (w : List ℕ) (start byte code : ℕ) (edge : Bool) (mid next : Passed) → IsExpr p.nodes p.groups → u.way ≡ t.way → PassIs p t w start mid → slice_get w mid.place ≡ Some byte → (IsTrue edge ↔ (mid.place + 1 ≡ length w)) →
@@ -96,9 +91,8 @@ goes_further p t w start to byte code mid next expr low inside pass is names arr
 pub names_first : (p : WrittenExpression) (t u : Table) (w : List ℕ) (from : ℕ) (kind : PlaceKind) (code : ℕ) → u.way ≡ t.way → t.way.mirrored ≡ false → from ≤ length w → (IsTrue kind.begin ↔ (from ≡ 0)) → (IsTrue kind.end ↔ (from ≡ length w)) →
     NamesState (length p.nodes) u (BeginsIn (nodes_of t.way p) t.way (root_of p) kind) code → NamesState (length p.nodes) u (Arrives p u.way w from from) code
 names_first p t u w from kind code way mirrored low begin end names =
-    let place : IsPlace w from (at_begin t.way.mirrored kind) (at_edge t.way.mirrored kind) = rw mirrored (begin, end) in
     subst (λ (x : Way). NamesState (length p.nodes) u (Arrives p x w from from) code) (sym way)
-    (names_map (length p.nodes) u (BeginsIn (nodes_of t.way p) t.way (root_of p) kind) (Arrives p t.way w from from) code (λ a begins. (begins.0, rw (begins.0) (begins.1 w (starts_of t.way.all_starts from w) place (search rules)))) names)
+    (names_map (length p.nodes) u (BeginsIn (nodes_of t.way p) t.way (root_of p) kind) (Arrives p t.way w from from) code (λ a begins. (begins.0, rw (begins.0) (begins.1 w (starts_of t.way.all_starts from w) (rw mirrored (begin, end)) (search rules)))) names)
 
 -- The end of a pass.
 

@@ -4,8 +4,9 @@ use Rattle.sedpass.specs.Table.{AreColumns, HasEdgeCells}
 use Rattle.sedpass.proofs.ActLemmas.{same_truth}
 use Rattle.sedpass.proofs.LeaveLemmas.{twice}
 use Rattle.sedpass.proofs.FactLemmas.{null_shows}
-use Rattle.sedpass.proofs.FollowLemmas.{null_same, row_of_place}
+use Rattle.sedpass.proofs.FollowLemmas.{null_same, row_of_place, took_same}
 use Rattle.sedpass.proofs.RowLemmas.{InTree-inside, bits_clear, bits_here, row_took}
+use Rattle.std.proofs.Math.Bool.{or-false}
 use Rattle.std.proofs.lemmas.Option.{IfSome_then}
 
 -- places of cells
@@ -92,12 +93,9 @@ leads_place e way w s p byte edge a b expr inside read last starts at leads =
     let long = seen-length way.mirrored e in
     rw leads.0 (row_of_place nodes w a.root (p + 1) s arena (omega (arith, inside, long)) way.mirrored way.all_starts (null_in e.nodes kind) leads.1.0 (null_shows way.mirrored e kind w (p + 1) place) starts takes b.entered b.ended leads.1.2)
 
-pub few_kinds : (a b : Bool) → kind_number a b < 4
-few_kinds a b = search rules
-
 -- where a beginning is noted tells which it is
 same_beginning : (all_starts : Bool) (x root end : ℕ) (other kind : PlaceKind) → (IsTrue all_starts → x ≡ end) → (IsTrue all_starts → root ≡ end) → beginning_at all_starts x other ≡ beginning_at all_starts root kind → (x ≡ root) × (other ≡ kind)
-same_beginning all_starts x root end other kind one two same = search (rules, few_kinds)
+same_beginning all_starts x root end other kind one two same = grind arith
 
 -- what the table names
 pub names_map : (m : ℕ) (t : Table) (P Q : PassState → Type 0) (v : ℕ) → ((a : PassState) → P a → Q a) → NamesState m t P v → NamesState m t Q v
@@ -205,13 +203,10 @@ module _ (p : WrittenExpression) (old t : Table) where
       let has = codes.table.room in
       let inside : at < length t.beginnings.items = has.begins root kind (omega (arith, may.0, has.marks)) in
       let one = λ (i : ℕ). one_set none t.beginnings.items at fresh i inside in
-      let past : (i : ℕ) → (slice_index_or beginnings.items i none).epoch ≤ t.epoch = λ i. let e = one i in search (rules, has.past) in
-      let early : (i : ℕ) → (slice_index_or beginnings.items i none).epoch < 4294967294 = λ i. let e = one i in search (rules, has.early) in
-      let begins : NamesState (length p.nodes) t (BeginsIn (nodes_of t.way p) t.way root kind) code = names_map _ _ _ _ code (λ a is. rw codes.adds.shape.0 is) codes.names in
-      coded p t t.cells beginnings t.links t.origin old _ code codes refl (search (rules, length-set, has.begins)) (λ x k near. inl refl) (λ x other. elim (one (beginning_at t.way.all_starts x other)) [
+      coded p t t.cells beginnings t.links t.origin old _ code codes refl (search (rules, length-set, has.begins, has.past, has.early, one)) (λ x k near. inl refl) (λ x other. elim (one (beginning_at t.way.all_starts x other)) [
         | inl e ↦ inr (λ may' now.
             let same = same_beginning t.way.all_starts x root (root_of p) other kind may'.1 (rw (← codes.adds.shape.0) at may.1) e.0 in
-            rw (ap (λ (b : Beginning). b.code) e.1, same.0, same.1) (names_noted p t _ _ _ _ _ code begins))
+            rw (ap (λ (b : Beginning). b.code) e.1, same.0, same.1) (names_noted p t _ _ _ _ _ code (names_map _ _ _ _ code (λ a is. rw codes.adds.shape.0 is) codes.names)))
         | inr old ↦ inl old
       ]) codes.table.origin
 
@@ -249,19 +244,25 @@ pub base_next : (act : Act) (byte : ℕ) (edge : Bool) (leaves takers before aft
 base_next act byte edge leaves takers before after a b root kind inside arena entered are others leads =
     let e = act.prepared.now in
     let nodes = nodes_of act.way e in
-    let took = leads.1.0 in
     record {
       root = leads.0 ∙ root;
-      own_leaves = took;
+      own_leaves = leads.1.0;
       own_row = rw (← root, kind) leads.1.2;
       others = λ c there.
           let lt : c < length e.nodes = omega (arith, InTree-inside nodes arena act.root c there, inside) in
           let node = node_at nodes c (omega (arith, lt, seen-length act.way.mirrored e)) in
           let law = leads.1.1 c node.0 (rw root there) node.1 in
           let here : a.entered c ≡ has_mark leaves c = ap (λ (f : ℕ → Bool). f c) entered ∙ bits_here (length e.nodes) leaves c lt in
-          let same : took c ≡ (has_mark leaves c && has_mark takers c) = same_truth _ _ (λ h. search (rules, law.0, and_from, are c node.0 node.1)) (λ h. let parts = and_parts (has_mark leaves c) (has_mark takers c) h in search (rules, law.1, are c node.0 node.1)) in
+          let same : leads.1.0 c ≡ (has_mark leaves c && has_mark takers c) = same_truth _ _ (λ h. search (rules, law.0, and_from, are c node.0 node.1)) (λ h. let parts = and_parts (has_mark leaves c) (has_mark takers c) h in search (rules, law.1, are c node.0 node.1)) in
           rw same (others c lt);
     }
+
+-- where nothing else took the byte it is that to which the act leads
+pub base_made : (act : Act) (byte : ℕ) (leaves : ℕ → Bool) (before after : List Bool) (a : PassState) → IsArena (nodes_of act.way act.prepared.now) → act.root < length act.prepared.now.nodes → ((c : ℕ) → c < length act.prepared.now.nodes → has_mark after c ≡ false) →
+    TookBy (nodes_of act.way act.prepared.now) act.root leaves (Some byte) (has_mark before) → IsBase act before after a → IsMade act byte leaves a
+base_made act byte leaves before after a arena inside none shows base =
+    let row = took_same _ _ _ _ _ _ _ _ _ (λ c there. base.others c there ∙ ap (λ b. base.own_leaves c || b) (none c (omega (arith, InTree-inside _ arena act.root c there, inside))) ∙ or-false (base.own_leaves c)) base.own_row in
+    record { root = base.root; comes_next = (has_mark before, shows, row) }
 
 -- What a code names.
 
@@ -278,13 +279,9 @@ module _ (p : WrittenExpression) (t : Table) (table : IsTable p t) (P : PassStat
   pub names_state : P (state_of (length p.nodes) t (o / 2 ^ t.layout.shift))
   names_state = rw offset_is.1 n.is
 
-  -- what is true of all flags that the code may show is true of those that it does
-  pub names_shown : (Q : StateFlags → Type 0) → ((flags : StateFlags) (u : ℕ) → u < 536870912 → v ≡ code_of flags u → Q flags) → Q n.flags
-  names_shown Q all = all n.flags (n.to * 2 ^ t.layout.shift) small_offset n.code
-
   -- what the code shows are the flags of its state
   pub names_flags : (shown : StateFlags) → ((flags : StateFlags) (u : ℕ) → u < 536870912 → v ≡ code_of flags u → shown ≡ flags) → FlagsShow (state_of (length p.nodes) t (o / 2 ^ t.layout.shift)) shown
-  names_flags shown show = rw (offset_is.1, names_shown (λ f. shown ≡ f) show) n.shown
+  names_flags shown show = rw (offset_is.1, show n.flags _ small_offset n.code) n.shown
 
 -- a code's state has a number
 pub named_state : (p : WrittenExpression) (t : Table) → IsTable p t → (P : PassState → Type 0) (code base : Option ℕ) → (code ≡ None → base ≡ None) → IfSome base (λ q. IfSome code (λ v. (o : ℕ) × (q ≡ o / 2 ^ t.layout.shift) × ((flags : StateFlags) (u : ℕ) → u < 536870912 → v ≡ code_of flags u → o ≡ u))) →

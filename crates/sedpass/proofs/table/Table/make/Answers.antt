@@ -1,9 +1,8 @@
 use Rattle.std.proofs.lemmas.Option.{IfSome_then}
-use Rattle.std.proofs.Math.Bool.{or-false}
 use Rattle.sedpass.proofs.Words.{Takes, rules, ◌*◌, ap, ends_row, Codes, IfSome, IsMade, IsTrue, None, Option, RowIs, Some, TookBy, arith, bits, false, has_mark, is_some, leaves_row, length, nodes_of, refl, root_of, row_of, seen-arena, seen-length, sym, true≢false, ℕ, ◌<◌, ◌||◌, ◌∙◌, ◌≡◌}
 use Rattle.sedpass.proofs.FollowLemmas.{took_same}
 use Rattle.sedpass.proofs.RowLemmas.{InTree-inside}
-use Rattle.sedpass.proofs.TableLemmas.{adds_none, adds_rows, keeps_made, keeps_states, named_state, names_map, names_offset, table_rows, took_bits, with_link}
+use Rattle.sedpass.proofs.TableLemmas.{adds_none, adds_rows, base_made, keeps_made, keeps_states, named_state, names_map, names_offset, table_rows, took_bits, with_link}
 use Rattle.sedpass.proofs.table.Table.make.Goals.{After-intern-code, After-take}
 use Rattle.sedpass.proofs.table.Table.make.Goals as goal
 
@@ -63,29 +62,17 @@ whole (Some q) P Q some is up = up q is
 
 pub index_mut-requires : goal.index_mut-requires
 index_mut-requires c =
-    let u = c.intern-code.new.self in
     let table = c.intern-code.ensures.codes.table in
-    let there = names_offset c.args.act.prepared.now u table _ _ c.offset_of.result c.intern-code.ensures.codes.names c.offset_of.ensures in
-    omega (arith, there.0, c.state_at-state.ensures, table.room.count, table.room.links, u.links.ok)
+    omega (arith, (names_offset _ _ table _ _ c.offset_of.result c.intern-code.ensures.codes.names c.offset_of.ensures).0, c.state_at-state.ensures, table.room.count, table.room.links, c.intern-code.new.self.links.ok)
 
 pub returns-in-Some-clause-codes : goal.returns-in-Some-clause-codes
 returns-in-Some-clause-codes c =
-    let act = c.args.act in
-    let e = act.prepared.now in
     let B = c.base-base.new.self in
     let shared = rw c.in-Some.is at c.shared.ensures.shared in
-    let arena = seen-arena act.way.mirrored e c.base-base.ensures.table.expr.arena in
     record {
       table = c.base-base.ensures.table;
-      adds = c.make_room.ensures.adds B (c.find_takers-takers.ensures.same B (adds_rows e c.find_takers-takers.new.self c.take.new.rows (keeps_states 1 _ _ _ (omega arith) c.take.ensures.keeps) B (c.base-base.ensures.same B (adds_none (length e.nodes) B))));
-      names = names_map _ _ _ _ _ (λ a base. record {
-        root = base.root;
-        comes_next = (
-          has_mark (row_of c.take.new.rows 1),
-          took (goal.at.returns-in-Some-clause-codes c).After-take,
-          took_same _ _ _ _ _ _ _ _ _ (λ n there. base.others n there ∙ ap (λ b. base.own_leaves n || b) (shared.1 n (omega (arith, InTree-inside (nodes_of act.way e) arena act.root n there, c.requires.root))) ∙ or-false (base.own_leaves n)) base.own_row,
-        );
-      }) (rw shared.0 at c.base-base.ensures.base);
+      adds = c.make_room.ensures.adds B (c.find_takers-takers.ensures.same B (adds_rows c.args.act.prepared.now c.find_takers-takers.new.self c.take.new.rows (keeps_states 1 _ _ _ (omega arith) c.take.ensures.keeps) B (c.base-base.ensures.same B (adds_none _ B))));
+      names = names_map _ _ _ _ _ (λ a. base_made c.args.act _ _ _ _ a (seen-arena c.args.act.way.mirrored c.args.act.prepared.now c.base-base.ensures.table.expr.arena) c.requires.root shared.1 (took (goal.at.returns-in-Some-clause-codes c).After-take)) (rw shared.0 at c.base-base.ensures.base);
     }
 
 pub returns-then-alone-clause-codes : goal.returns-then-alone-clause-codes
@@ -105,8 +92,7 @@ returns-then-alone-clause-codes c =
 -- what it costs, with a row of takers or without one
 cost : (c : After-intern-code) (takers : Option ℕ) → c.find_takers-takers.result ≡ takers → Takes c.args.steps.now c.intern-code.new.steps (32 * length c.args.act.prepared.now.nodes)
 cost c None is =
-    let none = c.base-base.ensures.few is in
-    omega (arith, c.find_takers-takers.ensures.none is, c.take.ensures.cost, c.is_alone-alone.ensures.few is, none.0, c.shared.ensures.few none.1, c.ascend.ensures.cost, c.descend.ensures.cost, c.intern-code.ensures.cost, c.requires.root)
+    omega (arith, c.find_takers-takers.ensures.none is, c.take.ensures.cost, c.is_alone-alone.ensures.few is, (c.base-base.ensures.few is).0, c.shared.ensures.few (c.base-base.ensures.few is).1, c.ascend.ensures.cost, c.descend.ensures.cost, c.intern-code.ensures.cost, c.requires.root)
 cost c (Some q) is =
     omega (arith, c.find_takers-takers.ensures.cost, rw is at c.take.ensures.fewer, c.is_alone-alone.ensures.cost, c.base-base.ensures.cost, c.shared.ensures.cost, c.ascend.ensures.cost, c.descend.ensures.cost, c.intern-code.ensures.cost, (rw is at c.find_takers-takers.ensures.takers).4)
 
