@@ -118,12 +118,8 @@ module _ (p : WrittenExpression) (t t' : Table) (adds : AddsStates (length p.nod
   pub offset_more : (o : ℕ) → IsOffset t o → IsOffset t' o
   offset_more o at = let up = adds.grows epoch in search rules
 
-  -- a state of the old table is one of the new table
-  names_moved : (Q : Way → PassState → PassState → Type 0) (o v : ℕ) → o / 2 ^ t.layout.shift < t.count → NamesState m t' (Q t.way (state_of m t (o / 2 ^ t.layout.shift))) v → NamesState m t' (Q t'.way (state_of m t' (o / 2 ^ t'.layout.shift))) v
-  names_moved Q o v there n = search rules
-
-  leads_more : (q k : ℕ) → q < t.count → (b : PassState) → LeadsBy p t q k b → LeadsBy p t' q k b
-  leads_more q k there b leads byte edge small column = subst (λ (a : PassState). LeadsOn p t'.way a byte edge b) (sym (adds.kept epoch q there)) (rw adds.shape.0 (leads byte edge small (rw adds.shape.2 at column)))
+  leads_more : (q : ℕ) → q < t.count → (b : PassState) (byte : ℕ) (edge : Bool) → LeadsOn p t.way (state_of m t q) byte edge b → LeadsOn p t'.way (state_of m t' q) byte edge b
+  leads_more q there b byte edge leads = subst (λ (a : PassState). LeadsOn p t'.way a byte edge b) (sym (adds.kept epoch q there)) (rw adds.shape.0 leads)
 
   begun_more : (root : ℕ) (kind : PlaceKind) → beginning_of t' (beginning_at t.way.all_starts root kind) ≡ beginning_of t (beginning_at t.way.all_starts root kind) → Begun p t t.way root kind → Begun p t' t'.way root kind
   begun_more root kind same begun = grind (arith, names_more)
@@ -134,15 +130,16 @@ module _ (p : WrittenExpression) (t t' : Table) (adds : AddsStates (length p.nod
 
   -- the table is right, if each state, cell and beginning is that isn't as it was
   pub table_more : IsTable p t → HasRoom m t' → ((q : ℕ) → q < t'.count → (q < t.count) ⊎ ((state_of m t' q).root < m)) →
-      ((q k : ℕ) → q < t'.count → k < cells_in t.layout → 0 < cell_of t' q k → ((q < t.count) × (cell_of t' q k ≡ cell_of t q k)) ⊎ NamesState m t' (LeadsBy p t' q k) (cell_of t' q k)) →
+      ((q k : ℕ) → q < t'.count → k < cells_in t'.layout → 0 < cell_of t' q k → ((q < t.count) × (cell_of t' q k ≡ cell_of t q k)) ⊎ NamesState m t' (LeadsBy p t' q k) (cell_of t' q k)) →
       ((root : ℕ) (kind : PlaceKind) → (beginning_of t' (beginning_at t.way.all_starts root kind) ≡ beginning_of t (beginning_at t.way.all_starts root kind)) ⊎ Begun p t' t'.way root kind) → HasTakers p t' → (t'.origin ≡ t.origin) ⊎ HasOrigin p t' → IsTable p t'
-  table_more table room roots cells begins takers origin = let narrow = λ (k : ℕ). subst (λ (l : Layout). k < cells_in l) adds.shape.2 in record {
+  table_more table room roots cells begins takers origin = record {
     expr = table.expr;
     room = room;
     layout = rw (adds.shape.0, adds.shape.2) table.layout;
     roots = search rules;
-    filled = λ q k there column some. elim (cells q k there (narrow k column) some) [
-      | inl old ↦ rw old.1 (names_map m t' (LeadsBy p t q k) (LeadsBy p t' q k) _ (leads_more q k old.0) (names_more (LeadsBy p t q k) _ (table.filled q k old.0 (narrow k column) (rw old.1 at some))))
+    filled = λ q k there column some. elim (cells q k there column some) [
+      | inl old ↦ rw old.1 (names_map m t' (LeadsBy p t q k) (LeadsBy p t' q k) _ (λ b leads byte edge small is. leads_more q old.0 b byte edge (leads byte edge small (rw adds.shape.2 at is)))
+          (names_more (LeadsBy p t q k) _ (table.filled q k old.0 (rw adds.shape.2 at column) (rw old.1 at some))))
       | inr new ↦ new
     ];
     begun = λ root kind. elim (begins root kind) [ inl old ↦ begun_more root kind old (table.begun root kind) | inr new ↦ new ];
@@ -183,10 +180,10 @@ module _ (p : WrittenExpression) (old t : Table) where
       let there = offset_more p old t codes.adds epoch offset from in
       let narrow : k < cells_in t.layout = rw is (cell_low p.nodes t.way.mirrored t.layout table.layout byte edge small) in
       let inside : offset + k < length t.cells.items = omega (arith, there.1, cell_inside size q k t.count (cells_in t.layout) (length t.cells.items) there.0 narrow table.layout.fits table.room.cells) in
-      let leads : NamesState (length p.nodes) t (LeadsBy p t q k) v = names_map _ _ _ _ v (λ b on o end few at.
+      let leads : NamesState (length p.nodes) t (LeadsBy p t q k) v = names_map _ _ _ _ v (λ b next o end few at.
       let one = cell_apart p.nodes t.way.mirrored t.layout table.layout byte o edge end small few (sym is ∙ at) in
-      leads_alike p t.way (state_of (length p.nodes) t q) b byte o edge end (seen-arena t.way.mirrored p table.expr.arena) (table.roots q there.0) (bytes_alike p.nodes t.way.mirrored t.layout table.layout byte o small few filled (sym one.0)) one.1 on)
-      (names_moved p old t codes.adds epoch (λ w a b. LeadsOn p w a byte edge b) offset v from.0 codes.names) in
+      let on = leads_more p old t codes.adds epoch q (rw codes.adds.shape.2 from.0) b byte edge (rw codes.adds.shape.2 next) in
+      leads_alike p t.way (state_of (length p.nodes) t q) b byte o edge end (seen-arena t.way.mirrored p table.expr.arena) (table.roots q there.0) (bytes_alike p.nodes t.way.mirrored t.layout table.layout byte o small few filled (sym one.0)) one.1 on) codes.names in
       coded p t (with_item t.cells (offset + k) v) t.beginnings t.links t.origin old _ v codes refl (search (rules, length-set)) (λ x j near. elim (one_set 0 t.cells.items (offset + k) v (x * size + j) inside) [
         | inl e ↦ let at = same_from_place x j q k size (omega (arith, near, table.layout.fits)) (omega (arith, narrow, table.layout.fits)) (omega (arith, e.0, there.1)) in inr (rw (e.1, at.1, at.0) (names_noted p t _ _ _ _ _ v leads))
         | inr other ↦ inl other
