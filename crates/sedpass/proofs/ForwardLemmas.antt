@@ -1,5 +1,5 @@
 -- Passes for the whole expression.
-use Rattle.sedpass.proofs.Words.{IsExpr, rules, inl, inr, ◌≡◌, ℕ, ◌+◌, ◌-◌, ◌*◌, ◌/◌, ◌^◌, ◌<◌, ◌≤◌, ◌⊎◌, ◌↔◌, Bool, true, false, List, length, Option, Some, None, IsTrue, refl, sym, subst, true≢false, arith, mul-le-mul_left, slice_get, is_some, IfSome, mul-sub, common_steps, then_some, option_or, cases_lt, cases_Bool, both_ways, slice_get_within, IsArena, expression_tree, Tree, Node, Starts, TakesAtLeast, LooksPast, HasSpan, IsStart, SomeSpan, IsLongestFrom, Matches, SomeFound, Matches-forward, Matches-within, IsPlace, StateFlags, PlaceKind, WrittenExpression, Way, Table, Passed, seen-arena, seen-length, least_less, least_since, least_both, cases_eq, nodes_of, at_begin, at_edge, root_of, PassState, state_of, FlagsShow, LeadsOn, BeginsIn, NamesState, IsTable, IsForwardOne, SameShape, code_of, starts_of, LastBelow, IsPassEnd, Arrives, EndsBelow, PassIs, is_over, ◌∙◌}
+use Rattle.sedpass.proofs.Words.{IsExpr, rules, inl, inr, ◌≡◌, ℕ, ◌+◌, ◌-◌, ◌*◌, ◌/◌, ◌^◌, ◌<◌, ◌≤◌, ◌⊎◌, ◌↔◌, Bool, true, false, List, length, Option, Some, None, IsTrue, refl, sym, subst, true≢false, arith, mul-le-mul_left, slice_get, is_some, IfSome, mul-sub, common_steps, then_some, option_or, cases_lt, cases_Bool, both_ways, slice_get_within, expression_tree, Tree, Node, Starts, TakesAtLeast, LooksPast, HasSpan, IsStart, SomeSpan, IsLongestFrom, Matches, SomeFound, Matches-forward, Matches-within, StateFlags, PlaceKind, WrittenExpression, Way, Table, Passed, seen-arena, seen-length, least_less, least_since, least_both, cases_eq, nodes_of, root_of, PassState, state_of, FlagsShow, LeadsOn, BeginsIn, NamesState, IsTable, IsForwardOne, SameShape, code_of, starts_of, LastBelow, IsPassEnd, Arrives, EndsBelow, PassIs, is_over, ◌∙◌}
 use Rattle.sedpass.proofs.RowLemmas.{dead, row_root, row_empty}
 use Rattle.sedpass.proofs.TableLemmas.{leads_place, names_state, names_flags, names_map}
 
@@ -29,9 +29,6 @@ none_before p way w from k low some = search (rules, Matches-forward)
 module _ (p : WrittenExpression) (t : Table) (w : List ℕ) (start place code o : ℕ) (end : Option ℕ) (flags : StateFlags) (table : IsTable p t) (after : start ≤ place) (within : place ≤ length w)
     (shows : (f : StateFlags) (u : ℕ) → u < 536870912 → code ≡ code_of f u → o ≡ u) (shown : (f : StateFlags) (u : ℕ) → u < 536870912 → code ≡ code_of f u → flags ≡ f)
     (n : NamesState (length p.nodes) t (Arrives p t.way w start place) code) (last : EndsBelow p t.way w start place end) where
-  arena : IsArena (nodes_of t.way p)
-  arena = seen-arena t.way.mirrored p table.expr.arena
-
   arrived : Arrives p t.way w start place (state_of (length p.nodes) t (o / 2 ^ t.layout.shift))
   arrived = names_state p t table (Arrives p t.way w start place) code o n shows
 
@@ -39,14 +36,14 @@ module _ (p : WrittenExpression) (t : Table) (w : List ℕ) (start place code o 
   is_shown = names_flags p t table (Arrives p t.way w start place) code o n shows flags shown
 
   ends_here : IsTrue flags.ends ↔ SomeSpan (nodes_of t.way p) w (root_of p) (starts_of t.way.all_starts start w) place
-  ends_here = grind (arith, row_root, arena, arrived, is_shown)
+  ends_here = grind (arith, row_root, seen-arena t.way.mirrored p table.expr.arena, arrived, is_shown)
 
   -- where no leaf is entered no match goes on
   dead_end : (noted : Option ℕ) → t.way.all_starts ≡ false → IsTrue flags.dead → EndsBelow p t.way w start (place + 1) noted → IsPassEnd t.way.all_starts (nodes_of t.way p) w (root_of p) (starts_of t.way.all_starts start w) noted
   dead_end noted single is =
       let none = row_empty _ w _ place _ t.way.mirrored _ _ arrived.1 (is_shown.1.0 is) in
       let inside : root_of p < length (nodes_of t.way p) = omega (arith, table.expr.arena.nonempty, seen-length t.way.mirrored p) in
-      all_below _ w _ _ _ _ noted (λ k late some. dead _ w _ place some.0 k _ arena (rw arrived.0 inside) none some.1 (omega (arith, (rw single at some.1).1)) (omega arith) (rw arrived.0 some.2))
+      all_below _ w _ _ _ _ noted (λ k late some. dead _ w _ place some.0 k _ (seen-arena t.way.mirrored p table.expr.arena) (rw arrived.0 inside) none some.1 (omega (arith, (rw single at some.1).1)) (omega arith) (rw arrived.0 some.2))
 
   pub arrive_at : (noted : Option ℕ) (over : Bool) → noted ≡ option_or (then_some flags.ends place) end → (IsTrue over → IsTrue (is_over t.way.all_starts flags)) → PassIs p t w start (record { offset = o; place = place; end = noted; over = over })
   arrive_at noted over is_noted is_over =
@@ -113,12 +110,12 @@ module _ (p : WrittenExpression) (w : List ℕ) (from : ℕ) (all_starts : Bool)
 
   pub end_passes : (nodes : List Node) (r : ℕ) (starts : Starts) (s t place : ℕ) → from ≤ length w → (end : Option ℕ) → LastBelow nodes w r starts (place + 1) end → IsPassEnd all_starts p.nodes w (root_of p) (starts_of all_starts from w) end →
       TakesAtLeast s t (2 * (place - from) + 1) → IfSome end (λ j. LooksPast (expression_tree p) w from s t)
-  end_passes nodes r starts s t place low end last is looks = grind (arith, common_steps, Matches-within, arena, last_start, root_spans, least_less)
+  end_passes nodes r starts s t place low end last is looks = grind (arith, common_steps, Matches-within, last_start, root_spans, least_less)
 
 -- a pass forwards that is over, or came to the text's end
 pub seen_end : (p : WrittenExpression) (way : Way) (t : Table) (w : List ℕ) (from : ℕ) (at : Passed) → t.way ≡ way → way.mirrored ≡ false → from ≤ length w → PassIs p t w from at → (at.over ≡ true) ⊎ (length w ≤ at.place) →
     IsPassEnd way.all_starts p.nodes w (root_of p) (starts_of way.all_starts from w) at.end
-seen_end p way t w from at same mirrored low pass done = search (rules, arena, all_below, Matches-within, last_start)
+seen_end p way t w from at same mirrored low pass done = search (rules, all_below, Matches-within, last_start)
 
 -- a table of passes forwards from one start is one still
 pub forward_one_still : (p : WrittenExpression) (a b : Table) → IsForwardOne p a → IsTable p b → SameShape a b → IsForwardOne p b

@@ -1,5 +1,5 @@
 -- Tables of states.
-use Rattle.sedpass.proofs.Words.{Node, InTree, at_begin, at_edge, seen-arena, Starts, IsStart, IsPlace, StateAt, Took, TakenBy, TookBy, true≢false, byte_is_in, slice_get, slice_get_within, ◌≡◌, ℕ, ◌+◌, ◌*◌, ◌/◌, ◌%◌, ◌^◌, ◌<◌, ◌≤◌, ◌⊎◌, ◌↔◌, Bool, true, false, List, length, Option, Some, IsTrue, refl, sym, ap, ◌∙◌, subst, inl, inr, arith, min, mul-le-mul_left, slice_index_or, slice_set, replicate, rules, vec_capacity, Vec, Global, get_or_past, length-replicate, same_from_place, shl-shr, shl_whole, with_item, pow-le-pow_right, cases_eq, cases_lt, get_or-replicate, get_or-set_same, get_or-set_other, IsExpr, WrittenExpression, seen, old_node, KeepsRows, row_of, StateFlags, PlaceKind, Way, Beginning, Table, IsApart, nodes_of, leaves_row, ends_row, SameBytes, PassState, HasRows, state_of, FlagsShow, HasNewRow, IsMade, LeadsOn, BeginsIn, NamesState, IsNext, IsOffset, cell_of, LeadsBy, kind_number, beginning_at, beginning_of, MayBegin, root_of, HasRoom, IsRoomy, IsTable, SameRoom, AddsStates, Codes, code_of, cell_for, cells_in, column_for, IsLayout, Layout, Act, length-set, AreTakers, ◌≢◌, Set, ◌||◌, ◌&&◌, has_mark, bits, HasTakers, HasOrigin, IsOrigin, IfSome, IsBase, RowFollows, null_in, edge_kind, None, IsArena, seen-length, node_at, and_from, and_parts}
+use Rattle.sedpass.proofs.Words.{Node, InTree, at_begin, at_edge, seen-arena, Starts, IsStart, IsPlace, StateAt, Took, TakenBy, TookBy, byte_is_in, slice_get, ◌≡◌, ℕ, ◌+◌, ◌*◌, ◌/◌, ◌%◌, ◌^◌, ◌<◌, ◌≤◌, ◌⊎◌, ◌↔◌, Bool, true, false, List, length, Option, Some, IsTrue, refl, sym, ap, ◌∙◌, subst, inl, inr, arith, min, mul-le-mul_left, slice_index_or, slice_set, replicate, rules, vec_capacity, Vec, Global, get_or_past, length-replicate, same_from_place, shl-shr, shl_whole, with_item, pow-le-pow_right, cases_eq, cases_lt, get_or-replicate, get_or-set_same, get_or-set_other, IsExpr, WrittenExpression, seen, old_node, KeepsRows, row_of, StateFlags, PlaceKind, Way, Beginning, Table, IsApart, nodes_of, leaves_row, ends_row, SameBytes, PassState, HasRows, state_of, FlagsShow, HasNewRow, IsMade, LeadsOn, BeginsIn, NamesState, IsNext, IsOffset, cell_of, LeadsBy, beginning_at, beginning_of, MayBegin, root_of, HasRoom, IsRoomy, IsTable, SameRoom, AddsStates, Codes, code_of, cell_for, cells_in, column_for, IsLayout, Layout, Act, length-set, AreTakers, ◌≢◌, Set, ◌||◌, ◌&&◌, has_mark, bits, HasTakers, HasOrigin, IsOrigin, IfSome, IsBase, null_in, edge_kind, None, IsArena, seen-length, node_at, and_from, and_parts}
 use Rattle.sedpass.specs.Table.{AreColumns, HasEdgeCells}
 use Rattle.sedpass.proofs.ActLemmas.{same_truth}
 use Rattle.sedpass.proofs.LeaveLemmas.{twice}
@@ -86,12 +86,10 @@ leads_place e way w s p byte edge a b expr inside read last starts at leads =
     let nodes = nodes_of way e in
     let arena = seen-arena way.mirrored e expr.arena in
     let kind = edge_kind way.mirrored edge in
-    let is = kind_is way.mirrored edge in
-    let place : IsPlace w (p + 1) (at_begin way.mirrored kind) (at_edge way.mirrored kind) = rw (is.0, is.1) ((λ h. absurd (true≢false (sym h)), λ none. absurd (omega (arith, none))), last) in
+    let place : IsPlace w (p + 1) (at_begin way.mirrored kind) (at_edge way.mirrored kind) = search (rules, kind_is, last) in
     let shows = row_took nodes w a.root p s way.mirrored a.entered a.ended (Some byte) (λ x m set. ap (λ k. byte_is_in k m) read) at in
     let takes : (c : ℕ) (members : List Bool) → InTree nodes a.root c → slice_get nodes c ≡ Some (Set members) → IsTrue (leads.1.0 c) ↔ Took nodes w a.root s (p + 1) c members = search (rules, leads.1.1, shows, and_from, and_parts) in
-    let long = seen-length way.mirrored e in
-    rw leads.0 (row_of_place nodes w a.root (p + 1) s arena (omega (arith, inside, long)) way.mirrored way.all_starts (null_in e.nodes kind) leads.1.0 (null_shows way.mirrored e kind w (p + 1) place) starts takes b.entered b.ended leads.1.2)
+    rw leads.0 (row_of_place _ _ _ _ _ arena (omega (arith, inside, seen-length way.mirrored e)) _ _ _ _ (null_shows way.mirrored e kind w (p + 1) place) starts takes _ _ leads.1.2)
 
 -- where a beginning is noted tells which it is
 same_beginning : (all_starts : Bool) (x root end : ℕ) (other kind : PlaceKind) → (IsTrue all_starts → x ≡ end) → (IsTrue all_starts → root ≡ end) → beginning_at all_starts x other ≡ beginning_at all_starts root kind → (x ≡ root) × (other ≡ kind)
@@ -193,14 +191,12 @@ module _ (p : WrittenExpression) (old t : Table) where
   pub note_beginning : (root code : ℕ) (kind : PlaceKind) → MayBegin p old.way root → t.epoch < 4294967294 → Codes p old t (BeginsIn (nodes_of old.way p) old.way root kind) code →
       Codes p old (record t { beginnings = with_item t.beginnings (beginning_at t.way.all_starts root kind) (record { epoch = t.epoch; code = code }) }) (BeginsIn (nodes_of old.way p) old.way root kind) code
   note_beginning root code kind may epoch codes =
-      let none : Beginning = record { epoch = 0; code = 0 } in
       let fresh : Beginning = record { epoch = t.epoch; code = code } in
       let at = beginning_at t.way.all_starts root kind in
-      let beginnings = with_item t.beginnings at fresh in
       let has = codes.table.room in
       let inside : at < length t.beginnings.items = has.begins root kind (omega (arith, may.0, has.marks)) in
-      let one = λ (i : ℕ). one_set none t.beginnings.items at fresh i inside in
-      coded p t t.cells beginnings t.links t.origin old _ code codes refl (search (rules, length-set, has.begins, has.past, has.early, one)) (λ x k near. inl refl) (λ x other. elim (one (beginning_at t.way.all_starts x other)) [
+      let one = λ (i : ℕ). one_set (record { epoch = 0; code = 0 }) t.beginnings.items at fresh i inside in
+      coded p t t.cells (with_item t.beginnings at fresh) t.links t.origin old _ code codes refl (search (rules, length-set, has.begins, has.past, has.early, one)) (λ x k near. inl refl) (λ x other. elim (one (beginning_at t.way.all_starts x other)) [
         | inl e ↦ inr (λ may' now.
             let same = same_beginning t.way.all_starts x root (root_of p) other kind may'.1 (rw (← codes.adds.shape.0) at may.1) e.0 in
             rw (ap (λ (b : Beginning). b.code) e.1, same.0, same.1) (names_noted p t _ _ _ _ _ code (names_map _ _ _ _ code (λ a is. rw codes.adds.shape.0 is) codes.names)))
@@ -228,11 +224,6 @@ pub leads_on : (act : Act) (a b : PassState) (byte : ℕ) (edge : Bool) → act.
 leads_on act a b byte edge root kind made = search rules
 
 -- The state with whose row an act begins.
-
--- one that follows from no leaf
-pub base_alone : (act : Act) (before after : List Bool) (a : PassState) → a.root ≡ act.root → ((c : ℕ) → has_mark before c ≡ has_mark after c) →
-    RowFollows (nodes_of act.way act.prepared.now) act.root act.way.mirrored act.way.all_starts (null_in act.prepared.now.nodes act.kind) (λ c. false) a.entered a.ended → IsBase act before after a
-base_alone act before after a root same follows = search (rules, follows)
 
 -- that to which a state leads of which fewer leaves took the byte
 pub base_next : (act : Act) (byte : ℕ) (edge : Bool) (leaves takers before after : List Bool) (a b : PassState) → a.root ≡ act.root → act.kind ≡ edge_kind act.way.mirrored edge → act.root < length act.prepared.now.nodes → IsArena (nodes_of act.way act.prepared.now) →
@@ -299,10 +290,6 @@ module _ (p : WrittenExpression) (t : Table) (table : IsTable p t) (offset byte 
 pub same_all : {A : Type 0} → (d : A) (n k : ℕ) → slice_index_or (replicate n d) k d ≡ d
 same_all d n k = search (rules, cases_lt k n, get_or-replicate, get_or_past, length-replicate)
 
--- no beginning is noted at first
-pub none_noted : (items : List Beginning) (n : ℕ) → items ≡ replicate n (record { epoch = 0; code = 0 }) → (i : ℕ) → (slice_index_or items i (record { epoch = 0; code = 0 })).epoch ≡ 0
-none_noted items n is i = search (rules, same_all)
-
 -- a table that has all its parts, and no state, has all its room
 pub has_parts : (t : Table) → t.count ≡ 0 → HasRows t.room t.marks t.rows t.roots.items → t.layout.shift ≤ 8 → 2 ^ t.layout.shift ≤ 4 * (t.marks + 1) → t.room * min 256 (4 * (t.marks + 1)) ≤ vec_capacity t.cells → length t.links.items ≡ t.room → 2 ≤ length t.index.items →
     ((root : ℕ) (kind : PlaceKind) → root < t.marks → beginning_at t.way.all_starts root kind < length t.beginnings.items) → ((i : ℕ) → (beginning_of t i).epoch ≡ 0) → HasRoom t.marks t
@@ -322,10 +309,6 @@ keeps_states z n a b low keeps = search (rules, keeps.same)
 
 pub keeps_made : (n : ℕ) (a b c : List (List Bool)) → KeepsRows (λ q. 2 ≤ q) a b → KeepsRows (IsApart 1 n) b c → KeepsRows (IsApart 2 n) a c
 keeps_made n a b c one two = search (rules, one.same, two.same)
-
--- what took the byte, by the bits of a row
-pub took_bits : (nodes : List Node) (r m : ℕ) (marks old : List Bool) (byte : Option ℕ) (took : ℕ → Bool) → length nodes ≡ m → marks ≡ old → TookBy nodes r (has_mark marks) byte took → TookBy nodes r (bits m old) byte took
-took_bits nodes r m marks old byte took long same law c node there is = rw (bits_here m old c (omega (arith, slice_get_within nodes c node is, long)), ← same) (law c node there is)
 
 -- nor where one is made
 module _ (p : WrittenExpression) (t : Table) (rows : List (List Bool)) (keeps : KeepsRows (IsApart 2 t.count) t.rows rows) where

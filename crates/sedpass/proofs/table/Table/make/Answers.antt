@@ -1,8 +1,8 @@
 use Rattle.std.proofs.lemmas.Option.{IfSome_then}
-use Rattle.sedpass.proofs.Words.{Takes, rules, ◌*◌, ap, ends_row, Codes, IfSome, IsMade, IsTrue, None, Option, RowIs, Some, TookBy, arith, bits, false, has_mark, is_some, leaves_row, length, nodes_of, refl, root_of, row_of, seen-arena, seen-length, sym, true≢false, ℕ, ◌<◌, ◌||◌, ◌∙◌, ◌≡◌}
+use Rattle.sedpass.proofs.Words.{Takes, rules, ◌*◌, ends_row, Codes, IfSome, IsMade, IsTrue, None, Option, RowIs, Some, TookBy, arith, bits, false, has_mark, is_some, leaves_row, length, nodes_of, refl, root_of, row_of, seen-arena, seen-length, slice_get_within, sym, true≢false, ℕ, ◌<◌, ◌∙◌, ◌≡◌}
 use Rattle.sedpass.proofs.FollowLemmas.{took_same}
-use Rattle.sedpass.proofs.RowLemmas.{InTree-inside}
-use Rattle.sedpass.proofs.TableLemmas.{adds_none, adds_rows, base_made, keeps_made, keeps_states, named_state, names_map, names_offset, table_rows, took_bits, with_link}
+use Rattle.sedpass.proofs.RowLemmas.{InTree-inside, bits_here}
+use Rattle.sedpass.proofs.TableLemmas.{adds_none, adds_rows, base_made, keeps_made, keeps_states, named_state, names_map, names_offset, table_rows, with_link}
 use Rattle.sedpass.proofs.table.Table.make.Goals.{After-intern-code, After-take}
 use Rattle.sedpass.proofs.table.Table.make.Goals as goal
 
@@ -39,7 +39,9 @@ row c (Some q) is =
 
 -- the row of the state before is there still, and shows what took the byte
 took : (c : After-take) → TookBy (nodes_of c.args.act.way c.args.act.prepared.now) c.args.act.root (bits (length c.args.act.prepared.now.nodes) (row_of c.args.self.now.rows (leaves_row c.args.from))) (Some c.args.byte) (has_mark (row_of c.take.new.rows 1))
-took c = took_bits _ _ _ _ _ (Some c.args.byte) _ (seen-length c.args.act.way.mirrored c.args.act.prepared.now) (rw c.make_room.ensures.rows at (c.find_takers-takers.ensures.others.same (leaves_row c.args.from) (omega (arith, c.requires.from, c.make_room.ensures.shape.1)))) c.take.ensures.took
+took c n node there is =
+    let kept = rw c.make_room.ensures.rows at (c.find_takers-takers.ensures.others.same (leaves_row c.args.from) (omega (arith, c.requires.from, c.make_room.ensures.shape.1))) in
+    rw (bits_here (length c.args.act.prepared.now.nodes) (row_of c.args.self.now.rows (leaves_row c.args.from)) n (omega (arith, slice_get_within _ n node is, seen-length c.args.act.way.mirrored c.args.act.prepared.now)), ← kept) (c.take.ensures.took n node there is)
 
 -- the state's row is that one
 codes : (c : After-intern-code) → TookBy (nodes_of c.args.act.way c.args.act.prepared.now) c.args.act.root (bits (length c.args.act.prepared.now.nodes) (row_of c.args.self.now.rows (leaves_row c.args.from))) (Some c.args.byte) (has_mark (row_of c.take.new.rows 1)) →

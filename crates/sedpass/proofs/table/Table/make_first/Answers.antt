@@ -1,4 +1,4 @@
-use Rattle.sedpass.proofs.Words.{◌≡◌, ◌↔◌, Bool, Enters-from, InTree, IsTrue, Set, Some, Starts, Took, arith, false, null_in, slice_get, true, nodes_of, refl, rules, seen-arena, sym, true≢false, List, ℕ}
+use Rattle.sedpass.proofs.Words.{Enters-from, false, null_in, true, nodes_of, refl, rules, seen-arena, true≢false}
 use Rattle.sedpass.proofs.FactLemmas.{inside_seen, null_shows}
 use Rattle.sedpass.proofs.FollowLemmas.{row_of_place}
 use Rattle.sedpass.proofs.TableLemmas.{adds_rows, keeps_made, names_map, table_rows}
