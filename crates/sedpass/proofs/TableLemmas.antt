@@ -223,9 +223,7 @@ emptied p t epoch takers expr room layout later right =
 pub leads_on : (act : Act) (a b : PassState) (byte : ℕ) (edge : Bool) → act.root ≡ a.root → act.kind ≡ edge_kind act.way.mirrored edge → IsMade act byte a.entered b → LeadsOn act.prepared.now act.way a byte edge b
 leads_on act a b byte edge root kind made = search rules
 
--- The state with whose row an act begins.
-
--- that to which a state leads of which fewer leaves took the byte
+-- the state with whose row an act begins: that to which a state leads of which fewer leaves took the byte
 pub base_next : (act : Act) (byte : ℕ) (edge : Bool) (leaves takers before after : List Bool) (a b : PassState) → a.root ≡ act.root → act.kind ≡ edge_kind act.way.mirrored edge → act.root < length act.prepared.now.nodes → IsArena (nodes_of act.way act.prepared.now) →
     a.entered ≡ bits (length act.prepared.now.nodes) leaves → AreTakers (nodes_of act.way act.prepared.now) byte takers →
     ((c : ℕ) → c < length act.prepared.now.nodes → has_mark before c ≡ ((has_mark leaves c && has_mark takers c) || has_mark after c)) → LeadsOn act.prepared.now act.way a byte edge b → IsBase act before after b
@@ -241,8 +239,7 @@ base_next act byte edge leaves takers before after a b root kind inside arena en
           let node = node_at nodes c (omega (arith, lt, seen-length act.way.mirrored e)) in
           let law = leads.1.1 c node.0 (rw root there) node.1 in
           let here : a.entered c ≡ has_mark leaves c = ap (λ (f : ℕ → Bool). f c) entered ∙ bits_here (length e.nodes) leaves c lt in
-          let same : leads.1.0 c ≡ (has_mark leaves c && has_mark takers c) = same_truth _ _ (λ h. search (rules, law.0, and_from, are c node.0 node.1)) (λ h. let parts = and_parts (has_mark leaves c) (has_mark takers c) h in search (rules, law.1, are c node.0 node.1)) in
-          rw same (others c lt);
+          rw (same_truth (leads.1.0 c) (has_mark leaves c && has_mark takers c) (λ h. search (rules, law.0, and_from, are c node.0 node.1)) (λ h. let parts = and_parts (has_mark leaves c) (has_mark takers c) h in search (rules, law.1, are c node.0 node.1))) (others c lt);
     }
 
 -- where nothing else took the byte it is that to which the act leads
@@ -252,8 +249,7 @@ base_made act byte leaves before after a arena inside none shows base =
     let row = took_same _ _ _ _ _ _ _ _ _ (λ c there. base.others c there ∙ ap (λ b. base.own_leaves c || b) (none c (omega (arith, InTree-inside _ arena act.root c there, inside))) ∙ or-false (base.own_leaves c)) base.own_row in
     record { root = base.root; comes_next = (has_mark before, shows, row) }
 
--- What a code names.
-
+-- what a code names
 module _ (p : WrittenExpression) (t : Table) (table : IsTable p t) (P : PassState → Type 0) (v o : ℕ) (n : NamesState (length p.nodes) t P v) (shows : (flags : StateFlags) (u : ℕ) → u < 536870912 → v ≡ code_of flags u → o ≡ u) where
   small_offset : n.to * 2 ^ t.layout.shift < 536870912
   small_offset = few_offset n.to t.room t.layout.shift (let low = n.there in let most = table.room.count in omega arith) table.room.rows.few table.layout.small
@@ -312,25 +308,19 @@ keeps_made n a b c one two = search (rules, one.same, two.same)
 
 -- nor where one is made
 module _ (p : WrittenExpression) (t : Table) (rows : List (List Bool)) (keeps : KeepsRows (IsApart 2 t.count) t.rows rows) where
-  abbrev with_rows : Table
-  with_rows = record t { rows = rows }
-
-  same_states : AddsStates (length p.nodes) t with_rows
+  same_states : AddsStates (length p.nodes) t (record t { rows = rows })
   same_states = search rules
 
-  pub table_rows : IsTable p t → t.count < t.room → IsTable p with_rows
-  table_rows table some = let old = table.room in table_more p t with_rows same_states refl table (search rules) (λ q low. inl low) (λ q k low near some. inl (low, refl)) (λ root kind. inl refl) (search (rules, keeps.same, table.takers)) (inl refl)
+  pub table_rows : IsTable p t → t.count < t.room → IsTable p (record t { rows = rows })
+  table_rows table some = let old = table.room in table_more p t _ same_states refl table (search rules) (λ q low. inl low) (λ q k low near some. inl (low, refl)) (λ root kind. inl refl) (search (rules, keeps.same, table.takers)) (inl refl)
 
-  pub adds_rows : (new : Table) → AddsStates (length p.nodes) with_rows new → AddsStates (length p.nodes) t new
+  pub adds_rows : (new : Table) → AddsStates (length p.nodes) (record t { rows = rows }) new → AddsStates (length p.nodes) t new
   adds_rows new adds = search (rules, same_states, adds)
 
 -- nor where a row of takers is made
 module _ (p : WrittenExpression) (t : Table) (rows : List (List Bool)) (z : ℕ) (takers : List Bool) (before : z < leaves_row 0) (keeps : KeepsRows (λ q. IsApart 2 t.count q × (q ≢ z)) t.rows rows) where
-  abbrev with_notes : Table
-  with_notes = record t { rows = rows; has_takers = takers }
-
-  noted_states : AddsStates (length p.nodes) t with_notes
+  noted_states : AddsStates (length p.nodes) t (record t { rows = rows; has_takers = takers })
   noted_states = search (rules, keeps.same)
 
-  pub table_notes : IsTable p t → HasTakers p with_notes → IsTable p with_notes
-  table_notes table right = let old = table.room in table_more p t with_notes noted_states refl table (search rules) (λ q low. inl low) (λ q k low near some. inl (low, refl)) (λ root kind. inl refl) right (inl refl)
+  pub table_notes : IsTable p t → HasTakers p (record t { rows = rows; has_takers = takers }) → IsTable p (record t { rows = rows; has_takers = takers })
+  table_notes table right = let old = table.room in table_more p t _ noted_states refl table (search rules) (λ q low. inl low) (λ q k low near some. inl (low, refl)) (λ root kind. inl refl) right (inl refl)

@@ -1,20 +1,16 @@
 use Rattle.std.proofs.lemmas.Option.{IfSome_then}
-use Rattle.sedpass.proofs.Words.{Takes, rules, ◌*◌, ends_row, Codes, IfSome, IsMade, IsTrue, None, Option, RowIs, Some, TookBy, arith, bits, false, has_mark, is_some, leaves_row, length, nodes_of, refl, root_of, row_of, seen-arena, seen-length, slice_get_within, sym, true≢false, ℕ, ◌<◌, ◌∙◌, ◌≡◌}
+use Rattle.sedpass.proofs.Words.{Takes, rules, ◌*◌, ends_row, Codes, IfSome, IsMade, IsTrue, None, Option, RowIs, Some, TookBy, arith, bits, false, has_mark, is_some, leaves_row, length, nodes_of, refl, root_of, row_of, seen-arena, seen-length, slice_get_within, sym, true≢false, ℕ, ◌∙◌, ◌≡◌}
 use Rattle.sedpass.proofs.FollowLemmas.{took_same}
 use Rattle.sedpass.proofs.RowLemmas.{InTree-inside, bits_here}
 use Rattle.sedpass.proofs.TableLemmas.{adds_none, adds_rows, base_made, keeps_made, keeps_states, named_state, names_map, names_offset, table_rows, with_link}
 use Rattle.sedpass.proofs.table.Table.make.Goals.{After-intern-code, After-take}
 use Rattle.sedpass.proofs.table.Table.make.Goals as goal
 
--- there is room for a state
-room : (c : After-take) → c.find_takers-takers.new.self.count < c.find_takers-takers.new.self.room
-room c = omega (arith, c.make_room.ensures.room, c.find_takers-takers.ensures.count, c.find_takers-takers.ensures.shape.1)
-
 pub is_alone-alone-requires : goal.is_alone-alone-requires
-is_alone-alone-requires c = record { table = table_rows _ _ _ (keeps_states 1 _ _ _ (omega arith) c.take.ensures.keeps) c.find_takers-takers.ensures.table (room (goal.at.is_alone-alone-requires c).After-take) }
+is_alone-alone-requires c = record { table = table_rows _ _ _ (keeps_states 1 _ _ _ (omega arith) c.take.ensures.keeps) c.find_takers-takers.ensures.table (omega arith) }
 
 pub base-base-requires-clause-table : goal.base-base-requires-clause-table
-base-base-requires-clause-table c = table_rows _ _ _ (keeps_states 1 _ _ _ (omega arith) c.take.ensures.keeps) c.find_takers-takers.ensures.table (room (goal.at.base-base-requires-clause-table c).After-take)
+base-base-requires-clause-table c = table_rows _ _ _ (keeps_states 1 _ _ _ (omega arith) c.take.ensures.keeps) c.find_takers-takers.ensures.table (omega arith)
 
 pub base-base-requires-clause-takers : goal.base-base-requires-clause-takers
 base-base-requires-clause-takers c = IfSome_then c.find_takers-takers.result c.find_takers-takers.ensures.takers (λ q is. search (rules, c.take.ensures.keeps.same, is))
@@ -26,7 +22,7 @@ pub descend-requires-clause-base : goal.descend-requires-clause-base
 descend-requires-clause-base c = IfSome_then c.named-base.result (named_state _ _ c.base-base.ensures.table _ _ _ c.named-base.ensures.some c.named-base.ensures.named c.base-base.ensures.base) (λ q is. is.0)
 
 pub intern-code-requires-clause-table : goal.intern-code-requires-clause-table
-intern-code-requires-clause-table c = table_rows _ _ _ (keeps_made _ _ _ _ c.ascend.ensures.keeps c.descend.ensures.keeps) c.base-base.ensures.table (omega (arith, room (goal.at.intern-code-requires-clause-table c).After-take, c.base-base.ensures.count, c.base-base.ensures.shape.1))
+intern-code-requires-clause-table c = table_rows _ _ _ (keeps_made _ _ _ _ c.ascend.ensures.keeps c.descend.ensures.keeps) c.base-base.ensures.table (omega arith)
 
 -- the row that is made follows from the leaves that took the byte
 row : (c : After-intern-code) (base : Option ℕ) → c.named-base.result ≡ base → RowIs c.args.act c.args.act.way.all_starts (has_mark (row_of c.take.new.rows 1)) c.descend.new.rows c.base-base.new.self.count
@@ -86,8 +82,7 @@ returns-then-alone-clause-codes c =
     let alone = c.is_alone-alone.ensures.alone.0 c.if-alone.true in
     let root : act.root ≡ root_of e = whole c.find_takers-takers.result _ _ alone.0 c.find_takers-takers.ensures.takers (λ q is. is.2) in
     let way : u.way ≡ act.way = c.intern-code.ensures.codes.adds.shape.0 ∙ c.base-base.ensures.shape.0 ∙ c.find_takers-takers.ensures.shape.0 ∙ c.make_room.ensures.shape.0 ∙ sym c.requires.way in
-    let arena = seen-arena act.way.mirrored e c.intern-code.ensures.codes.table.expr.arena in
-    let none = took_same _ _ _ _ _ _ (λ n. false) _ _ (λ n inside. sym (alone.2 n (omega (arith, InTree-inside (nodes_of act.way e) arena act.root n inside, c.requires.root)))) (row at.After-intern-code _ refl) in
+    let none = took_same _ _ _ _ _ _ (λ n. false) _ _ (λ n inside. sym (alone.2 n (omega (arith, InTree-inside _ (seen-arena act.way.mirrored e c.intern-code.ensures.codes.table.expr.arena) act.root n inside, c.requires.root)))) (row at.After-intern-code _ refl) in
     with_link e c.args.self.now u _ c.intern-code.result c.state_at-state.result c.unwrap_or.result (Some c.intern-code.result) (names_map _ _ _ _ _ (λ a has. (has.0 ∙ root, rw (way, has.1, has.2, ← root, ← alone.1) none)) c.intern-code.ensures.codes.names)
     (codes at.After-intern-code (took at.After-take))
 
