@@ -1,4 +1,4 @@
-use Rattle.sedpass.proofs.Words.{Enters-from, false, null_in, true, nodes_of, refl, rules, seen-arena, true≢false}
+use Rattle.sedpass.proofs.Words.{Enters-from, arith, false, nodes_of, refl, seen-arena, sym, true≢false}
 use Rattle.sedpass.proofs.FactLemmas.{inside_seen, null_shows}
 use Rattle.sedpass.proofs.FollowLemmas.{row_of_place}
 use Rattle.sedpass.proofs.TableLemmas.{adds_rows, keeps_made, names_map, table_rows}
@@ -20,7 +20,7 @@ returns-clause-codes c =
       names = names_map _ _ _ _ _ (λ a has. (
         has.0,
         λ w s there some. rw (has.1, has.2)
-            (row_of_place nodes w act.root s.first s (seen-arena act.way.mirrored e codes.table.expr.arena) (inside_seen act.way.mirrored e act.root c.requires.root) act.way.mirrored true (null_in e.nodes act.kind) (λ n. false) (null_shows act.way.mirrored e act.kind w s.first there)
-            (search (rules, some)) (λ n members in_tree is. search (rules, true≢false, Enters-from nodes w act.root s n)) _ _ row),
+            (row_of_place _ _ _ _ _ (seen-arena act.way.mirrored e codes.table.expr.arena) (inside_seen act.way.mirrored e act.root c.requires.root) _ _ _ _ (null_shows act.way.mirrored e act.kind w s.first there) ((λ h. (omega arith, some)), (λ h. refl))
+            (λ n members in_tree is. (λ h. absurd (true≢false (sym h)), λ took. absurd (omega (arith, took.1, Enters-from _ w _ s n took.0 took.2)))) _ _ row),
       )) codes.names;
     }
