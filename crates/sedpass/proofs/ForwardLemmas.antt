@@ -18,8 +18,7 @@ module _ (nodes : List Node) (w : List ℕ) (r : ℕ) (s : Starts) where
 pub none_before : (p : WrittenExpression) (way : Way) (w : List ℕ) (from : ℕ) → EndsBelow p way w from from None
 none_before p way w from k low some = search (rules, Matches-forward)
 
--- At a place: a code of its state.
-
+-- at a place: a code of its state
 module _ (p : WrittenExpression) (t : Table) (w : List ℕ) (start place code o : ℕ) (end : Option ℕ) (flags : StateFlags) (table : IsTable p t) (after : start ≤ place) (within : place ≤ length w)
     (shows : (f : StateFlags) (u : ℕ) → u < 536870912 → code ≡ code_of f u → o ≡ u) (shown : (f : StateFlags) (u : ℕ) → u < 536870912 → code ≡ code_of f u → flags ≡ f)
     (n : NamesState (length p.nodes) t (Arrives p t.way w start place) code) (last : EndsBelow p t.way w start place end) where
@@ -60,7 +59,7 @@ goes_on p t u w start byte code edge mid next expr way pass is edges names arriv
     let inside = slice_get_within w mid.place byte is in
     arrive (omega (arith, pass.after)) (omega arith)
     (subst (λ (x : Way). NamesState (length p.nodes) u (Arrives p x w start (mid.place + 1)) code) (sym way)
-    (names_map (length p.nodes) u _ (Arrives p t.way w start (mid.place + 1)) code (λ b leads. (leads.0 ∙ pass.arrived.0, leads_place p t.way w _ mid.place byte edge _ b expr (omega (arith, pass.arrived.0, expr.arena.nonempty)) is edges (search rules) pass.arrived.1 leads)) names))
+    (names_map _ _ _ (Arrives p t.way w start (mid.place + 1)) _ (λ b leads. (leads.0 ∙ pass.arrived.0, leads_place p t.way w _ _ byte edge _ b expr (omega (arith, pass.arrived.0, expr.arena.nonempty)) is edges (search rules) pass.arrived.1 leads)) names))
     (subst (λ (x : Way). EndsBelow p x w start (mid.place + 1) mid.end) (sym way) pass.last)
 
 -- where the text's edge doesn't come

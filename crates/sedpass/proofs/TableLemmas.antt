@@ -129,7 +129,7 @@ module _ (p : WrittenExpression) (t t' : Table) (adds : AddsStates (length p.nod
   -- the table is right, if each state, cell and beginning is that isn't as it was
   pub table_more : IsTable p t → HasRoom m t' → ((q : ℕ) → q < t'.count → (q < t.count) ⊎ ((state_of m t' q).root < m)) →
       ((q k : ℕ) → q < t'.count → k < cells_in t'.layout → 0 < cell_of t' q k → ((q < t.count) × (cell_of t' q k ≡ cell_of t q k)) ⊎ NamesState m t' (LeadsBy p t' q k) (cell_of t' q k)) →
-      ((root : ℕ) (kind : PlaceKind) → (beginning_of t' (beginning_at t.way.all_starts root kind) ≡ beginning_of t (beginning_at t.way.all_starts root kind)) ⊎ Begun p t' t'.way root kind) → HasTakers p t' → (t'.origin ≡ t.origin) ⊎ HasOrigin p t' → IsTable p t'
+      ((r : ℕ) (kind : PlaceKind) → (beginning_of t' (beginning_at t.way.all_starts r kind) ≡ beginning_of t (beginning_at t.way.all_starts r kind)) ⊎ Begun p t' t'.way r kind) → HasTakers p t' → (t'.origin ≡ t.origin) ⊎ HasOrigin p t' → IsTable p t'
   table_more table room roots cells begins takers origin = record {
     expr = table.expr;
     room = room;
@@ -158,8 +158,9 @@ module _ (p : WrittenExpression) (t : Table) (cells : Vec ℕ Global) (beginning
   names_noted P v n = search (rules, n)
 
   -- what a table names
-  coded : (old : Table) (P : PassState → Type 0) (v : ℕ) → Codes p old t P v → vec_capacity cells ≡ vec_capacity t.cells → HasRoom (length p.nodes) noted → ((q k : ℕ) → k < cells_in t.layout → (cell_of noted q k ≡ cell_of t q k) ⊎ NamesState (length p.nodes) noted (LeadsBy p t q k) (cell_of noted q k)) →
-      ((root : ℕ) (kind : PlaceKind) → (beginning_of noted (beginning_at t.way.all_starts root kind) ≡ beginning_of t (beginning_at t.way.all_starts root kind)) ⊎ Begun p noted t.way root kind) → IfSome origin (NamesState (length p.nodes) t (IsOrigin p t.way)) → Codes p old noted P v
+  coded : (old : Table) (P : PassState → Type 0) (v : ℕ) → Codes p old t P v → vec_capacity cells ≡ vec_capacity t.cells → HasRoom (length p.nodes) noted →
+      ((q k : ℕ) → k < cells_in t.layout → (cell_of noted q k ≡ cell_of t q k) ⊎ NamesState (length p.nodes) noted (LeadsBy p t q k) (cell_of noted q k)) → ((r : ℕ) (kind : PlaceKind) →
+      (beginning_of noted (beginning_at t.way.all_starts r kind) ≡ beginning_of t (beginning_at t.way.all_starts r kind)) ⊎ Begun p noted t.way r kind) → IfSome origin (NamesState (length p.nodes) t (IsOrigin p t.way)) → Codes p old noted P v
   coded old P v codes same room cells begins is =
       let table = table_more p t noted (search rules) refl codes.table room (λ q low. inl low) (λ q k low near some. elim (cells q k near) [ inl e ↦ inl (low, e) | inr new ↦ inr new ]) begins codes.table.takers (inr (IfSome_then origin is (names_noted _))) in
       let adds = codes.adds in search (rules, names_noted, table)
@@ -181,7 +182,7 @@ module _ (p : WrittenExpression) (old t : Table) where
       let leads : NamesState (length p.nodes) t (LeadsBy p t q k) v = names_map _ _ _ _ v (λ b next o end few at.
       let one = cell_apart p.nodes t.way.mirrored t.layout table.layout byte o edge end small few (sym is ∙ at) in
       let on = leads_more p old t codes.adds epoch q (rw codes.adds.shape.2 from.0) b byte edge (rw codes.adds.shape.2 next) in
-      leads_alike p t.way (state_of (length p.nodes) t q) b byte o edge end (seen-arena t.way.mirrored p table.expr.arena) (table.roots q there.0) (bytes_alike p.nodes t.way.mirrored t.layout table.layout byte o small few filled (sym one.0)) one.1 on) codes.names in
+      leads_alike p t.way (state_of (length p.nodes) t q) b byte o edge end (seen-arena t.way.mirrored p table.expr.arena) (table.roots q there.0) (bytes_alike _ _ _ table.layout byte o small few filled (sym one.0)) one.1 on) codes.names in
       coded p t (with_item t.cells (offset + k) v) t.beginnings t.links t.origin old _ v codes refl (search (rules, length-set)) (λ x j near. elim (one_set 0 t.cells.items (offset + k) v (x * size + j) inside) [
         | inl e ↦ let at = same_from_place x j q k size (omega (arith, near, table.layout.fits)) (omega (arith, narrow, table.layout.fits)) (omega (arith, e.0, there.1)) in inr (rw (e.1, at.1, at.0) (names_noted p t _ _ _ _ _ v leads))
         | inr other ↦ inl other
@@ -239,12 +240,12 @@ base_next act byte edge leaves takers before after a b root kind inside arena en
           let node = node_at nodes c (omega (arith, lt, seen-length act.way.mirrored e)) in
           let law = leads.1.1 c node.0 (rw root there) node.1 in
           let here : a.entered c ≡ has_mark leaves c = ap (λ (f : ℕ → Bool). f c) entered ∙ bits_here (length e.nodes) leaves c lt in
-          rw (same_truth (leads.1.0 c) (has_mark leaves c && has_mark takers c) (λ h. search (rules, law.0, and_from, are c node.0 node.1)) (λ h. let parts = and_parts (has_mark leaves c) (has_mark takers c) h in search (rules, law.1, are c node.0 node.1))) (others c lt);
+          rw (same_truth (leads.1.0 c) (has_mark leaves c && has_mark takers c) (λ h. search (rules, law.0, and_from, are c node.0 node.1)) (λ h. search (rules, and_parts (has_mark leaves c) (has_mark takers c) h, law.1, are c node.0 node.1))) (others c lt);
     }
 
 -- where nothing else took the byte it is that to which the act leads
-pub base_made : (act : Act) (byte : ℕ) (leaves : ℕ → Bool) (before after : List Bool) (a : PassState) → IsArena (nodes_of act.way act.prepared.now) → act.root < length act.prepared.now.nodes → ((c : ℕ) → c < length act.prepared.now.nodes → has_mark after c ≡ false) →
-    TookBy (nodes_of act.way act.prepared.now) act.root leaves (Some byte) (has_mark before) → IsBase act before after a → IsMade act byte leaves a
+pub base_made : (act : Act) (byte : ℕ) (leaves : ℕ → Bool) (before after : List Bool) (a : PassState) → IsArena (nodes_of act.way act.prepared.now) → act.root < length act.prepared.now.nodes →
+    ((c : ℕ) → c < length act.prepared.now.nodes → has_mark after c ≡ false) → TookBy (nodes_of act.way act.prepared.now) act.root leaves (Some byte) (has_mark before) → IsBase act before after a → IsMade act byte leaves a
 base_made act byte leaves before after a arena inside none shows base =
     let row = took_same _ _ _ _ _ _ _ _ _ (λ c there. base.others c there ∙ ap (λ b. base.own_leaves c || b) (none c (omega (arith, InTree-inside _ arena act.root c there, inside))) ∙ or-false (base.own_leaves c)) base.own_row in
     record { root = base.root; comes_next = (has_mark before, shows, row) }
@@ -268,11 +269,11 @@ module _ (p : WrittenExpression) (t : Table) (table : IsTable p t) (P : PassStat
   names_flags shown show = rw (offset_is.1, show n.flags _ small_offset n.code) n.shown
 
 -- a code's state has a number
-pub named_state : (p : WrittenExpression) (t : Table) → IsTable p t → (P : PassState → Type 0) (code base : Option ℕ) → (code ≡ None → base ≡ None) → IfSome base (λ q. IfSome code (λ v. (o : ℕ) × (q ≡ o / 2 ^ t.layout.shift) × ((flags : StateFlags) (u : ℕ) → u < 536870912 → v ≡ code_of flags u → o ≡ u))) →
-    IfSome code (NamesState (length p.nodes) t P) → IfSome base (λ q. (q < t.count) × P (state_of (length p.nodes) t q))
-named_state p t table P code None none named names = search rules
-named_state p t table P None (Some q) none named names = let is = none refl in cc
-named_state p t table P (Some v) (Some q) none named names = rw named.1 ((names_offset p t table P v named.0 names named.2).0, names_state p t table P v named.0 names named.2)
+pub named_state : (p : WrittenExpression) (t : Table) → IsTable p t → (P : PassState → Type 0) (code base : Option ℕ) → IfSome code (NamesState (length p.nodes) t P) → (code ≡ None → base ≡ None) →
+    IfSome base (λ q. IfSome code (λ v. (o : ℕ) × (q ≡ o / 2 ^ t.layout.shift) × ((flags : StateFlags) (u : ℕ) → u < 536870912 → v ≡ code_of flags u → o ≡ u))) → IfSome base (λ q. (q < t.count) × P (state_of (length p.nodes) t q))
+named_state p t table P code None names none named = search rules
+named_state p t table P None (Some q) names none named = let is = none refl in cc
+named_state p t table P (Some v) (Some q) names none named = rw named.1 ((names_offset p t table P v named.0 names named.2).0, names_state p t table P v named.0 names named.2)
 
 -- what a cell holds
 module _ (p : WrittenExpression) (t : Table) (table : IsTable p t) (offset byte : ℕ) (edge : Bool) (at : IsOffset t offset) (small : byte < 256) where

@@ -20,8 +20,9 @@ loop-at-preserved-then-is_plain c =
     let names = rw same at (c.known-cell.ensures.leads (c.is_plain.ensures.some c.if-is_plain.true)) in
     let shows = plain_shows _ _ c.plain_offset-then-is_plain.ensures (c.is_plain.ensures.plain c.if-is_plain.true) in
     let offset = names_offset _ _ c.requires.table _ _ _ names (λ f u small is. (shows f u small is).0) in
-    let passes : (start : ℕ) → PassIs c.args.prepared.now c.args.self.now c.args.text.now start c.args.from → PassIs c.args.prepared.now c.args.self.now c.args.text.now start (record { offset = c.plain_offset-then-is_plain.result; place = at.place + 1; end = at.end; over = at.over }) =
-    λ start pass. goes_on _ _ _ _ _ _ _ _ _ _ c.requires.table.expr refl (old.passes start pass) one.byte (not_last _ _ _ c.loop-at-test.true c.requires.to) names
+    let passes : (start : ℕ) → PassIs c.args.prepared.now c.args.self.now c.args.text.now start c.args.from →
+    PassIs c.args.prepared.now c.args.self.now c.args.text.now start (record { offset = c.plain_offset-then-is_plain.result; place = at.place + 1; end = at.end; over = at.over }) = λ start pass.
+    goes_on _ _ _ _ _ _ _ _ _ _ c.requires.table.expr refl (old.passes start pass) one.byte (not_last _ _ _ c.loop-at-test.true c.requires.to) names
     (λ after within named last. arrive_at _ _ _ _ _ _ _ _ _ c.requires.table after within (λ f u small is. (shows f u small is).0) (λ f u small is. (shows f u small is).1) named last _ _ refl (λ h. absurd (true≢false (sym h ∙ old.over)))) in
     search (rules, old, one.cost, offset, passes, c.requires.to, c.plain_offset-then-is_plain.ensures)
 
@@ -44,5 +45,6 @@ returns-clause-passes c start pass =
       | then-loop-at-test+else-is_plain+then-cell-eq0 w ↦ rw w.at-is before
       | then-loop-at-test+else-is_plain+else-cell-eq0+then-at w ↦
           let same : w.plain_offset.result ≡ c.loop-at.at.offset = omega (arith, w.plain_offset.ensures, c.loop-at.invariant.code) in
-          rw w.at-is (goes_on _ _ _ _ _ _ _ _ _ _ c.requires.table.expr refl before w.byte-byte.ensures.byte (not_last _ _ _ w.loop-at-test.true c.requires.to) (rw same at (w.known-cell.ensures.leads (omega (arith, w.if-cell-eq0.false)))) (w.arrive-at.ensures.passes start))
+          rw w.at-is (goes_on _ _ _ _ _ _ _ _ _ _ c.requires.table.expr refl before w.byte-byte.ensures.byte (not_last _ _ _ w.loop-at-test.true c.requires.to)
+          (rw same at (w.known-cell.ensures.leads (omega (arith, w.if-cell-eq0.false)))) (w.arrive-at.ensures.passes start))
     ]

@@ -1,4 +1,4 @@
-use Rattle.sedpass.proofs.Words.{◌+◌, ◌*◌, ◌≤◌, ◌-◌, ◌<◌, arith, length, nat_eq, rules, common_steps, TakesAtLeast, IsCounted, not-false, eqb-true, eq-eqb, root_of, PassIs, IsPassEnd, starts_of}
+use Rattle.sedpass.proofs.Words.{◌+◌, ◌*◌, ◌≤◌, ◌<◌, arith, length, rules, common_steps, TakesAtLeast, IsCounted, not-false, eqb-true, eq-eqb, root_of, PassIs, IsPassEnd, starts_of}
 use Rattle.sedpass.proofs.KeptLemmas.{same_shape}
 use Rattle.sedpass.proofs.ForwardLemmas.{end_found, end_longest, end_passes, goes_on, names_first, none_before, pass_grows, seen_end}
 use Rattle.sedpass.proofs.table.Table.run.Goals as goal
@@ -33,7 +33,7 @@ loop-here-preserved-then-not-here c =
     let inside : c.loop-here.here.place < length c.args.text.now = grind (arith, common_steps) in
     let cost : c.next-code.new.steps + 40 * length c.args.prepared.now.nodes * c.args.at ≤ c.args.steps.now + 40 * length c.args.prepared.now.nodes * (c.arrive-here-then-not-here.result.place + 1) =
     rw at.place (omega (arith, i.cost.1, up.cost.1, byte.cost.0.1, next.cost.1, pass_grows _ _ _ i.table.expr.arena.nonempty up.after)) in
-    let passes : PassIs c.args.prepared.now c.next-code.new.self c.args.text.now c.args.at c.arrive-here-then-not-here.result = goes_on _ _ _ _ _ _ _ (nat_eq c.follow-here.result.place (c.len-last.result - 1)) _ _ c.requires.table.expr next.codes.adds.shape.0 (up.passes c.args.at i.passes) byte.byte
+    let passes : PassIs c.args.prepared.now c.next-code.new.self c.args.text.now c.args.at c.arrive-here-then-not-here.result = goes_on _ _ _ _ _ _ _ _ _ _ c.requires.table.expr next.codes.adds.shape.0 (up.passes c.args.at i.passes) byte.byte
     ((λ h. omega (arith, eqb-true _ _ h, c.len-last.ensures.is, inside)), (λ e. eq-eqb _ _ (omega (arith, e, c.len-last.ensures.is)))) next.codes.names (at.passes c.args.at) in
     search (rules, next.codes, same_shape c.args.self.now c.loop-here.self c.next-code.new.self i.shape next.codes.adds.shape, at, passes, cost, i, up, byte, next)
 

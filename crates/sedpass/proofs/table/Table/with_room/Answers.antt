@@ -3,9 +3,11 @@ use Rattle.sedpass.proofs.TableLemmas.{has_parts, same_all}
 use Rattle.sedpass.proofs.table.Table.with_room.Goals as goal
 
 pub returns : goal.returns
-returns c =
-    let items = c.in_ok-vec-3.ensures.items_if_clones_equal (λ y h. h) in
-    let new = c.in_ok-new.ensures in
-    let reserved = rw c.min.ensures at c.in_ok-with_capacity.ensures.capacity in
-    record { table = (λ layout small tight. has_parts _ refl (search (rules, new.marks, c.in_ok-vec.ensures.len)) small tight reserved (omega (arith, c.in_ok-vec-4.ensures.len, c.in_ok-vec-4.field-0.ok)) (omega (arith, c.in_ok-vec-2.ensures.len, c.in_ok-vec-2.field-0.ok))
-        (λ root kind low. grind (arith, c.in_ok-vec-3.ensures.len)) (λ i. search (rules, items, same_all)), refl, refl) }
+returns c = record {
+  table = (
+    λ layout small tight. has_parts _ refl (search (rules, c.in_ok-new.ensures, c.in_ok-vec.ensures.len)) small tight (rw c.min.ensures at c.in_ok-with_capacity.ensures.capacity) (omega (arith, c.in_ok-vec-4.ensures.len, c.in_ok-vec-4.field-0.ok))
+        (omega (arith, c.in_ok-vec-2.ensures.len, c.in_ok-vec-2.field-0.ok)) (λ root kind low. grind (arith, c.in_ok-vec-3.ensures.len)) (λ i. search (rules, c.in_ok-vec-3.ensures.items_if_clones_equal (λ y h. h), same_all)),
+    refl,
+    refl,
+  );
+}
