@@ -37,26 +37,23 @@ codes_new p t u q root v flags table adds there inside ends dead has code =
 
 -- what is known of the cells for bytes
 module _ (nodes : List Node) (mirrored : Bool) (layout : Layout) (is : IsLayout nodes mirrored layout) where
-  column_low : (byte : ℕ) → byte < 256 → column_for layout byte < layout.columns
-  unfolding AreColumns
-  column_low = is.bytes.0
-
   pub bytes_alike : (one other : ℕ) → one < 256 → other < 256 → column_for layout one < layout.filled → column_for layout one ≡ column_for layout other → SameBytes nodes (Some one) (Some other)
   unfolding AreColumns
   bytes_alike = is.bytes.1
 
   pub cell_low : (byte : ℕ) (edge : Bool) → byte < 256 → cell_for layout byte edge < cells_in layout
-  cell_low byte true small = omega (arith, column_low byte small)
-  cell_low byte false small = omega (arith, column_low byte small)
+  unfolding AreColumns
+  cell_low byte true small = omega (arith, is.bytes.0 byte small)
+  cell_low byte false small = omega (arith, is.bytes.0 byte small)
 
   -- a cell is of one column, at the edge or elsewhere, unless that tells nothing
   cell_apart : (byte other : ℕ) (edge end : Bool) → byte < 256 → other < 256 → cell_for layout byte edge ≡ cell_for layout other end →
       (column_for layout other ≡ column_for layout byte) × ((x : ℕ) → x < length nodes → null_in nodes (edge_kind mirrored end) x ≡ null_in nodes (edge_kind mirrored edge) x)
-  unfolding HasEdgeCells
+  unfolding AreColumns HasEdgeCells
   cell_apart byte other true true small small' same = (omega (arith, same), λ x lt. refl)
   cell_apart byte other false false small small' same = (sym same, λ x lt. refl)
-  cell_apart byte other true false small small' same = elim is.edges [ inl apart ↦ absurd (omega (arith, same, apart, column_low other small')) | inr none ↦ (omega (arith, same, none.0), λ x lt. sym (none.1 x lt)) ]
-  cell_apart byte other false true small small' same = elim is.edges [ inl apart ↦ absurd (omega (arith, same, apart, column_low byte small)) | inr none ↦ (omega (arith, same, none.0), none.1) ]
+  cell_apart byte other true false small small' same = elim is.edges [ inl apart ↦ absurd (omega (arith, same, apart, is.bytes.0 other small')) | inr none ↦ (omega (arith, same, none.0), λ x lt. sym (none.1 x lt)) ]
+  cell_apart byte other false true small small' same = elim is.edges [ inl apart ↦ absurd (omega (arith, same, apart, is.bytes.0 byte small)) | inr none ↦ (omega (arith, same, none.0), none.1) ]
 
 -- a leaf takes bytes of one class alike, however the expression is seen
 taken_alike : (mirrored : Bool) (e : WrittenExpression) (byte other : ℕ) → SameBytes e.nodes (Some byte) (Some other) → (c : ℕ) (node : Node) → slice_get (seen mirrored e).nodes c ≡ Some node → TakenBy (Some byte) node ↔ TakenBy (Some other) node
@@ -75,10 +72,6 @@ leads_alike e way a b byte other edge end arena inside same null leads =
     let long = seen-length way.mirrored e in
     search (rules, took, null_same, null, leads)
 
--- the kind of the place is that of one that is no beginning, and maybe the edge
-kind_is : (mirrored edge : Bool) → (at_begin mirrored (edge_kind mirrored edge) ≡ false) × (at_edge mirrored (edge_kind mirrored edge) ≡ edge)
-kind_is mirrored edge = grind arith
-
 -- the state after is that of the next place
 pub leads_place : (e : WrittenExpression) (way : Way) (w : List ℕ) (s : Starts) (p byte : ℕ) (edge : Bool) (a b : PassState) → IsExpr e.nodes e.groups → a.root < length e.nodes → slice_get w p ≡ Some byte → (IsTrue edge ↔ (p + 1 ≡ length w)) →
     (IsTrue way.all_starts ↔ IsStart s (p + 1)) → StateAt (nodes_of way e) w s way.mirrored p a → LeadsOn e way a byte edge b → StateAt (nodes_of way e) w s way.mirrored (p + 1) b
@@ -86,7 +79,7 @@ leads_place e way w s p byte edge a b expr inside read last starts at leads =
     let nodes = nodes_of way e in
     let arena = seen-arena way.mirrored e expr.arena in
     let kind = edge_kind way.mirrored edge in
-    let place : IsPlace w (p + 1) (at_begin way.mirrored kind) (at_edge way.mirrored kind) = search (rules, kind_is, last) in
+    let place : IsPlace w (p + 1) (at_begin way.mirrored kind) (at_edge way.mirrored kind) = grind (arith, last) in
     let shows = row_took nodes w a.root p s way.mirrored a.entered a.ended (Some byte) (λ x m set. ap (λ k. byte_is_in k m) read) at in
     let takes : (c : ℕ) (members : List Bool) → InTree nodes a.root c → slice_get nodes c ≡ Some (Set members) → IsTrue (leads.1.0 c) ↔ Took nodes w a.root s (p + 1) c members = search (rules, leads.1.1, shows, and_from, and_parts) in
     rw leads.0 (row_of_place _ _ _ _ _ arena (omega (arith, inside, seen-length way.mirrored e)) _ _ _ _ (null_shows way.mirrored e kind w (p + 1) place) starts takes _ _ leads.1.2)
@@ -309,19 +302,13 @@ keeps_made n a b c one two = search (rules, one.same, two.same)
 
 -- nor where one is made
 module _ (p : WrittenExpression) (t : Table) (rows : List (List Bool)) (keeps : KeepsRows (IsApart 2 t.count) t.rows rows) where
-  same_states : AddsStates (length p.nodes) t (record t { rows = rows })
-  same_states = search rules
-
   pub table_rows : IsTable p t → t.count < t.room → IsTable p (record t { rows = rows })
-  table_rows table some = let old = table.room in table_more p t _ same_states refl table (search rules) (λ q low. inl low) (λ q k low near some. inl (low, refl)) (λ root kind. inl refl) (search (rules, keeps.same, table.takers)) (inl refl)
+  table_rows table some = let old = table.room in table_more p t _ (search rules) refl table (search rules) (λ q low. inl low) (λ q k low near some. inl (low, refl)) (λ root kind. inl refl) (search (rules, keeps.same, table.takers)) (inl refl)
 
   pub adds_rows : (new : Table) → AddsStates (length p.nodes) (record t { rows = rows }) new → AddsStates (length p.nodes) t new
-  adds_rows new adds = search (rules, same_states, adds)
+  adds_rows new adds = search (rules, keeps.same, adds)
 
 -- nor where a row of takers is made
 module _ (p : WrittenExpression) (t : Table) (rows : List (List Bool)) (z : ℕ) (takers : List Bool) (before : z < leaves_row 0) (keeps : KeepsRows (λ q. IsApart 2 t.count q × (q ≢ z)) t.rows rows) where
-  noted_states : AddsStates (length p.nodes) t (record t { rows = rows; has_takers = takers })
-  noted_states = search (rules, keeps.same)
-
   pub table_notes : IsTable p t → HasTakers p (record t { rows = rows; has_takers = takers }) → IsTable p (record t { rows = rows; has_takers = takers })
-  table_notes table right = let old = table.room in table_more p t _ noted_states refl table (search rules) (λ q low. inl low) (λ q k low near some. inl (low, refl)) (λ root kind. inl refl) right (inl refl)
+  table_notes table right = let old = table.room in table_more p t _ (search (rules, keeps.same)) refl table (search rules) (λ q low. inl low) (λ q k low near some. inl (low, refl)) (λ root kind. inl refl) right (inl refl)
