@@ -57,10 +57,9 @@ pub goes_on : (p : WrittenExpression) (t u : Table) (w : List ℕ) (start byte c
     (start ≤ mid.place + 1 → mid.place + 1 ≤ length w → NamesState (length p.nodes) u (Arrives p u.way w start (mid.place + 1)) code → EndsBelow p u.way w start (mid.place + 1) mid.end → PassIs p u w start next) → PassIs p u w start next
 goes_on p t u w start byte code edge mid next expr way pass is edges names arrive =
     let inside = slice_get_within w mid.place byte is in
-    arrive (omega (arith, pass.after)) (omega arith)
-    (subst (λ (x : Way). NamesState (length p.nodes) u (Arrives p x w start (mid.place + 1)) code) (sym way)
-    (names_map _ _ _ (Arrives p t.way w start (mid.place + 1)) _ (λ b leads. (leads.0 ∙ pass.arrived.0, leads_place p t.way w _ _ byte edge _ b expr (omega (arith, pass.arrived.0, expr.arena.nonempty)) is edges (search rules) pass.arrived.1 leads)) names))
-    (subst (λ (x : Way). EndsBelow p x w start (mid.place + 1) mid.end) (sym way) pass.last)
+    let arrived : NamesState (length p.nodes) u (Arrives p t.way w start (mid.place + 1)) code = names_map _ _ _ _ _ (λ b leads.
+    (leads.0 ∙ pass.arrived.0, leads_place p t.way w _ _ byte edge _ b expr (omega (arith, pass.arrived.0, expr.arena.nonempty)) is edges (search rules) pass.arrived.1 leads)) names in
+    arrive (omega (arith, pass.after)) (omega arith) (search (rules, way, arrived)) (search (rules, way, pass.last))
 
 -- where the text's edge doesn't come
 pub not_last : (w : List ℕ) (place to : ℕ) → place < to → to < length w → IsTrue false ↔ (place + 1 ≡ length w)

@@ -6,7 +6,6 @@ use Rattle.sedpass.proofs.LeaveLemmas.{twice}
 use Rattle.sedpass.proofs.FactLemmas.{null_shows}
 use Rattle.sedpass.proofs.FollowLemmas.{null_same, row_of_place, took_same}
 use Rattle.sedpass.proofs.RowLemmas.{InTree-inside, bits_clear, bits_here, row_took}
-use Rattle.std.proofs.Math.Bool.{or-false}
 use Rattle.std.proofs.lemmas.Option.{IfSome_then}
 
 -- places of cells
@@ -188,8 +187,7 @@ module _ (p : WrittenExpression) (old t : Table) where
       let fresh : Beginning = record { epoch = t.epoch; code = code } in
       let at = beginning_at t.way.all_starts root kind in
       let has = codes.table.room in
-      let inside : at < length t.beginnings.items = has.begins root kind (omega (arith, may.0, has.marks)) in
-      let one = λ (i : ℕ). one_set (record { epoch = 0; code = 0 }) t.beginnings.items at fresh i inside in
+      let one = λ (i : ℕ). one_set (record { epoch = 0; code = 0 }) t.beginnings.items at fresh i (has.begins root kind (omega (arith, may.0, has.marks))) in
       coded p t t.cells (with_item t.beginnings at fresh) t.links t.origin old _ code codes refl (search (rules, length-set, has.begins, has.past, has.early, one)) (λ x k near. inl refl) (λ x other. elim (one (beginning_at t.way.all_starts x other)) [
         | inl e ↦ inr (λ may' now.
             let same = same_beginning t.way.all_starts x root (root_of p) other kind may'.1 (rw (← codes.adds.shape.0) at may.1) e.0 in
@@ -240,7 +238,7 @@ base_next act byte edge leaves takers before after a b root kind inside arena en
 pub base_made : (act : Act) (byte : ℕ) (leaves : ℕ → Bool) (before after : List Bool) (a : PassState) → IsArena (nodes_of act.way act.prepared.now) → act.root < length act.prepared.now.nodes →
     ((c : ℕ) → c < length act.prepared.now.nodes → has_mark after c ≡ false) → TookBy (nodes_of act.way act.prepared.now) act.root leaves (Some byte) (has_mark before) → IsBase act before after a → IsMade act byte leaves a
 base_made act byte leaves before after a arena inside none shows base =
-    let row = took_same _ _ _ _ _ _ _ _ _ (λ c there. base.others c there ∙ ap (λ b. base.own_leaves c || b) (none c (omega (arith, InTree-inside _ arena act.root c there, inside))) ∙ or-false (base.own_leaves c)) base.own_row in
+    let row = took_same _ _ _ _ _ _ _ _ _ (λ c there. grind (arith, base.others c there, none c (omega (arith, InTree-inside _ arena act.root c there, inside)))) base.own_row in
     record { root = base.root; comes_next = (has_mark before, shows, row) }
 
 -- what a code names

@@ -6,9 +6,8 @@ pub returns-clause-table : goal.returns-clause-table
 returns-clause-table c =
     let T = c.args.self.now in
     let t = c.requires.table in
-    let old = t.room in
     let size = 2 ^ T.layout.shift in
-    let place = shifted T.count T.room T.layout.shift c.requires.room old.rows.few t.layout.small in
+    let place = shifted T.count T.room T.layout.shift c.requires.room t.room.rows.few t.layout.small in
     let long : (T.count + 1) * size ≤ length c.empty_cells.new.cells.items = omega (arith, place, c.empty_cells.ensures.long, shl_whole 1 16 T.layout.shift 64 (omega arith) (omega arith)) in
     table_more c.args.prepared.now T _ (search rules) refl t (search (rules, length-set)) (λ q low. elim (cases_eq q T.count) [ inl e ↦ inr (search rules) | inr ne ↦ inl (omega (arith, ne)) ])
     (λ q k there low some. elim (cases_eq q T.count) [

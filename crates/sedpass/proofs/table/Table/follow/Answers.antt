@@ -15,27 +15,25 @@ unfolding TakesAtLeast IsCounted
 loop-at-preserved-then-is_plain c =
     let at = c.loop-at.at in
     let old = c.loop-at.invariant in
-    let one = c.byte-byte.ensures in
     let same : c.plain_offset.result ≡ at.offset = omega (arith, c.plain_offset.ensures, old.code) in
     let names = rw same at (c.known-cell.ensures.leads (c.is_plain.ensures.some c.if-is_plain.true)) in
     let shows = plain_shows _ _ c.plain_offset-then-is_plain.ensures (c.is_plain.ensures.plain c.if-is_plain.true) in
     let offset = names_offset _ _ c.requires.table _ _ _ names (λ f u small is. (shows f u small is).0) in
     let passes : (start : ℕ) → PassIs c.args.prepared.now c.args.self.now c.args.text.now start c.args.from →
     PassIs c.args.prepared.now c.args.self.now c.args.text.now start (record { offset = c.plain_offset-then-is_plain.result; place = at.place + 1; end = at.end; over = at.over }) = λ start pass.
-    goes_on _ _ _ _ _ _ _ _ _ _ c.requires.table.expr refl (old.passes start pass) one.byte (not_last _ _ _ c.loop-at-test.true c.requires.to) names
+    goes_on _ _ _ _ _ _ _ _ _ _ c.requires.table.expr refl (old.passes start pass) c.byte-byte.ensures.byte (not_last _ _ _ c.loop-at-test.true c.requires.to) names
     (λ after within named last. arrive_at _ _ _ _ _ _ _ _ _ c.requires.table after within (λ f u small is. (shows f u small is).0) (λ f u small is. (shows f u small is).1) named last _ _ refl (λ h. absurd (true≢false (sym h ∙ old.over)))) in
-    search (rules, old, one.cost, offset, passes, c.requires.to, c.plain_offset-then-is_plain.ensures)
+    search (rules, old, c.byte-byte.ensures.cost, offset, passes, c.requires.to, c.plain_offset-then-is_plain.ensures)
 
 pub loop-at-preserved : goal.loop-at-preserved
 unfolding TakesAtLeast IsCounted
 loop-at-preserved c =
     let old = c.loop-at.invariant in
     let next = c.arrive-at.ensures in
-    let one = c.byte-byte.ensures in
     let same : c.plain_offset.result ≡ c.loop-at.at.offset = omega (arith, c.plain_offset.ensures, old.code) in
     let passes : (start : ℕ) → PassIs c.args.prepared.now c.args.self.now c.args.text.now start c.args.from → PassIs c.args.prepared.now c.args.self.now c.args.text.now start c.arrive-at.result = λ start pass.
-    goes_on _ _ _ _ _ _ _ _ _ _ c.requires.table.expr refl (old.passes start pass) one.byte (not_last _ _ _ c.loop-at-test.true c.requires.to) (rw same at (c.known-cell.ensures.leads (omega (arith, c.if-cell-eq0.false)))) (next.passes start) in
-    search (rules, old, next, one, passes, c.plain_code-code-else-is_plain.ensures)
+    goes_on _ _ _ _ _ _ _ _ _ _ c.requires.table.expr refl (old.passes start pass) c.byte-byte.ensures.byte (not_last _ _ _ c.loop-at-test.true c.requires.to) (rw same at (c.known-cell.ensures.leads (omega (arith, c.if-cell-eq0.false)))) (next.passes start) in
+    search (rules, old, next, c.byte-byte.ensures, passes, c.plain_code-code-else-is_plain.ensures)
 
 pub returns-clause-passes : goal.returns-clause-passes
 returns-clause-passes c start pass =

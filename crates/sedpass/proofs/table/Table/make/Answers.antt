@@ -60,9 +60,7 @@ whole None P Q some is up = absurd (true≢false (sym some))
 whole (Some q) P Q some is up = up q is
 
 pub index_mut-requires : goal.index_mut-requires
-index_mut-requires c =
-    let table = c.intern-code.ensures.codes.table in
-    omega (arith, (names_offset _ _ table _ _ c.offset_of.result c.intern-code.ensures.codes.names c.offset_of.ensures).0, c.state_at-state.ensures, table.room.count, table.room.links, c.intern-code.new.self.links.ok)
+index_mut-requires c = omega (arith, (names_offset _ _ c.intern-code.ensures.codes.table _ _ c.offset_of.result c.intern-code.ensures.codes.names c.offset_of.ensures).0, c.state_at-state.ensures, c.intern-code.ensures.codes.table.room)
 
 pub returns-in-Some-clause-codes : goal.returns-in-Some-clause-codes
 returns-in-Some-clause-codes c =

@@ -4,9 +4,8 @@ use Rattle.sedpass.proofs.table.Table.next_of.Goals as goal
 
 pub known-code-requires-clause-offset : goal.known-code-requires-clause-offset
 known-code-requires-clause-offset c =
-    let lt : c.args.state < c.args.self.now.count = omega (arith, c.if-state-self.false) in
-    let at = state_offset _ _ _ c.requires.table lt in
-    rw (at.0, at.1) (lt, refl)
+    let at = state_offset _ _ c.args.state c.requires.table (omega (arith, c.if-state-self.false)) in
+    rw (at.0, at.1) (omega (arith, c.if-state-self.false), refl)
 
 pub returns-then-code-eq0-clause-none : goal.returns-then-code-eq0-clause-none
 returns-then-code-eq0-clause-none c same knows =
