@@ -1,15 +1,9 @@
 -- Passes for the whole expression.
-use Rattle.sedpass.proofs.Words.{IsExpr, rules, inl, inr, ◌≡◌, ℕ, ◌+◌, ◌-◌, ◌*◌, ◌/◌, ◌^◌, ◌<◌, ◌≤◌, ◌⊎◌, ◌↔◌, Bool, true, false, List, length, Option, Some, None, IsTrue, refl, sym, subst, true≢false, arith, mul-le-mul_left, slice_get, is_some, IfSome, mul-sub, common_steps, then_some, option_or, cases_lt, cases_Bool, both_ways, slice_get_within, IsArena, expression_tree, Tree, Node, Starts, TakesAtLeast, LooksPast, HasSpan, IsStart, SomeSpan, IsLongestFrom, Matches, SomeFound, Matches-forward, Matches-within, IsPlace, StateFlags, PlaceKind, WrittenExpression, Way, Table, Passed, seen-arena, seen-length, least_less, least_since, least_both, cases_eq, nodes_of, at_begin, at_edge, root_of, PassState, state_of, FlagsShow, LeadsOn, BeginsIn, NamesState, IsTable, IsForwardOne, SameShape, code_of, starts_of, LastBelow, IsPassEnd, Arrives, EndsBelow, PassIs, is_over, ◌∙◌}
+use Rattle.sedpass.proofs.Words.{IsExpr, rules, inl, inr, ◌≡◌, ℕ, ◌+◌, ◌-◌, ◌*◌, ◌/◌, ◌^◌, ◌<◌, ◌≤◌, ◌⊎◌, ◌↔◌, Bool, true, false, List, length, Option, Some, None, IsTrue, refl, sym, subst, true≢false, arith, mul-le-mul_left, slice_get, is_some, IfSome, mul-sub, common_steps, then_some, option_or, cases_lt, cases_Bool, both_ways, slice_get_within, expression_tree, Tree, Node, Starts, TakesAtLeast, LooksPast, HasSpan, SomeSpan, IsLongestFrom, Matches, SomeFound, Matches-forward, Matches-within, StateFlags, PlaceKind, WrittenExpression, Way, Table, Passed, seen-arena, seen-length, least_less, least_since, least_both, cases_eq, nodes_of, root_of, state_of, FlagsShow, LeadsOn, BeginsIn, NamesState, IsTable, IsForwardOne, SameShape, code_of, starts_of, LastBelow, IsPassEnd, Arrives, EndsBelow, PassIs, is_over, ◌∙◌}
 use Rattle.sedpass.proofs.RowLemmas.{dead, row_root, row_empty}
-use Rattle.sedpass.proofs.TableLemmas.{leads_place, names_state, names_flags, names_shown, names_map}
-
--- The starts of a pass.
-
-last_start : (all_starts : Bool) (from : ℕ) (w : List ℕ) (i : ℕ) → from ≤ length w → IsStart (starts_of all_starts from w) i → i ≤ length w
-last_start all_starts from w i within is = search rules
+use Rattle.sedpass.proofs.TableLemmas.{leads_place, names_state, names_flags, names_map}
 
 -- Last ends.
-
 module _ (nodes : List Node) (w : List ℕ) (r : ℕ) (s : Starts) where
   last_step : (n : ℕ) (end : Option ℕ) → (SomeSpan nodes w r s n → ⊥) → LastBelow nodes w r s n end → LastBelow nodes w r s (n + 1) end
   last_step n None none last = λ k low some. elim (cases_eq k n) [ inl e ↦ none (rw e at some) | inr ne ↦ last k (omega (arith, ne)) some ]
@@ -24,34 +18,27 @@ module _ (nodes : List Node) (w : List ℕ) (r : ℕ) (s : Starts) where
 pub none_before : (p : WrittenExpression) (way : Way) (w : List ℕ) (from : ℕ) → EndsBelow p way w from from None
 none_before p way w from k low some = search (rules, Matches-forward)
 
--- At a place: a code of its state.
-
+-- at a place: a code of its state
 module _ (p : WrittenExpression) (t : Table) (w : List ℕ) (start place code o : ℕ) (end : Option ℕ) (flags : StateFlags) (table : IsTable p t) (after : start ≤ place) (within : place ≤ length w)
     (shows : (f : StateFlags) (u : ℕ) → u < 536870912 → code ≡ code_of f u → o ≡ u) (shown : (f : StateFlags) (u : ℕ) → u < 536870912 → code ≡ code_of f u → flags ≡ f)
     (n : NamesState (length p.nodes) t (Arrives p t.way w start place) code) (last : EndsBelow p t.way w start place end) where
-  abbrev here : PassState
-  here = state_of (length p.nodes) t (o / 2 ^ t.layout.shift)
-
-  arena : IsArena (nodes_of t.way p)
-  arena = seen-arena t.way.mirrored p table.expr.arena
-
-  arrived : Arrives p t.way w start place here
+  arrived : Arrives p t.way w start place (state_of (length p.nodes) t (o / 2 ^ t.layout.shift))
   arrived = names_state p t table (Arrives p t.way w start place) code o n shows
 
-  is_shown : FlagsShow here flags
+  is_shown : FlagsShow (state_of (length p.nodes) t (o / 2 ^ t.layout.shift)) flags
   is_shown = names_flags p t table (Arrives p t.way w start place) code o n shows flags shown
 
   ends_here : IsTrue flags.ends ↔ SomeSpan (nodes_of t.way p) w (root_of p) (starts_of t.way.all_starts start w) place
-  ends_here = grind (arith, row_root, arena, arrived, is_shown)
+  ends_here = grind (arith, row_root, seen-arena t.way.mirrored p table.expr.arena, arrived, is_shown)
 
   -- where no leaf is entered no match goes on
   dead_end : (noted : Option ℕ) → t.way.all_starts ≡ false → IsTrue flags.dead → EndsBelow p t.way w start (place + 1) noted → IsPassEnd t.way.all_starts (nodes_of t.way p) w (root_of p) (starts_of t.way.all_starts start w) noted
   dead_end noted single is =
-      let none = row_empty _ w here.root place _ t.way.mirrored here.entered here.ended arrived.1 (is_shown.1.0 is) in
+      let none = row_empty _ w _ place _ t.way.mirrored _ _ arrived.1 (is_shown.1.0 is) in
       let inside : root_of p < length (nodes_of t.way p) = omega (arith, table.expr.arena.nonempty, seen-length t.way.mirrored p) in
-      all_below _ w _ _ _ _ noted (λ k late some. dead _ w here.root place some.0 k _ arena (rw arrived.0 inside) none some.1 (omega (arith, (rw single at some.1).1)) (omega arith) (rw arrived.0 some.2))
+      all_below _ w _ _ _ _ noted (λ k late some. dead _ w _ place some.0 k _ (seen-arena t.way.mirrored p table.expr.arena) (rw arrived.0 inside) none some.1 (omega (arith, (rw single at some.1).1)) (omega arith) (rw arrived.0 some.2))
 
-  pub arrive_at : (noted : Option ℕ) (over : Bool) → noted ≡ option_or (then_some flags.ends place) end → over ≡ is_over t.way.all_starts flags → PassIs p t w start (record { offset = o; place = place; end = noted; over = over })
+  pub arrive_at : (noted : Option ℕ) (over : Bool) → noted ≡ option_or (then_some flags.ends place) end → (IsTrue over → IsTrue (is_over t.way.all_starts flags)) → PassIs p t w start (record { offset = o; place = place; end = noted; over = over })
   arrive_at noted over is_noted is_over =
       let all : EndsBelow p t.way w start (place + 1) noted = elim (cases_Bool flags.ends) [
         | inl is ↦ rw (is_noted, is) (omega arith, ends_here.0 is, λ k low h. omega arith)
@@ -59,20 +46,10 @@ module _ (p : WrittenExpression) (t : Table) (w : List ℕ) (start place code o 
       ] in
       search (rules, arrived, ends_here, both_ways, dead, dead_end)
 
-  -- where the state shows nothing the pass goes on
-  pub arrive_plain : ((f : StateFlags) (u : ℕ) → u < 536870912 → code ≡ code_of f u → (f.ends ≡ false) × (f.dead ≡ false)) → PassIs p t w start (record { offset = o; place = place; end = end; over = false })
-  arrive_plain plain =
-      let none = names_shown p t table (Arrives p t.way w start place) code o n shows (λ f. (flags.ends ≡ false) × (flags.dead ≡ false)) (λ f u small is. rw (shown f u small is) (plain f u small is)) in
-      arrive_at end false (rw none.0 refl) (grind (arith, none))
-
--- Further on.
-
-pub arrives_next : (p : WrittenExpression) (way : Way) (w : List ℕ) (start place byte : ℕ) (edge : Bool) (a b : PassState) → IsExpr p.nodes p.groups → start ≤ place → slice_get w place ≡ Some byte → place < length w → (IsTrue edge ↔ (place + 1 ≡ length w)) →
-    Arrives p way w start place a → LeadsOn p way a byte edge b → Arrives p way w start (place + 1) b
-arrives_next p way w start place byte edge a b expr after is inside edges here leads =
-    let starts = starts_of way.all_starts start w in
-    let next : IsTrue way.all_starts ↔ IsStart starts (place + 1) = search rules in
-    (leads.0 ∙ here.0, leads_place p way w starts place byte edge a b expr (omega (arith, here.0, expr.arena.nonempty)) is edges next here.1 leads)
+-- the code of a state that shows nothing
+pub plain_shows : (code o : ℕ) → o + 536870912 ≡ code → ((f : StateFlags) (u : ℕ) → u < 536870912 → code ≡ code_of f u → (f.ends ≡ false) × (f.dead ≡ false)) →
+    (f : StateFlags) (u : ℕ) → u < 536870912 → code ≡ code_of f u → (o ≡ u) × (record { ends = false; dead = false } ≡ f)
+plain_shows code o sum plain f u small is = let two = plain f u small is in search rules
 
 -- a pass goes on, in the table as it was or in one that was added to
 pub goes_on : (p : WrittenExpression) (t u : Table) (w : List ℕ) (start byte code : ℕ) (edge : Bool) (mid next : Passed) → IsExpr p.nodes p.groups → u.way ≡ t.way → PassIs p t w start mid → slice_get w mid.place ≡ Some byte → (IsTrue edge ↔ (mid.place + 1 ≡ length w)) →
@@ -80,26 +57,20 @@ pub goes_on : (p : WrittenExpression) (t u : Table) (w : List ℕ) (start byte c
     (start ≤ mid.place + 1 → mid.place + 1 ≤ length w → NamesState (length p.nodes) u (Arrives p u.way w start (mid.place + 1)) code → EndsBelow p u.way w start (mid.place + 1) mid.end → PassIs p u w start next) → PassIs p u w start next
 goes_on p t u w start byte code edge mid next expr way pass is edges names arrive =
     let inside = slice_get_within w mid.place byte is in
-    arrive (omega (arith, pass.after)) (omega arith)
-    (subst (λ (x : Way). NamesState (length p.nodes) u (Arrives p x w start (mid.place + 1)) code) (sym way)
-    (names_map (length p.nodes) u _ (Arrives p t.way w start (mid.place + 1)) code (λ b leads. arrives_next p t.way w start mid.place byte edge _ b expr pass.after is inside edges pass.arrived leads) names))
-    (subst (λ (x : Way). EndsBelow p x w start (mid.place + 1) mid.end) (sym way) pass.last)
+    let arrived : NamesState (length p.nodes) u (Arrives p t.way w start (mid.place + 1)) code = names_map _ _ _ _ _ (λ b leads.
+    (leads.0 ∙ pass.arrived.0, leads_place p t.way w _ _ byte edge _ b expr (omega (arith, pass.arrived.0, expr.arena.nonempty)) is edges (search rules) pass.arrived.1 leads)) names in
+    arrive (omega (arith, pass.after)) (omega arith) (search (rules, way, arrived)) (search (rules, way, pass.last))
 
--- by a cell of the table as it is, where the text's edge doesn't come
-pub goes_further : (p : WrittenExpression) (t : Table) (w : List ℕ) (start to byte code : ℕ) (mid next : Passed) → IsExpr p.nodes p.groups → mid.place < to → to < length w → PassIs p t w start mid → slice_get w mid.place ≡ Some byte →
-    NamesState (length p.nodes) t (LeadsOn p t.way (state_of (length p.nodes) t (mid.offset / 2 ^ t.layout.shift)) byte false) code →
-    (start ≤ mid.place + 1 → mid.place + 1 ≤ length w → NamesState (length p.nodes) t (Arrives p t.way w start (mid.place + 1)) code → EndsBelow p t.way w start (mid.place + 1) mid.end → PassIs p t w start next) → PassIs p t w start next
-goes_further p t w start to byte code mid next expr low inside pass is names arrive =
-    goes_on p t t w start byte code false mid next expr refl pass is ((λ h. absurd (true≢false (sym h))), (λ e. absurd (omega (arith, e, low, inside)))) names arrive
+-- where the text's edge doesn't come
+pub not_last : (w : List ℕ) (place to : ℕ) → place < to → to < length w → IsTrue false ↔ (place + 1 ≡ length w)
+not_last w place to low inside = search rules
 
--- The beginning of a pass.
-
+-- the beginning of a pass
 pub names_first : (p : WrittenExpression) (t u : Table) (w : List ℕ) (from : ℕ) (kind : PlaceKind) (code : ℕ) → u.way ≡ t.way → t.way.mirrored ≡ false → from ≤ length w → (IsTrue kind.begin ↔ (from ≡ 0)) → (IsTrue kind.end ↔ (from ≡ length w)) →
     NamesState (length p.nodes) u (BeginsIn (nodes_of t.way p) t.way (root_of p) kind) code → NamesState (length p.nodes) u (Arrives p u.way w from from) code
 names_first p t u w from kind code way mirrored low begin end names =
-    let place : IsPlace w from (at_begin t.way.mirrored kind) (at_edge t.way.mirrored kind) = rw mirrored (begin, end) in
     subst (λ (x : Way). NamesState (length p.nodes) u (Arrives p x w from from) code) (sym way)
-    (names_map (length p.nodes) u (BeginsIn (nodes_of t.way p) t.way (root_of p) kind) (Arrives p t.way w from from) code (λ a begins. (begins.0, rw (begins.0) (begins.1 w (starts_of t.way.all_starts from w) place (search rules)))) names)
+    (names_map (length p.nodes) u (BeginsIn (nodes_of t.way p) t.way (root_of p) kind) (Arrives p t.way w from from) code (λ a begins. (begins.0, rw (begins.0) (begins.1 w (starts_of t.way.all_starts from w) (rw mirrored (begin, end)) (search rules)))) names)
 
 -- The end of a pass.
 
@@ -120,18 +91,16 @@ module _ (p : WrittenExpression) (w : List ℕ) (from : ℕ) (all_starts : Bool)
 
   pub end_passes : (nodes : List Node) (r : ℕ) (starts : Starts) (s t place : ℕ) → from ≤ length w → (end : Option ℕ) → LastBelow nodes w r starts (place + 1) end → IsPassEnd all_starts p.nodes w (root_of p) (starts_of all_starts from w) end →
       TakesAtLeast s t (2 * (place - from) + 1) → IfSome end (λ j. LooksPast (expression_tree p) w from s t)
-  end_passes nodes r starts s t place low end last is looks = grind (arith, common_steps, Matches-within, arena, last_start, root_spans, least_less)
+  end_passes nodes r starts s t place low end last is looks = grind (arith, common_steps, Matches-within, root_spans, least_less)
 
 -- a pass forwards that is over, or came to the text's end
 pub seen_end : (p : WrittenExpression) (way : Way) (t : Table) (w : List ℕ) (from : ℕ) (at : Passed) → t.way ≡ way → way.mirrored ≡ false → from ≤ length w → PassIs p t w from at → (at.over ≡ true) ⊎ (length w ≤ at.place) →
     IsPassEnd way.all_starts p.nodes w (root_of p) (starts_of way.all_starts from w) at.end
-seen_end p way t w from at same mirrored low pass done = search (rules, arena, all_below, Matches-within, last_start)
+seen_end p way t w from at same mirrored low pass done = search (rules, all_below, Matches-within)
 
 -- a table of passes forwards from one start is one still
 pub forward_one_still : (p : WrittenExpression) (a b : Table) → IsForwardOne p a → IsTable p b → SameShape a b → IsForwardOne p b
 forward_one_still p a b is table shape = search rules
-
--- What is passed over.
 
 -- what passes over a match from a later place on does so from an earlier one, where the looks before went as far
 pub passes_later : (e : Tree) (w : List ℕ) (p q s t u : ℕ) → p ≤ q → s ≤ t → TakesAtLeast s t (q - p) → LooksPast e w q t u → LooksPast e w p s u

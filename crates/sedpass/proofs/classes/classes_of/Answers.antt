@@ -9,15 +9,13 @@ loop-i-init c = parted_none _ _ _ refl refl (λ b. get_or-replicate 256 b 0 0) (
 pub loop-i-preserved : goal.loop-i-preserved
 loop-i-preserved c =
     let sets = c.args.sets.now in
-    let old = c.loop-i.classes in
     let alone = c.loop-i.alone in
     let read = slice_get_read sets (length sets) c.loop-i.i c.index-sets-i.result refl (omega arith) c.index-sets-i.is in
     elim c.match-sole.branch [
       | in-Some w ↦ rw (w.classes-is, w.alone-is) (alone_more _ _ _ alone w.in-Some.byte _ _ read w.in-Some.ensures.member w.if-alone-byte.true c.loop-i.invariant)
       | in-Some-2 w ↦
-          let byte = w.in-Some.byte in
-          let fits : byte < 256 = omega (arith, rw w.in-Some.is at c.sole.type_inv) in
-          rw (w.classes-is, w.alone-is) (alone_more _ _ _ (slice_set alone byte true) byte _ _ read w.in-Some.ensures.member (get_or-set_same alone byte true false (omega (arith, c.loop-i.invariant.each, fits)))
-          (apart_more _ _ alone byte old.of old.count w.if-classes-lt256.true fits c.loop-i.invariant))
+          let fits : w.in-Some.byte < 256 = omega (arith, rw w.in-Some.is at c.sole.type_inv) in
+          rw (w.classes-is, w.alone-is) (alone_more _ _ _ (slice_set alone w.in-Some.byte true) w.in-Some.byte _ _ read w.in-Some.ensures.member (get_or-set_same alone _ true false (omega (arith, c.loop-i.invariant.each, fits)))
+          (apart_more _ _ alone w.in-Some.byte _ _ w.if-classes-lt256.true fits c.loop-i.invariant))
       | in_default w ↦ rw (w.classes-is, w.alone-is) (parted_more _ _ w.index-sets-i-in_default.result alone _ _ _ _ (slice_get_read sets (length sets) _ _ refl (omega arith) w.index-sets-i-in_default.is) c.loop-i.invariant w.split-classes.ensures)
     ]

@@ -1,4 +1,4 @@
-use Rattle.sedpass.proofs.Words.{◌+◌, ◌*◌, ◌≤◌, ◌-◌, ◌<◌, arith, length, nat_eq, rules, common_steps, TakesAtLeast, IsCounted, not-false, eqb-true, eq-eqb, root_of, PassIs, IsPassEnd, starts_of}
+use Rattle.sedpass.proofs.Words.{◌+◌, ◌*◌, ◌≤◌, ◌<◌, arith, length, rules, common_steps, TakesAtLeast, IsCounted, not-false, eqb-true, eq-eqb, root_of, PassIs, IsPassEnd, starts_of}
 use Rattle.sedpass.proofs.KeptLemmas.{same_shape}
 use Rattle.sedpass.proofs.ForwardLemmas.{end_found, end_longest, end_passes, goes_on, names_first, none_before, pass_grows, seen_end}
 use Rattle.sedpass.proofs.table.Table.run.Goals as goal
@@ -10,8 +10,7 @@ loop-here-init c =
     let here = c.arrive-here.ensures in
     let names = names_first c.args.prepared.now c.args.self.now c.first-code.new.self c.args.text.now c.args.at _ _ first.codes.adds.shape.0 c.requires.forwards c.requires.from c.kind_of-kind.ensures.begin
     (rw c.len.ensures.is at c.kind_of-kind.ensures.end) (rw c.root.ensures.value at first.codes.names) in
-    let m = length c.args.prepared.now.nodes in
-    let cost : c.first-code.new.steps + 40 * m * c.args.at ≤ c.args.steps.now + 40 * m * (c.arrive-here.result.place + 1) = rw here.place (omega (arith, first.cost)) in
+    let cost : c.first-code.new.steps + 40 * length c.args.prepared.now.nodes * c.args.at ≤ c.args.steps.now + 40 * length c.args.prepared.now.nodes * (c.arrive-here.result.place + 1) = rw here.place (omega (arith, first.cost)) in
     search (rules, first.codes, here, here.passes c.args.at (omega arith) c.requires.from names (none_before c.args.prepared.now c.first-code.new.self.way c.args.text.now c.args.at), first.cost.0, cost, first.counts)
 
 -- the pass is over where filled cells led to
@@ -20,8 +19,7 @@ unfolding TakesAtLeast
 loop-here-preserved c =
     let i = c.loop-here.invariant in
     let at = c.follow-here.ensures in
-    let moved = at.moved (not-false c.follow-here.result.over c.if-not-here.false) in
-    search (rules, i, at, at.passes c.args.at i.passes, moved, pass_grows _ _ _ i.table.expr.arena.nonempty at.after)
+    search (rules, i, at, at.passes c.args.at i.passes, at.moved (not-false c.follow-here.result.over c.if-not-here.false), pass_grows _ _ _ i.table.expr.arena.nonempty at.after)
 
 -- or it comes to the next place
 pub loop-here-preserved-then-not-here : goal.loop-here-preserved-then-not-here
@@ -32,15 +30,11 @@ loop-here-preserved-then-not-here c =
     let byte = c.byte-byte.ensures in
     let next = c.next-code.ensures in
     let at = c.arrive-here-then-not-here.ensures in
-    let place = c.follow-here.result.place in
-    let last = c.len-last.result - 1 in
-    let is = c.len-last.ensures.is in
     let inside : c.loop-here.here.place < length c.args.text.now = grind (arith, common_steps) in
-    let m = length c.args.prepared.now.nodes in
-    let cost : c.next-code.new.steps + 40 * m * c.args.at ≤ c.args.steps.now + 40 * m * (c.arrive-here-then-not-here.result.place + 1) =
+    let cost : c.next-code.new.steps + 40 * length c.args.prepared.now.nodes * c.args.at ≤ c.args.steps.now + 40 * length c.args.prepared.now.nodes * (c.arrive-here-then-not-here.result.place + 1) =
     rw at.place (omega (arith, i.cost.1, up.cost.1, byte.cost.0.1, next.cost.1, pass_grows _ _ _ i.table.expr.arena.nonempty up.after)) in
-    let passes : PassIs c.args.prepared.now c.next-code.new.self c.args.text.now c.args.at c.arrive-here-then-not-here.result = goes_on _ _ _ _ _ _ _ (nat_eq place last) _ _ c.requires.table.expr next.codes.adds.shape.0 (up.passes c.args.at i.passes) byte.byte
-    ((λ h. omega (arith, eqb-true place last h, is, inside)), (λ e. eq-eqb place last (omega (arith, e, is)))) next.codes.names (at.passes c.args.at) in
+    let passes : PassIs c.args.prepared.now c.next-code.new.self c.args.text.now c.args.at c.arrive-here-then-not-here.result = goes_on _ _ _ _ _ _ _ _ _ _ c.requires.table.expr next.codes.adds.shape.0 (up.passes c.args.at i.passes) byte.byte
+    ((λ h. omega (arith, eqb-true _ _ h, c.len-last.ensures.is, inside)), (λ e. eq-eqb _ _ (omega (arith, e, c.len-last.ensures.is)))) next.codes.names (at.passes c.args.at) in
     search (rules, next.codes, same_shape c.args.self.now c.loop-here.self c.next-code.new.self i.shape next.codes.adds.shape, at, passes, cost, i, up, byte, next)
 
 seen : (c : goal.After-loop-here) → IsPassEnd c.args.self.now.way.all_starts c.args.prepared.now.nodes c.args.text.now (root_of c.args.prepared.now) (starts_of c.args.self.now.way.all_starts c.args.at c.args.text.now) c.loop-here.here.end
@@ -57,5 +51,4 @@ returns-clause-passes c = end_passes c.args.prepared.now c.args.text.now c.args.
 
 pub loop-here-smaller : goal.loop-here-smaller
 loop-here-smaller c =
-    let moved = c.follow-here.ensures.moved (not-false c.follow-here.result.over c.if-not-here.false) in
-    omega (arith, moved, c.follow-here.ensures.within, c.len-last.ensures.is)
+    omega (arith, c.follow-here.ensures.moved (not-false c.follow-here.result.over c.if-not-here.false), c.follow-here.ensures.within, c.len-last.ensures.is)
