@@ -21,8 +21,7 @@ ends_more took null f y node here h = search (rules, eqb-true)
 
 -- a node's part in r but r itself has its node in r
 pub parent_inside : (nodes : List Node) (r y p : ℕ) (node : Node) → IsArena nodes → InTree nodes r y → (y ≡ r → ⊥) → slice_get nodes p ≡ Some node → IsPart node y → InTree nodes r p
-parent_inside nodes r y p node arena (is_tree _ e) ne is part = absurd (ne e)
-parent_inside nodes r y p node arena (part_of z _ other is' part' up) ne is part = let same = arena.once z p y other node is' is part' part in rw (← same) up
+parent_inside nodes r y p node arena inside ne is part = search (rules, arena.once)
 
 -- a truth value that can't be true
 unset : (b : Bool) → (IsTrue b → ⊥) → b ≡ false
@@ -30,8 +29,7 @@ unset true none = absurd (none refl)
 unset false none = refl
 
 pub same_truth : (a b : Bool) → (IsTrue a → IsTrue b) → (IsTrue b → IsTrue a) → a ≡ b
-same_truth true b up down = sym (up refl)
-same_truth false b up down = sym (unset b (λ h. true≢false (sym (down h))))
+same_truth a b up down = search rules
 
 -- one mark is set
 pub set_here : (marks after : List Bool) (p : ℕ) (v : Bool) → after ≡ slice_set marks p v → p < length marks → has_mark after p ≡ v
@@ -41,82 +39,54 @@ pub set_other : (marks after : List Bool) (p : ℕ) (v : Bool) → after ≡ sli
 set_other marks after p v is c ne = search (rules, get_or-set_other)
 
 pub set_more : (marks after : List Bool) (p : ℕ) → after ≡ slice_set marks p true → p < length marks → (c : ℕ) → IsTrue (has_mark marks c) → IsTrue (has_mark after c)
-set_more marks after p is long c h = elim (cases_eq c p) [ inl e ↦ rw e (set_here marks after p true is long) | inr ne ↦ rw (set_other marks after p true is c ne) h ]
+set_more marks after p is long c h = search (rules, set_here, set_other, cases_eq c p)
 
 pub set_was : (marks after : List Bool) (p : ℕ) → after ≡ slice_set marks p true → (c : ℕ) → IsTrue (has_mark after c) → (c ≡ p) ⊎ IsTrue (has_mark marks c)
-set_was marks after p is c h = elim (cases_eq c p) [ inl e ↦ inl e | inr ne ↦ inr (rw (← set_other marks after p true is c ne) h) ]
+set_was marks after p is c h = search (rules, set_other, cases_eq c p)
 
 -- none, one or two marks are added
 pub adds_none : (marks : List Bool) (P : ℕ → Type 0) → ((c : ℕ) → P c → ⊥) → AddsMarks marks marks P
 adds_none marks P none c = (λ h. inl h, λ h. elim h [ inl old ↦ old | inr told ↦ absurd (none c told) ])
 
 pub adds_one : (marks after : List Bool) (p : ℕ) (P : ℕ → Type 0) → after ≡ slice_set marks p true → p < length marks → P p → ((c : ℕ) → P c → c ≡ p) → AddsMarks marks after P
-adds_one marks after p P is long here only c = (
-  λ h. elim (set_was marks after p is c h) [ inl e ↦ inr (rw e here) | inr old ↦ inl old ],
-  λ h. elim h [ inl old ↦ set_more marks after p is long c old | inr told ↦ rw (only c told) (set_here marks after p true is long) ],
-)
+adds_one marks after p P is long here only c = search (rules, set_was, set_more, set_here, only)
 
 pub adds_two : (marks mid after : List Bool) (a b : ℕ) (P : ℕ → Type 0) → mid ≡ slice_set marks a true → after ≡ slice_set mid b true → a < length marks → b < length marks → P a → P b → ((c : ℕ) → P c → (c ≡ a) ⊎ (c ≡ b)) → AddsMarks marks after P
-adds_two marks mid after a b P is_mid is low high left right only c =
-    let room : b < length mid = omega (arith, high, ap length is_mid ∙ length-set marks a true) in (
-      λ h. elim (set_was mid after b is c h) [ inl e ↦ inr (rw e right) | inr old ↦ elim (set_was marks mid a is_mid c old) [ inl e ↦ inr (rw e left) | inr older ↦ inl older ] ],
-      λ h. elim h [
-        | inl old ↦ set_more mid after b is room c (set_more marks mid a is_mid low c old)
-        | inr told ↦ elim (only c told) [ inl e ↦ rw e (set_more mid after b is room a (set_here marks mid a true is_mid low)) | inr e ↦ rw e (set_here mid after b true is room) ]
-      ],
-    )
+adds_two marks mid after a b P is_mid is_after low high left right only c =
+    let room : b < length mid = omega (arith, high, ap length is_mid ∙ length-set marks a true) in
+    search (rules, set_was, set_more, set_here, only)
 
 one_node : (nodes : List Node) (p x : ℕ) (node other : Node) → slice_get nodes p ≡ Some node → slice_get nodes x ≡ Some other → x ≡ p → other ≡ node
 one_node nodes p x node other is is' e = search (rules, same_Some)
 
 skipped : (marks : List Bool) (y z : ℕ) → ((c : ℕ) → y ≤ c → c < z → has_mark marks c ≡ false) → (c : ℕ) → IsTrue (nat_lt c z && has_mark marks c) → IsTrue (nat_lt c y && has_mark marks c)
-skipped marks y z none c h =
-    let parts = and_parts _ _ h in
-    elim (cases_lt c y) [ inl low ↦ and_from _ _ (lt-ltb c y low) parts.1 | inr high ↦ absurd (true≢false (sym parts.1 ∙ none c high (ltb-true c z parts.0))) ]
+skipped marks y z none c h = search (rules, ltb-true, lt-ltb, none, cases_lt c y, true≢false)
 
 module _ (nodes : List Node) (r : ℕ) (arena : IsArena nodes) (took null : ℕ → Bool) where
   -- a mark below one more, but the last
   below_more : (ended after : List Bool) (y p : ℕ) (node : Node) → slice_get nodes p ≡ Some node → IsPart node y → AddsMarks ended after (λ c. (c ≡ p) × EndsAfter null node y) → (c : ℕ) → IsTrue (nat_lt c (y + 1) && has_mark after c) →
       IsTrue (nat_lt c y && has_mark ended c) ⊎ (c ≡ y)
-  below_more ended after y p node is part adds c h =
-      let parts : IsTrue (nat_lt c (y + 1)) × IsTrue (has_mark after c) = and_parts (nat_lt c (y + 1)) (has_mark after c) h in
-      let low : c < y + 1 = ltb-true c (y + 1) parts.0 in
-      elim (cases_eq c y) [
-        | inl e ↦ inr e
-        | inr ne ↦ elim ((adds c).0 parts.1) [ inl old ↦ inl (and_from (nat_lt c y) (has_mark ended c) (lt-ltb c y (omega (arith, low, ne))) old) | inr new ↦ absurd (omega (arith, new.0, low, arena.below p y node is part)) ]
-      ]
+  below_more ended after y p node is part adds c h = grind (arith, ltb-true, lt-ltb, (adds c).0, arena.below p y node is part)
 
   -- no mark from y up to z
   pub up_skip : (ended : List Bool) (y z : ℕ) → ((c : ℕ) → y ≤ c → c < z → has_mark ended c ≡ false) → EndsUpTo nodes r took null ended y → EndsUpTo nodes r took null ended z
-  up_skip ended y z none up = record {
-    inside = up.inside;
-    just = up.just;
-    closed = λ x node there is h. up.closed x node there is (ended_by_more (λ m. took x) null (λ c. nat_lt c z && has_mark ended c) (λ c. nat_lt c y && has_mark ended c) node (λ c part h. skipped ended y z none c h) h);
-  }
+  up_skip ended y z none up = search (rules, up.inside, up.just, up.closed, ended_by_more, skipped)
 
   -- no node below the first one that is marked
   pub none_first : (ended : List Bool) (low y : ℕ) → y < length nodes → IsNodeRange nodes low r → ((c : ℕ) → low ≤ c → c < y → has_mark ended c ≡ false) → EndsUpTo nodes r took null ended 0 → (c : ℕ) → 0 ≤ c → c < y → has_mark ended c ≡ false
-  none_first ended low y lt range none up c at under = elim (cases_lt c low) [
-    | inl below ↦ unset (has_mark ended c) (λ h. omega (arith, below, ((range c).1 (up.inside c (omega (arith, under, lt)) h)).0))
-    | inr above ↦ none c above under
-  ]
+  none_first ended low y lt range none up c at under = grind (arith, none c, up.inside c, (range c).1)
 
   -- the node y has ended, and its node p with it, or not
   pub up_step : (ended after : List Bool) (y p : ℕ) (node : Node) → slice_get nodes p ≡ Some node → IsPart node y → (y ≡ r → ⊥) → y < length nodes → IsTrue (has_mark ended y) → AddsMarks ended after (λ c. (c ≡ p) × EndsAfter null node y) →
       EndsUpTo nodes r took null ended y → EndsUpTo nodes r took null after (y + 1)
   up_step ended after y p node is part ne lt here adds up =
       let there = parent_inside nodes r y p node arena (up.inside y lt here) ne is part in
-      let more = λ (c : ℕ) (h : IsTrue (has_mark ended c)). (adds c).1 (inl h) in
       record {
-        inside = λ x low h. elim ((adds x).0 h) [ inl old ↦ up.inside x low old | inr new ↦ rw (new.0) there ];
-        just = λ x other is' h. elim ((adds x).0 h) [
-          | inl old ↦ ended_by_more (λ m. took x) null (has_mark ended) (has_mark after) other (λ c part h. more c h) (up.just x other is' old)
-          | inr new ↦ let same : other ≡ node = one_node nodes p x node other is is' new.0 in rw same (ends_more (λ m. took x) null (has_mark after) y node (more y here) new.1)
-        ];
-        closed = λ x other there' is' h. elim (ended_split (λ m. took x) null (λ c. nat_lt c (y + 1) && has_mark after c) (λ c. nat_lt c y && has_mark ended c) y other (λ c part' h. below_more ended after y p node is part adds c h) h) [
-          | inl old ↦ more x (up.closed x other there' is' old)
-          | inr end ↦ let same : x ≡ p = arena.once x p y other node is' is (ends_part null y other end) part in let one : other ≡ node = one_node nodes p x node other is is' same in (adds x).1 (inr (same, rw (← one) end))
-        ];
+        inside = λ x low h. search (rules, up.inside, adds x, there);
+        just = λ x other is' h. search (rules, adds, up.just x other is', ended_by_more, ends_more, one_node, here);
+        closed = λ x other there' is' h. let old = up.closed x other there' is' in
+            let split = ended_split (λ m. took x) null (λ c. nat_lt c (y + 1) && has_mark after c) (λ c. nat_lt c y && has_mark ended c) y other (λ c part' h. below_more ended after y p node is part adds c h) h in
+            search (rules, ends_part null y other, arena.once x p y other node is' is, one_node nodes p x node other is is', adds x);
       }
 
 -- what a node says of where its parts begin
@@ -130,18 +100,13 @@ module _ (nodes : List Node) (w : List ℕ) (r x p : ℕ) (s : Starts) (arena : 
       let right = right_part nodes w r s arena x p le here enters a b is (null a.index) (ended a.index) (nulls a.index (inl refl)) (ends a.index (inl refl)) in
       let ne = arena.distinct x (Seq a b) is in
       search (rules, right, ne_eqb)
-  entered_is (Alt a b) is nulls ends c part = let law = with_node nodes w r s arena x p le here enters c (Alt a b) is part (λ h. h) in law
-  entered_is (Group k a) is nulls ends c part = with_node nodes w r s arena x p le here enters c (Group k a) is part (λ h. h)
-  entered_is (Opt a first) is nulls ends c part = with_node nodes w r s arena x p le here enters c (Opt a first) is part (λ h. h)
-  entered_is (Star a first) is nulls ends c part = let law = copy_part nodes w r s arena x p le here enters a first is (ended a.index) (ends a.index refl) in rw (← part) law
-  entered_is other is nulls ends c part = absurd part
+  entered_is (Star a first) is nulls ends c part = rw (← part) (copy_part nodes w r s arena x p le here enters a first is (ended a.index) (ends a.index refl))
+  entered_is node is nulls ends c part = search (rules, with_node nodes w r s arena x p le here enters c node is part)
 
 -- Downwards.
 
 none_entered : (null : ℕ → Bool) (node : Node) (c : ℕ) → IsTrue (entered_by false null (λ n. false) node c) → ⊥
-none_entered null (Seq a b) c h = search (rules, true≢false)
-none_entered null (Star a first) c h = true≢false (sym h)
-none_entered null other c h = true≢false (sym h)
+none_entered null node c h = search (rules, true≢false)
 
 -- what a node says of its part is said by its beginning, or by what ended
 pub entered_split : (here : Bool) (null f : ℕ → Bool) (node : Node) (c : ℕ) → IsTrue (entered_by here null f node c) → IsTrue (entered_by false null f node c) ⊎ (IsTrue here × IsTrue (entered_by true null (λ n. false) node c))
@@ -150,61 +115,34 @@ entered_split here null f node c h = search rules
 module _ (nodes : List Node) (r : ℕ) (arena : IsArena nodes) (first : Bool) (null : ℕ → Bool) (ended : List Bool) (z : ℕ) where
   -- no mark from y up to x
   pub down_skip : (entered : List Bool) (y x : ℕ) → ((c : ℕ) → y ≤ c → c < x → has_mark entered c ≡ false) → EntersDownTo nodes r first null ended entered x z → EntersDownTo nodes r first null ended entered y z
-  down_skip entered y x none down = record {
-    inside = down.inside;
-    root = down.root;
-    just = down.just;
-    closed = λ q c node there is part h. down.closed q c node there is part (entered_by_more (nat_le y q && has_mark entered q) (nat_le x q && has_mark entered q) null (λ n. nat_lt n z && has_mark ended n) (λ n. nat_lt n z && has_mark ended n) node c
-        (λ h. let parts = and_parts _ _ h in elim (cases_lt q x) [ inl low ↦ absurd (true≢false (sym parts.1 ∙ none q (leb-true y q parts.0) low)) | inr high ↦ and_from _ _ (le-leb x q high) parts.1 ]) (λ n at h. h) h);
-  }
+  down_skip entered y x none down = record { inside = down.inside; root = down.root; just = down.just; closed = λ q c node there is part h. down.closed q c node there is part (search (rules, entered_by_more, leb-true, le-leb, none q, cases_lt q x, true≢false)) }
 
   -- marks from x on stay
   pub still_marked : (entered after : List Bool) (x : ℕ) (node : Node) → slice_get nodes x ≡ Some node → AddsMarks entered after (StartsWith null node) → (c : ℕ) → x ≤ c → has_mark after c ≡ has_mark entered c
-  still_marked entered after x node is adds c le = same_truth (has_mark after c) (has_mark entered c)
-      (λ h. elim ((adds c).0 h) [ inl old ↦ old | inr new ↦ absurd (omega (arith, le, arena.below x c node is new.0)) ]) (λ h. (adds c).1 (inl h))
+  still_marked entered after x node is adds c le = search (rules, same_truth, (adds c).0, (adds c).1, arena.below x c node is)
 
   still_above : (entered after : List Bool) (x q : ℕ) (node : Node) → slice_get nodes x ≡ Some node → (IsTrue (has_mark after q) → IsTrue (has_mark entered q) ⊎ (IsPart node q × IsTrue (entered_by true null (λ n. false) node q))) →
       (q ≡ x → ⊥) → IsTrue (nat_le x q && has_mark after q) → IsTrue (nat_le (x + 1) q && has_mark entered q)
-  still_above entered after x q node is new ne h =
-      let parts : IsTrue (nat_le x q) × IsTrue (has_mark after q) = and_parts (nat_le x q) (has_mark after q) h in
-      let over : x ≤ q = leb-true x q parts.0 in
-      let above : x + 1 ≤ q = omega (arith, over, ne) in
-      let not_part : IsPart node q → ⊥ = λ part. omega (arith, above, arena.below x q node is part) in
-      search (rules, le-leb)
+  still_above entered after x q node is new ne h = grind (arith, leb-true, le-leb, new, arena.below x q node is)
 
   -- the parts of the node x that begin with it are marked
   pub down_step : (entered after : List Bool) (x : ℕ) (node : Node) → slice_get nodes x ≡ Some node → IsTrue (has_mark entered x) → AddsMarks entered after (StartsWith null node) →
       EntersDownTo nodes r first null ended entered (x + 1) z → EntersDownTo nodes r first null ended after x z
   down_step entered after x node is here adds down =
-      let new = λ (c : ℕ). (adds c).0 in
-      let more = λ (c : ℕ) (h : IsTrue (has_mark entered c)). (adds c).1 (inl h) in
+      let there = down.inside x (slice_get_within nodes x node is) here in
       let told = λ (c : ℕ) (part : IsPart node c) (h : IsTrue (entered_by true null (λ n. false) node c)). (adds c).1 (inr (part, h)) in
-      let low = InTree-inside nodes arena r x (down.inside x (slice_get_within nodes x node is) here) in
       record {
-        inside = λ c lt h. elim (new c h) [ inl old ↦ down.inside c lt old | inr part ↦ part_of x c node is part.0 (down.inside x (slice_get_within nodes x node is) here) ];
-        root = still_marked entered after x node is adds r low ∙ down.root;
-        just = λ q c other there' is' part h. elim (new c h) [
-          | inl old ↦ entered_by_more (has_mark entered q) (has_mark after q) null (has_mark ended) (has_mark ended) other c (more q) (λ n at h. h) (down.just q c other there' is' part old)
-          | inr told ↦ let same = arena.once q x c other node is' is part told.0 in let one : other ≡ node = one_node nodes x q node other is is' same in
-              rw one (entered_by_more true (has_mark after q) null (λ n. false) (has_mark ended) node c (λ h. more q (rw same here)) (λ n at h. absurd (true≢false (sym h))) told.1)
-        ];
-        closed = λ q c other there is' part h. elim (cases_eq q x) [
-          | inl e ↦ let one : other ≡ node = one_node nodes x q node other is is' e in elim (entered_split _ null (λ n. nat_lt n z && has_mark ended n) other c h) [
-            | inl end ↦ more c (down.closed q c other there is' part (entered_by_more false _ null _ (λ n. nat_lt n z && has_mark ended n) other c (λ h. absurd (true≢false (sym h))) (λ n at h. h) end))
-            | inr begin ↦ told c (rw (← one) part) (rw (← one) begin.1)
-          ]
-          | inr ne ↦ more c (down.closed q c other there is' part (entered_by_more (nat_le x q && has_mark after q) (nat_le (x + 1) q && has_mark entered q) null (λ n. nat_lt n z && has_mark ended n) (λ n. nat_lt n z && has_mark ended n) other c
-              (still_above entered after x q node is (new q) ne) (λ n at h. h) h))
-        ];
+        inside = λ c lt h. search (rules, adds c, down.inside, part_of);
+        root = still_marked entered after x node is adds r (InTree-inside nodes arena r x there) ∙ down.root;
+        just = λ q c other there' is' part h. let old = down.just q c other there' is' part in let more = (adds q).1 in let once = arena.once q x c other node is' is part in let one = one_node nodes x q node other is is' in search (rules, adds c);
+        closed = λ q c other there' is' part h. let old = down.closed q c other there' is' part in let more = still_above entered after x q node is (adds q).0 in let one = one_node nodes x q node other is is' in search (rules, entered_split, adds c, cases_eq q x);
       }
 
 -- What ended says which part begins.
 
 -- the part whose end says that another begins
 by_end : (null f : ℕ → Bool) (node : Node) (c : ℕ) → IsPart node c → IsTrue (entered_by false null f node c) → (n : ℕ) × IsPart node n × IsTrue (f n) × ((g : ℕ → Bool) → IsTrue (g n) → IsTrue (entered_by false null g node c))
-by_end null f (Seq a b) c part h = (a.index, inl refl, search rules, λ g at. search rules)
-by_end null f (Star a first) c part h = (a.index, refl, h, λ g at. at)
-by_end null f other c part h = absurd (true≢false (sym h))
+by_end null f node c part h = search rules
 
 module _ (nodes : List Node) (r : ℕ) (arena : IsArena nodes) (null : ℕ → Bool) (ended after_ended entered after : List Bool) (y p : ℕ) (node : Node) (is : slice_get nodes p ≡ Some node) (own : IsPart node y)
     (here : IsTrue (has_mark ended y)) (there : InTree nodes r p)
@@ -223,80 +161,51 @@ module _ (nodes : List Node) (r : ℕ) (arena : IsArena nodes) (null : ℕ → B
   told c part h = (adds c).1 (inr (part, h))
 
   not_root : IsTrue (has_mark after r) → ⊥
-  not_root h = elim (new r h) [ inl old ↦ true≢false (sym old ∙ down.root) | inr part ↦ omega (arith, arena.below p r node is part.0, InTree-inside nodes arena r p there) ]
+  not_root h = grind (arith, new r h, down.root, arena.below p r node is, InTree-inside nodes arena r p there)
 
   still_below : (q n : ℕ) → InTree nodes r q → (n ≡ y → ⊥) → IsTrue (nat_lt n (y + 1) && has_mark after_ended n) → IsTrue (nat_lt n y && has_mark ended n)
-  still_below q n there' ne h =
-      let parts : IsTrue (nat_lt n (y + 1)) × IsTrue (has_mark after_ended n) = and_parts (nat_lt n (y + 1)) (has_mark after_ended n) h in
-      let low : n < y + 1 = ltb-true n (y + 1) parts.0 in
-      let under : n < y = omega (arith, low, ne) in
-      let apart : n ≡ p → ⊥ = λ e. omega (arith, e, under, arena.below p y node is own) in
-      search (rules, lt-ltb)
+  still_below q n there' ne h = grind (arith, ltb-true, lt-ltb, (adds_ended n).0, arena.below p y node is own)
 
   closed_more : (q c : ℕ) (other : Node) → InTree nodes r q → slice_get nodes q ≡ Some other → IsPart other c → IsTrue (entered_by false null (λ n. nat_lt n (y + 1) && has_mark after_ended n) other c) → IsTrue (has_mark after c)
   closed_more q c other there' is' part h =
       let end = by_end null (λ n. nat_lt n (y + 1) && has_mark after_ended n) other c part h in
-      elim (cases_eq end.0 y) [
-        | inl e ↦ let same : q ≡ p = arena.once q p y other node is' is (rw (← e) end.1) own in let one : other ≡ node = one_node nodes p q node other is is' same in
-            told c (rw (← one) part) (rw (← one) (end.3 (λ n. eqb n y) (eq-eqb end.0 y e)))
-        | inr ne ↦ more c (down.closed q c other there' is' part (entered_by_more false (nat_le (r + 1) q && has_mark entered q) null (λ n. nat_lt n y && has_mark ended n) (λ n. nat_lt n y && has_mark ended n) other c
-            (λ h. absurd (true≢false (sym h))) (λ n at h. h) (end.3 (λ n. nat_lt n y && has_mark ended n) (still_below q end.0 there' ne end.2))))
-      ]
+      let here = end.3 (λ n. eqb n y) in
+      let old = end.3 (λ n. nat_lt n y && has_mark ended n) in
+      let below = still_below q end.0 there' in
+      let once = arena.once q p y other node is' is in
+      let one = one_node nodes p q node other is is' in
+      search (rules, cases_eq end.0 y, told c, eq-eqb, more c, down.closed q c other there' is' part)
 
   past_root : (q : ℕ) → InTree nodes r q → IsTrue (nat_le (r + 1) q && has_mark after q) → IsTrue false
-  past_root q there' h = let parts : IsTrue (nat_le (r + 1) q) × IsTrue (has_mark after q) = and_parts (nat_le (r + 1) q) (has_mark after q) h in absurd (omega (arith, leb-true (r + 1) q parts.0, InTree-inside nodes arena r q there'))
+  past_root q there' h = grind (arith, leb-true, InTree-inside nodes arena r q there')
 
   pub follow_step : EntersDownTo nodes r false null after_ended after (r + 1) (y + 1)
   follow_step = record {
-    inside = λ c lt h. elim (new c h) [ inl old ↦ down.inside c lt old | inr part ↦ part_of p c node is part.0 there ];
+    inside = λ c lt h. search (rules, new c h, down.inside, part_of, there);
     root = search (rules, not_root);
-    just = λ q c other there' is' part h. elim (new c h) [
-      | inl old ↦ entered_by_more (has_mark entered q) (has_mark after q) null (has_mark ended) (has_mark after_ended) other c (more q) (λ n at. more_ended n) (down.just q c other there' is' part old)
-      | inr by ↦ let same : q ≡ p = arena.once q p c other node is' is part by.0 in let one : other ≡ node = one_node nodes p q node other is is' same in
-          rw one (entered_by_more false (has_mark after q) null (λ n. eqb n y) (has_mark after_ended) node c (λ h. absurd (true≢false (sym h))) (λ n at h. more_ended n (rw (eqb-true n y h) here)) by.1)
-    ];
-    closed = λ q c other there' is' part h. closed_more q c other there' is' part (entered_by_more (nat_le (r + 1) q && has_mark after q) false null (λ n. nat_lt n (y + 1) && has_mark after_ended n) (λ n. nat_lt n (y + 1) && has_mark after_ended n) other c
-        (past_root q there') (λ n at h. h) h);
+    just = λ q c other there' is' part h. let old = down.just q c other there' is' part in let once = arena.once q p c other node is' is part in let one = one_node nodes p q node other is is' in search (rules, new c h, more, more_ended, eqb-true, here);
+    closed = λ q c other there' is' part h. closed_more q c other there' is' part (search (rules, entered_by_more, past_root));
   }
 
 -- no part ended from y up to x
 module _ (nodes : List Node) (r : ℕ) (arena : IsArena nodes) (first : Bool) (null : ℕ → Bool) (ended entered : List Bool) (low : ℕ) where
   pub end_skip : (y x : ℕ) → ((c : ℕ) → y ≤ c → c < x → has_mark ended c ≡ false) → EntersDownTo nodes r first null ended entered low y → EntersDownTo nodes r first null ended entered low x
-  end_skip y x none down = record {
-    inside = down.inside;
-    root = down.root;
-    just = down.just;
-    closed = λ q c node there is part h. down.closed q c node there is part (entered_by_more (nat_le low q && has_mark entered q) (nat_le low q && has_mark entered q) null (λ n. nat_lt n x && has_mark ended n) (λ n. nat_lt n y && has_mark ended n) node c
-        (λ h. h) (λ n at h. skipped ended y x none n h) h);
-  }
+  end_skip y x none down = search (rules, down.inside, down.root, down.just, down.closed, entered_by_more, skipped)
 
   -- the root is no part in itself
   pub end_last : EntersDownTo nodes r first null ended entered low r → EntersDownTo nodes r first null ended entered low (r + 1)
-  end_last down = record {
-    inside = down.inside;
-    root = down.root;
-    just = down.just;
-    closed = λ q c node there is part h. down.closed q c node there is part (entered_by_more (nat_le low q && has_mark entered q) (nat_le low q && has_mark entered q) null (λ n. nat_lt n (r + 1) && has_mark ended n) (λ n. nat_lt n r && has_mark ended n) node c
-        (λ h. h) (λ n at h. and_from _ _ (lt-ltb n r (omega (arith, InTree-inside nodes arena r q there, arena.below q n node is at))) (and_parts (nat_lt n (r + 1)) (has_mark ended n) h).1) h);
-  }
+  end_last down = record { inside = down.inside; root = down.root; just = down.just; closed = λ q c node there is part h. down.closed q c node there is part (search (rules, entered_by_more, ltb-true, lt-ltb, and_parts, and_from, InTree-inside, arena.below)) }
 
 none_below : (f : ℕ → Bool) (n : ℕ) → (nat_lt n 0 && f n) ≡ false
-none_below f n = unset (nat_lt n 0 && f n) (λ h. omega (arith, ltb-true n 0 (and_parts (nat_lt n 0) (f n) h).0))
+none_below f n = search rules
 
 -- nothing is marked yet
 module _ (nodes : List Node) (r : ℕ) (arena : IsArena nodes) (null : ℕ → Bool) (ended entered : List Bool) (clear : (c : ℕ) → c < length nodes → has_mark entered c ≡ false) (inside : r < length nodes) where
   none_told : (q c : ℕ) (node : Node) → InTree nodes r q → IsTrue (entered_by (nat_le (r + 1) q && has_mark entered q) null (λ n. nat_lt n 0 && has_mark ended n) node c) → ⊥
-  none_told q c node there h =
-      let none : (nat_le (r + 1) q && has_mark entered q) ≡ false = unset (nat_le (r + 1) q && has_mark entered q) (λ h. omega (arith, leb-true (r + 1) q (and_parts (nat_le (r + 1) q) (has_mark entered q) h).0, InTree-inside nodes arena r q there)) in
-      none_entered null node c (entered_by_more (nat_le (r + 1) q && has_mark entered q) false null (λ n. nat_lt n 0 && has_mark ended n) (λ n. false) node c (λ h. sym none ∙ h) (λ n at h. sym (none_below (has_mark ended) n) ∙ h) h)
+  none_told q c node there h = none_entered null node c (search (rules, leb-true, InTree-inside nodes arena r q there, none_below, entered_by_more, true≢false))
 
   pub enters_none : EntersDownTo nodes r false null ended entered (r + 1) 0
-  enters_none = record {
-    inside = λ c lt h. absurd (true≢false (sym h ∙ clear c lt));
-    root = clear r inside;
-    just = λ q c node there is part h. absurd (true≢false (sym h ∙ clear c (omega (arith, arena.below q c node is part, slice_get_within nodes q node is))));
-    closed = λ q c node there is part h. absurd (none_told q c node there h);
-  }
+  enters_none = search (rules, clear, true≢false, none_told, arena.below, slice_get_within, inside)
 
 -- the root begins, or doesn't
 module _ (nodes : List Node) (r : ℕ) (arena : IsArena nodes) (first : Bool) (null : ℕ → Bool) (ended entered after : List Bool) (is_after : after ≡ slice_set entered r first) (long : r < length entered) (z : ℕ)
@@ -308,20 +217,17 @@ module _ (nodes : List Node) (r : ℕ) (arena : IsArena nodes) (first : Bool) (n
   not_whole q c node there is part e = omega (arith, e, InTree-inside nodes arena r q there, arena.below q c node is part)
 
   more_first : (q : ℕ) → IsTrue (has_mark entered q) → IsTrue (has_mark after q)
-  more_first q h = elim (cases_eq q r) [ inl e ↦ absurd (true≢false (sym (rw (← e) h) ∙ down.root)) | inr ne ↦ rw (still_other q ne) h ]
+  more_first q h = grind (arith, still_other q, down.root)
 
   past_whole : (q : ℕ) → InTree nodes r q → IsTrue (nat_le (r + 1) q && has_mark after q) → IsTrue (nat_le (r + 1) q && has_mark entered q)
-  past_whole q there h = let parts : IsTrue (nat_le (r + 1) q) × IsTrue (has_mark after q) = and_parts (nat_le (r + 1) q) (has_mark after q) h in absurd (omega (arith, leb-true (r + 1) q parts.0, InTree-inside nodes arena r q there))
+  past_whole q there h = grind (arith, leb-true, InTree-inside nodes arena r q there)
 
   pub enters_first : EntersDownTo nodes r first null ended after (r + 1) z
   enters_first = record {
-    inside = λ c lt h. elim (cases_eq c r) [ inl e ↦ is_tree c e | inr ne ↦ down.inside c lt (rw (← still_other c ne) h) ];
+    inside = λ c lt h. search (rules, cases_eq c r, is_tree, down.inside, still_other);
     root = set_here entered after r first is_after long;
-    just = λ q c node there is part h. entered_by_more (has_mark entered q) (has_mark after q) null (has_mark ended) (has_mark ended) node c (more_first q) (λ n at h. h)
-        (down.just q c node there is part (rw (← still_other c (not_whole q c node there is part)) h));
-    closed = λ q c node there is part h. rw (still_other c (not_whole q c node there is part))
-        (down.closed q c node there is part (entered_by_more (nat_le (r + 1) q && has_mark after q) (nat_le (r + 1) q && has_mark entered q) null (λ n. nat_lt n z && has_mark ended n) (λ n. nat_lt n z && has_mark ended n) node c
-        (past_whole q there) (λ n at h. h) h));
+    just = λ q c node there is part h. let old = down.just q c node there is part in search (rules, more_first, still_other, not_whole q c node there is part);
+    closed = λ q c node there is part h. search (rules, still_other, not_whole, down.closed, entered_by_more, past_whole);
   }
 
 -- Of the leaves below z those are marked that were entered and take the byte.
@@ -332,10 +238,7 @@ pub record HasTaken (nodes : List Node) (low r : ℕ) (leaves : List Bool) (byte
 module _ (nodes : List Node) (low r : ℕ) (leaves : List Bool) (byte : Option ℕ) where
   -- no leaf from y up to z was entered
   pub taken_skip : (ended : List Bool) (y z : ℕ) → ((c : ℕ) → y ≤ c → c < z → has_mark leaves c ≡ false) → HasTaken nodes low r leaves byte ended y → HasTaken nodes low r leaves byte ended z
-  taken_skip ended y z none has = record {
-    just = has.just;
-    done = λ c node at under is here taken. elim (cases_lt c y) [ inl below ↦ has.done c node at below is here taken | inr above ↦ absurd (true≢false (sym here ∙ none c above under)) ];
-  }
+  taken_skip ended y z none has = search (rules, has.just, has.done, none, cases_lt, true≢false)
 
   -- the node x was entered, and marked if it is a leaf that takes the byte
   pub taken_step : (ended after : List Bool) (x : ℕ) (node : Node) (took : Bool) → slice_get nodes x ≡ Some node → IsTrue (has_mark leaves x) → (IsTrue took ↔ TakenBy byte node) → low ≤ x → x ≤ r → after ≡ slice_set ended x took → x < length ended →
@@ -345,63 +248,34 @@ module _ (nodes : List Node) (low r : ℕ) (leaves : List Bool) (byte : Option �
       | inl e ↦ rw e (above, below, here, (node, is, law.0 (sym (set_here ended after x took is_after long) ∙ rw (← e) h)))
       | inr ne ↦ has.just c lt (rw (← set_other ended after x took is_after c ne) h)
     ];
-    done = λ c other at under is' mark taken. elim (cases_eq c x) [
-      | inl e ↦ let one : other ≡ node = one_node nodes x c node other is is' e in rw e (set_here ended after x took is_after long ∙ law.1 (rw (← one) taken))
-      | inr ne ↦ rw (set_other ended after x took is_after c ne) (has.done c other at (omega (arith, under, ne)) is' mark taken)
-    ];
+    done = λ c other at under is' mark taken. search (rules, cases_eq c x, set_here, set_other, has.done, law, one_node);
   }
 
   -- all of them are
   pub taken_all : (ended : List Bool) → IsNodeRange nodes low r → HasTaken nodes low r leaves byte ended (r + 1) → TookBy nodes r (has_mark leaves) byte (has_mark ended) × MarkLeaves nodes r ended
-  taken_all ended range has = (
-    λ c node there is. (
-      λ h. let at = has.just c (slice_get_within nodes c node is) h in let same : at.3.0 ≡ node = one_node nodes c c node at.3.0 is at.3.1 refl in (at.2, rw (← same) at.3.2),
-      λ h. let at = (range c).1 there in has.done c node at.0 (omega (arith, at.1)) is h.0 h.1,
-    ),
-    λ c lt h. let at = has.just c lt h in let set = at.3.2 in ((range c).0 (at.0, at.1), (set.0, at.3.1 ∙ ap (λ n. Some n) set.1)),
-  )
+  taken_all ended range has = search (rules, has.just, has.done, range, slice_get_within, one_node)
 
 -- those leaves have ended that were entered and take the byte, of the whole expression
 pub taken_both : (nodes : List Node) (low r : ℕ) (leaves takers ended : List Bool) (byte : ℕ) → low ≡ 0 → length nodes ≡ r + 1 → AreTakers nodes byte takers →
     ((c : ℕ) → c < length nodes → has_mark ended c ≡ (has_mark leaves c && has_mark takers c)) → HasTaken nodes low r leaves (Some byte) ended (r + 1)
 taken_both nodes low r leaves takers ended byte none whole are both = record {
-  just = λ c lt h.
-      let marks = and_parts (has_mark leaves c) (has_mark takers c) (sym (both c lt) ∙ h) in
-      let node = node_at nodes c lt in
-      (omega (arith, none), omega (arith, lt, whole), marks.0, (node.0, node.1, (are c node.0 node.1).0 marks.1));
-  done = λ c node at under is here taken. both c (omega (arith, under, whole)) ∙ and_from (has_mark leaves c) (has_mark takers c) here ((are c node is).1 taken);
+  just = λ c lt h. let node = node_at nodes c lt in search (rules, both c lt, are, and_parts);
+  done = λ c node at under is here taken. search (rules, both, are, and_from);
 }
 
 -- only leaves are marked, and nothing above them is yet
 and_false : (b : Bool) → (b && false) ≡ false
-and_false true = refl
-and_false false = refl
+and_false b = search rules
 
 no_part_ends : (took null f : ℕ → Bool) (x : ℕ) (node : Node) → ((n : ℕ) → IsPart node n → f n ≡ false) → IsTrue (ended_by (λ m. took x) null f node) → IsTrue (took x)
-no_part_ends took null f x (Set members) none h = h
-no_part_ends took null f x (Seq a b) none h = let left = none a.index (inl refl) in let right = none b.index (inr refl) in absurd (search (rules, true≢false))
-no_part_ends took null f x (Alt a b) none h = let left = none a.index (inl refl) in let right = none b.index (inr refl) in absurd (search (rules, true≢false))
-no_part_ends took null f x (Group k a) none h = absurd (true≢false (sym h ∙ none a.index refl))
-no_part_ends took null f x (Star a first) none h = absurd (true≢false (sym h ∙ none a.index refl))
-no_part_ends took null f x (Opt a first) none h = absurd (true≢false (sym h ∙ none a.index refl))
-no_part_ends took null f x other none h = absurd (true≢false (sym h))
+no_part_ends took null f x node none h = search (rules, none, true≢false)
 
 pub leaves_end : (nodes : List Node) (r : ℕ) (null : ℕ → Bool) (ended : List Bool) → MarkLeaves nodes r ended → EndsUpTo nodes r (has_mark ended) null ended 0
-leaves_end nodes r null ended only = record {
-  inside = λ c lt h. (only c lt h).0;
-  just = λ c node is h. let set = (only c (slice_get_within nodes c node is) h).1 in let same : node ≡ Set set.0 = one_node nodes c c (Set set.0) node set.1 is refl in rw same h;
-  closed = λ c node there is h. no_part_ends (has_mark ended) null (λ n. nat_lt n 0 && has_mark ended n) c node (λ n part. none_below (has_mark ended) n) h;
-}
+leaves_end nodes r null ended only = search (rules, only, slice_get_within, one_node, no_part_ends, none_below)
 
 -- where nothing is marked nothing took the byte
 pub none_end : (nodes : List Node) (r y : ℕ) (null : ℕ → Bool) (ended : List Bool) → IsArena nodes → ((c : ℕ) → c < length nodes → has_mark ended c ≡ false) → EndsUpTo nodes r (λ c. false) null ended y
-none_end nodes r y null ended arena none = record {
-  inside = λ c lt h. absurd (true≢false (sym h ∙ none c lt));
-  just = λ c node is h. absurd (true≢false (sym h ∙ none c (slice_get_within nodes c node is)));
-  closed = λ c node there is h.
-      let clear = λ (n : ℕ) (part : IsPart node n). none n (omega (arith, slice_get_within nodes c node is, arena.below c n node is part)) in
-      absurd (true≢false (sym (no_part_ends (λ n. false) null (λ n. nat_lt n y && has_mark ended n) c node (λ n part. rw (clear n part) (and_false (nat_lt n y))) h)));
-}
+none_end nodes r y null ended arena none = search (rules, none, slice_get_within, arena.below, no_part_ends, and_false, true≢false)
 
 -- Besides the marks of a base, of the leaves from x on those are marked that were entered.
 pub record HasLeaves (nodes : List Node) (base entered leaves : List Bool) (x : ℕ) : Type 0 where
@@ -409,35 +283,16 @@ pub record HasLeaves (nodes : List Node) (base entered leaves : List Bool) (x : 
 
 module _ (nodes : List Node) (base : List Bool) where
   pub leaves_none : (entered : List Bool) (x : ℕ) → ((c : ℕ) → c < length nodes → IsTrue (has_mark entered c) → c < x) → HasLeaves nodes base entered base x
-  leaves_none entered x below = record { leaf = λ c lt. (λ h. inl h, λ h. elim h [ inl old ↦ old | inr new ↦ absurd (omega (arith, below c lt new.1, new.0)) ]) }
+  leaves_none entered x below = record { leaf = λ c lt. search (rules, below) }
 
   -- no node from y up to x is entered
   pub leaves_skip : (entered leaves : List Bool) (y x : ℕ) → y ≤ x → ((c : ℕ) → y ≤ c → c < x → has_mark entered c ≡ false) → HasLeaves nodes base entered leaves x → HasLeaves nodes base entered leaves y
-  leaves_skip entered leaves y x le none has = record {
-    leaf = λ c lt. (
-      λ h. elim ((has.leaf c lt).0 h) [ inl old ↦ inl old | inr at ↦ inr (omega (arith, le, at.0), at.1, at.2) ],
-      λ h. elim h [
-        | inl old ↦ (has.leaf c lt).1 (inl old)
-        | inr at ↦ elim (cases_lt c x) [ inl under ↦ absurd (true≢false (sym at.1 ∙ none c at.0 under)) | inr past ↦ (has.leaf c lt).1 (inr (past, at.1, at.2)) ]
-      ],
-    );
-  }
+  leaves_skip entered leaves y x le none has = record { leaf = λ c lt. search (rules, has.leaf c lt, none, cases_lt c x, true≢false) }
 
   -- the node x is entered, and marked if it is a leaf
   pub leaves_step : (entered leaves after_entered after : List Bool) (x : ℕ) → IsTrue (has_mark entered x) → ((c : ℕ) → x ≤ c → has_mark after_entered c ≡ has_mark entered c) → AddsMarks leaves after (λ c. (c ≡ x) × IsSetAt nodes c) →
       HasLeaves nodes base entered leaves (x + 1) → HasLeaves nodes base after_entered after x
-  leaves_step entered leaves after_entered after x here kept law has = record {
-    leaf = λ c lt. (
-      λ h. elim ((law c).0 h) [
-        | inl old ↦ elim ((has.leaf c lt).0 old) [ inl first ↦ inl first | inr at ↦ let le : x ≤ c = omega (arith, at.0) in inr (le, rw (kept c le) at.1, at.2) ]
-        | inr new ↦ let le : x ≤ c = omega (arith, new.0) in inr (le, rw (kept c le, new.0) here, new.1)
-      ],
-      λ h. (law c).1 (elim h [
-        | inl first ↦ inl ((has.leaf c lt).1 (inl first))
-        | inr at ↦ elim (cases_eq c x) [ inl e ↦ inr (e, at.2) | inr ne ↦ inl ((has.leaf c lt).1 (inr (omega (arith, at.0, ne), rw (← kept c at.0) at.1, at.2))) ]
-      ]),
-    );
-  }
+  leaves_step entered leaves after_entered after x here kept law has = record { leaf = λ c lt. search (rules, law c, has.leaf c lt, kept c, cases_eq c x) }
 
 -- The marks of the nodes that end: besides some all where they are kept, and the root's own, where it begins as the null string too.
 pub record HasEnds (m r : ℕ) (keeps first : Bool) (null before : ℕ → Bool) (ended last : List Bool) : Type 0 where
@@ -457,39 +312,24 @@ seq_only null a b c is told = let part = told.0 in let h = told.1 in search (rul
 -- no other node has a part
 pub no_part : (node : Node) → ((a b : NodeId) → node ≡ Seq a b → ⊥) → ((a b : NodeId) → node ≡ Alt a b → ⊥) → ((k : ℕ) (a : NodeId) → node ≡ Group k a → ⊥) → ((a : NodeId) (first : Bool) → node ≡ Star a first → ⊥) →
     ((a : NodeId) (first : Bool) → node ≡ Opt a first → ⊥) → (c : ℕ) → IsPart node c → ⊥
-no_part (Seq a b) seq alt group star opt c part = seq a b refl
-no_part (Alt a b) seq alt group star opt c part = alt a b refl
-no_part (Group k a) seq alt group star opt c part = group k a refl
-no_part (Star a first) seq alt group star opt c part = star a first refl
-no_part (Opt a first) seq alt group star opt c part = opt a first refl
-no_part other seq alt group star opt c part = part
+no_part node seq alt group star opt c part = search rules
 
 -- Of a node of which a part has ended.
 pub seq_ends : (took : List Bool → Bool) (null f : ℕ → Bool) (a b : NodeId) → IsTrue (f a.index) → null b.index ≡ true → IsTrue (ended_by took null f (Seq a b))
 seq_ends took null f a b end is = search rules
 
 pub other_ends : (took : List Bool → Bool) (null f : ℕ → Bool) (y : ℕ) (node : Node) → IsPart node y → IsTrue (f y) → ((a b : NodeId) → node ≡ Seq a b → a.index ≡ y → ⊥) → IsTrue (ended_by took null f node)
-other_ends took null f y (Seq a b) (inl at) end not_first = absurd (not_first a b refl at)
-other_ends took null f y (Seq a b) (inr at) end not_first = search rules
-other_ends took null f y (Alt a b) (inl at) end not_first = search rules
-other_ends took null f y (Alt a b) (inr at) end not_first = search rules
-other_ends took null f y (Group k a) at end not_first = rw at end
-other_ends took null f y (Star a first) at end not_first = rw at end
-other_ends took null f y (Opt a first) at end not_first = rw at end
-other_ends took null f y other at end not_first = absurd at
+other_ends took null f y node at end not_first = search rules
 
 -- which part begins where the part y has ended
 pub second_begins : (null : ℕ → Bool) (a b : NodeId) (y : ℕ) → (a.index ≡ b.index → ⊥) → a.index ≡ y → IsTrue (entered_by false null (λ n. eqb n y) (Seq a b) b.index)
 second_begins null a b y ne at = search (rules, eq-eqb, ne_eqb)
 
 pub second_alone : (null : ℕ → Bool) (a b : NodeId) (y c : ℕ) → IsPart (Seq a b) c → IsTrue (entered_by false null (λ n. eqb n y) (Seq a b) c) → c ≡ b.index
-second_alone null a b y c (inl at) h = absurd (search (rules, eq-eqb, true≢false))
-second_alone null a b y c (inr at) h = sym at
+second_alone null a b y c part h = search (rules, eq-eqb, true≢false)
 
 pub none_begins : (null : ℕ → Bool) (y c : ℕ) (node : Node) → ((a b : NodeId) → node ≡ Seq a b → a.index ≡ y → ⊥) → ((a : NodeId) (first : Bool) → node ≡ Star a first → ⊥) → IsTrue (entered_by false null (λ n. eqb n y) node c) → ⊥
-none_begins null y c (Seq a b) not_first no_star h = not_first a b refl (search (rules, eqb-true))
-none_begins null y c (Star a first) not_first no_star h = no_star a first refl
-none_begins null y c other not_first no_star h = true≢false (sym h)
+none_begins null y c node not_first no_star h = search (rules, eqb-true, true≢false)
 
 -- nor does the node end with its first part, where the other isn't null
 pub seq_stays : (null : ℕ → Bool) (a b : NodeId) (y : ℕ) → (a.index ≡ b.index → ⊥) → a.index ≡ y → null b.index ≡ false → EndsAfter null (Seq a b) y → ⊥

@@ -20,11 +20,11 @@ module _ (nodes : List Node) (w : List ℕ) (r : ℕ) (s : Starts) (arena : IsAr
 
   -- the left part of a concatenation is entered with it
   pub with_seq : (x i : ℕ) (a b : NodeId) → x ≤ r → slice_get nodes x ≡ Some (Seq a b) → Enters nodes w r s a.index i → Enters nodes w r s x i
-  with_seq x i a b le is e = let from = Enters-part nodes w r s arena x le a.index i (Seq a b) is (inl refl) e in let ne = arena.distinct x (Seq a b) is in search (rules, sym)
+  with_seq x i a b le is e = let ne = arena.distinct x (Seq a b) is in search (rules, sym, Enters-part nodes w r s arena x le a.index i (Seq a b) is (inl refl) e)
 
   -- the right part where the left one ends
   after_seq : (x i : ℕ) (a b : NodeId) → x ≤ r → slice_get nodes x ≡ Some (Seq a b) → Enters nodes w r s b.index i → (k : ℕ) × Enters nodes w r s x k × HasSpan nodes w a.index k i
-  after_seq x i a b le is e = let from = Enters-part nodes w r s arena x le b.index i (Seq a b) is (inr refl) e in let ne = arena.distinct x (Seq a b) is in search rules
+  after_seq x i a b le is e = let ne = arena.distinct x (Seq a b) is in search (rules, Enters-part nodes w r s arena x le b.index i (Seq a b) is (inr refl) e)
 
   -- a repetition goes on with one more copy
   pub one_copy : (x j : ℕ) (a : NodeId) (first : Bool) → x ≤ r → slice_get nodes x ≡ Some (Star a first) → CanEnd nodes w r s a.index j →
@@ -93,7 +93,7 @@ module _ (nodes : List Node) (w : List ℕ) (r : ℕ) (s : Starts) (arena : IsAr
     pub copy_part : (a : NodeId) (first : Bool) → slice_get nodes x ≡ Some (Star a first) → (ended : Bool) → (IsTrue ended ↔ CanEnd nodes w r s a.index p) → IsTrue (here || ended) ↔ Enters nodes w r s a.index p
     copy_part a first is ended ends =
         let truth = either-iff _ _ _ _ enters ends in (
-          λ h. elim (truth.0 h) [ inl begins ↦ with_whole x a.index p (Star a first) is refl begins | inr end ↦ let more = one_copy x p a first le is end in again x a.index more.0 p a first is refl more.2 more.3 ],
+          λ h. elim (truth.0 h) [ inl begins ↦ with_whole x a.index p (Star a first) is refl begins | inr end ↦ search (rules, again, one_copy x p a first le is end) ],
           λ h. let from = Enters-part nodes w r s arena x le a.index p (Star a first) is refl h in let end = last_copy x from.0 p a first is from.1 from.2 in search (rules, truth.1),
         )
 
@@ -158,7 +158,7 @@ out_of_mirror e r c (is_tree _ at) = is_tree c at
 out_of_mirror e r c (part_of y _ node is part up) = search (rules, part_of, old_node e.nodes y node is, part_mirror, out_of_mirror e r y up)
 
 pub mirror_range : (e : WrittenExpression) (low r : ℕ) → IsNodeRange e.nodes low r → IsNodeRange (seen true e).nodes low r
-mirror_range e low r range c = (λ h. in_mirror e r c ((range c).0 h), λ h. (range c).1 (out_of_mirror e r c h))
+mirror_range e low r range c = search (rules, range c, in_mirror e r c, out_of_mirror e r c)
 
 -- what the row of a kept pass backwards shows
 pub behind_reaches : (e : WrittenExpression) (w : List ℕ) (r x p d : ℕ) (u t : Starts) (entered ended : ℕ → Bool) → IsArena e.nodes → Opposite (length w) u t → t.last ≤ length w → p + d ≡ length w →
