@@ -32,12 +32,11 @@ module _ (nodes : List Node) (w : List ℕ) (r : ℕ) (s : Starts) (arena : IsAr
   one_copy x j a first le is end =
       let from = Enters-part nodes w r s arena x le a.index end.0 (Star a first) is refl end.2 in
       let copies = CopiesLead-append (HasSpan nodes w a.index) end.0 from.0 j (open_at nodes w x (Star a first) arena is from.0 end.0 from.2) end.1 end.3 in
-      (from.0, omega (arith, end.1, Matches-forward (tree_at nodes x) w from.0 end.0 from.2), from.1, close_at nodes w x (Star a first) arena is from.0 j copies)
+      search (rules, Matches-forward (tree_at nodes x) w from.0 end.0 from.2, close_at nodes w x (Star a first) arena is from.0 j copies)
 
   -- and its last copy ends with it
   pub last_copy : (x i j : ℕ) (a : NodeId) (first : Bool) → slice_get nodes x ≡ Some (Star a first) → Enters nodes w r s x i → HasSpan nodes w x i j → (i ≡ j) ⊎ CanEnd nodes w r s a.index j
-  last_copy x i j a first is e at = let last = CopiesLead-last (HasSpan nodes w a.index) j i (open_at nodes w x (Star a first) arena is i j at) in
-      let more = λ (k : ℕ). again x a.index i k a first is refl e in let whole = λ (k : ℕ). close_at nodes w x (Star a first) arena is i k in search rules
+  last_copy x i j a first is e at = grind (arith, CopiesLead-last (HasSpan nodes w a.index) j i, open_at nodes w x (Star a first) arena is i j, again, close_at nodes w x (Star a first) arena is i)
 
   -- upwards: the mark of a node that ends with a byte, by those of its parts
   module _ (took : List Bool → Bool) (null ended : ℕ → Bool) (x j : ℕ) (le : x ≤ r) where
@@ -91,11 +90,10 @@ module _ (nodes : List Node) (w : List ℕ) (r : ℕ) (s : Starts) (arena : IsAr
         )
 
     pub copy_part : (a : NodeId) (first : Bool) → slice_get nodes x ≡ Some (Star a first) → (ended : Bool) → (IsTrue ended ↔ CanEnd nodes w r s a.index p) → IsTrue (here || ended) ↔ Enters nodes w r s a.index p
-    copy_part a first is ended ends =
-        let truth = either-iff _ _ _ _ enters ends in (
-          λ h. elim (truth.0 h) [ inl begins ↦ with_whole x a.index p (Star a first) is refl begins | inr end ↦ search (rules, again, one_copy x p a first le is end) ],
-          λ h. let from = Enters-part nodes w r s arena x le a.index p (Star a first) is refl h in let end = last_copy x from.0 p a first is from.1 from.2 in search (rules, truth.1),
-        )
+    copy_part a first is ended ends = (
+      λ h. let begin = λ (e : IsTrue here). with_whole x a.index p (Star a first) is refl (enters.0 e) in let copy = λ (e : IsTrue ended). one_copy x p a first le is (ends.0 e) in search (rules, again),
+      λ h. let from = Enters-part nodes w r s arena x le a.index p (Star a first) is refl h in search (rules, last_copy x from.0 p a first is from.1 from.2, enters, ends),
+    )
 
 -- where no leaf is entered no match goes on
 pub dead : (nodes : List Node) (w : List ℕ) (r p i k : ℕ) (s : Starts) → IsArena nodes → r < length nodes → NoneEntered nodes w r s p → IsStart s i → i ≤ p → p < k → HasSpan nodes w r i k → ⊥
@@ -128,8 +126,8 @@ row_empty nodes w r p s keeps entered ended row none c m is h = true≢false (sy
 -- The least index in a node.
 
 in_part : (nodes : List Node) (x a : ℕ) (node : Node) → slice_get nodes x ≡ Some node → IsPart node a → (c : ℕ) → InTree nodes a c → InTree nodes x c
-in_part nodes x a node is part c (is_tree _ e) = part_of x c node is (rw e part) (is_tree x refl)
-in_part nodes x a node is part c (part_of y _ other is' part' up) = part_of y c other is' part' (in_part nodes x a node is part y up)
+in_part nodes x a node is part c (is_tree _ e) = search (rules, part_of, is_tree)
+in_part nodes x a node is part c (part_of y _ other is' part' up) = search (rules, part_of, in_part nodes x a node is part y up)
 
 -- a node in x is x, or in a part of it
 by_part : (nodes : List Node) (x : ℕ) (node : Node) → slice_get nodes x ≡ Some node → (c : ℕ) → InTree nodes x c → (c ≡ x) ⊎ ((a : ℕ) × IsPart node a × InTree nodes a c)
@@ -140,8 +138,8 @@ by_part nodes x node is c (part_of y _ other is' part up) = search (rules, by_pa
 pub range_of : (nodes : List Node) (x low : ℕ) (node : Node) → slice_get nodes x ≡ Some node → low ≤ x → ((c : ℕ) → low ≤ c → c < x → (a : ℕ) × IsPart node a × InTree nodes a c) →
     ((a c : ℕ) → IsPart node a → InTree nodes a c → (low ≤ c) × (c < x)) → IsNodeRange nodes low x
 range_of nodes x low node is small down up c = (
-  λ h. elim (cases_eq c x) [ inl e ↦ is_tree c e | inr ne ↦ let part = down c h.0 (omega (arith, h.1)) in in_part nodes x part.0 node is part.1 c part.2 ],
-  λ h. elim (by_part nodes x node is c h) [ inl e ↦ (omega arith, omega arith) | inr f ↦ let within = up f.0 c f.1 f.2 in (within.0, omega (arith, within.1)) ],
+  λ h. search (rules, cases_eq c x, is_tree, in_part, down c),
+  λ h. grind (arith, by_part nodes x node is c h, up),
 )
 
 -- The same of a mirrored expression.
@@ -151,7 +149,7 @@ part_mirror node c = search rules
 
 in_mirror : (e : WrittenExpression) (r c : ℕ) → InTree e.nodes r c → InTree (seen true e).nodes r c
 in_mirror e r c (is_tree _ at) = is_tree c at
-in_mirror e r c (part_of y _ node is part up) = part_of y c (mirror_node node) (seen-node true e y node is) ((part_mirror node c).0 part) (in_mirror e r y up)
+in_mirror e r c (part_of y _ node is part up) = search (rules, part_of, seen-node true e y node is, part_mirror, in_mirror e r y up)
 
 out_of_mirror : (e : WrittenExpression) (r c : ℕ) → InTree (seen true e).nodes r c → InTree e.nodes r c
 out_of_mirror e r c (is_tree _ at) = is_tree c at
