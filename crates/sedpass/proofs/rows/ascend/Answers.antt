@@ -71,9 +71,6 @@ loop-y-preserved c =
       counts = omega arith;
     }
 
-pub returns-clause-ended : goal.returns-clause-ended
-returns-clause-ended c = let at : c.loop-y.y ≡ c.args.act.root = omega (arith, c.loop-y.invariant.order, c.loop-y-test.false) in rw at at c.loop-y.invariant.ended
-
 pub returns-clause-entered : goal.returns-clause-entered
 returns-clause-entered c =
     let act = c.args.act in

@@ -30,34 +30,7 @@ loop-x-preserved c =
       counts = omega arith;
     }
 
-pub returns-clause-took : goal.returns-clause-took
-returns-clause-took c =
-    let act = c.args.act in
-    let past : c.loop-x.x ≡ act.root + 1 = omega (arith, c.loop-x.invariant.order, c.loop-x-test.false) in
-    rw (← c.leaves_row-leaves.ensures) (taken_all (nodes_of act.way act.prepared.now) c.low-low.result act.root (row_of c.args.rows.now c.leaves_row-leaves.result) (Some c.args.byte) (row_of c.loop-x.rows 1)
-    (c.low-low.ensures.range act.way.mirrored) (rw past at c.loop-x.invariant.taken)).0
-
-pub returns-clause-leaves : goal.returns-clause-leaves
-returns-clause-leaves c =
-    let act = c.args.act in
-    let past : c.loop-x.x ≡ act.root + 1 = omega (arith, c.loop-x.invariant.order, c.loop-x-test.false) in
-    (taken_all (nodes_of act.way act.prepared.now) c.low-low.result act.root (row_of c.args.rows.now c.leaves_row-leaves.result) (Some c.args.byte) (row_of c.loop-x.rows 1)
-    (c.low-low.ensures.range act.way.mirrored) (rw past at c.loop-x.invariant.taken)).1
-
 -- by the row of takers
-
-pub returns-in-Some-clause-took : goal.returns-in-Some-clause-took
-returns-in-Some-clause-took c =
-    let act = c.args.act in
-    let e = act.prepared.now in
-    let nodes = nodes_of act.way e in
-    let told = rw c.in-Some.is at c.requires.takers in
-    let long = seen-length act.way.mirrored e in
-    let whole : size (tree_at e.nodes act.root) ≡ length e.nodes = rw told.2 c.nodes-nodes.ensures.expr.whole in
-    let low : c.low-low.result ≡ 0 = omega (arith, c.low-low.ensures.size, whole, told.2, c.requires.root) in
-    let both = taken_both nodes c.low-low.result act.root (row_of c.args.rows.now c.leaves_row-leaves.result) (row_of c.args.rows.now c.in-Some.row) (row_of c.blend.new.self 1) c.args.byte low (omega (arith, long, told.2, c.requires.root)) told.3
-    (λ k lt. c.blend.ensures.marks k (omega (arith, lt, long, c.nodes-nodes.ensures.value))) in
-    rw (← c.leaves_row-leaves.ensures) (taken_all nodes c.low-low.result act.root (row_of c.args.rows.now c.leaves_row-leaves.result) (Some c.args.byte) (row_of c.blend.new.self 1) (c.low-low.ensures.range act.way.mirrored) both).0
 
 pub returns-in-Some-clause-leaves : goal.returns-in-Some-clause-leaves
 returns-in-Some-clause-leaves c =
