@@ -113,9 +113,6 @@ pub parents_more : (nodes : List Node) (arena : IsArena nodes) (old after : List
     ((c : ℕ) → (IsPart node c → ⊥) → slice_index_or after c 0 ≡ slice_index_or (old ++ 0 ∷ []) c 0) → AreParents nodes old x → AreParents nodes after (x + 1)
 parents_more nodes arena old after x node all is told others notes q c other lt is' part = grind (arith, told c, others c, arena.once q x c other node is' is part, arena.below q c other is' part, notes q c other, get_or_append_left old (0 ∷ []) 0 c)
 
-neither : (a b : Bool) → (a || b) ≡ false → (a ≡ false) × (b ≡ false)
-neither a b none = search rules
-
 -- null strings are the same up to the next node
 pub nulls_more : (nodes : List Node) (mirrored told tells : Bool) (n : ℕ) (node : Node) (next : Facts) → IsArena nodes → slice_get nodes n ≡ Some node → IsFacts (tree_of (tree_at nodes) node) n next →
     ((tells ≡ false) ↔ (null_at next.null mirrored (not mirrored) ≡ null_at next.null false false)) → ((told ≡ false) ↔ SameNulls nodes mirrored n) → ((told || tells) ≡ false) ↔ SameNulls nodes mirrored (n + 1)
