@@ -9,8 +9,7 @@ use Rattle.sedpass.proofs.rows.descend.Goals.{After-loop-x}
 use Rattle.sedpass.proofs.rows.descend.Goals as goal
 
 no_row : (b : Bool) (o : Option ℕ) → is_some o ≡ not b → b ≡ is_none o
-no_row true o e = rw e refl
-no_row false o e = rw e refl
+no_row b o e = search rules
 
 pub loop-x-init : goal.loop-x-init
 unfolding TakesAtLeast IsCounted
@@ -71,54 +70,37 @@ loop-x-preserved c =
 found : (c : After-loop-x) (first : Bool) (took other before before_ended : ℕ → Bool) → RowFollows (nodes_of c.args.act.way c.args.act.prepared.now) c.args.act.root c.args.act.way.mirrored first (null_in c.args.act.prepared.now.nodes c.args.act.kind) other before before_ended →
     EndsUpTo (nodes_of c.args.act.way c.args.act.prepared.now) c.args.act.root took (null_in c.args.act.prepared.now.nodes c.args.act.kind) (row_of c.args.rows.now 1) c.args.act.root →
     ((n : ℕ) → n < length c.args.act.prepared.now.nodes → marks_of c.args.base leaves_row c.args.rows.now n ≡ before n) → ((n : ℕ) → n < length c.args.act.prepared.now.nodes → marks_of c.args.base ends_row c.args.rows.now n ≡ before_ended n) →
-    RowIs c.args.act (first || (c.args.first && is_none c.args.base)) (λ n. other n || took n) c.loop-x.rows c.args.state
-found c first took other before before_ended follows up leaf_same end_same =
-    let act = c.args.act in
-    let r = act.root in
-    let e = act.prepared.now in
-    let nodes = nodes_of act.way e in
-    let null = null_in e.nodes act.kind in
-    let long = seen-length act.way.mirrored e in
-    let arena = seen-arena act.way.mirrored e c.nodes-nodes.ensures.expr.arena in
-    let low = c.low-low.result in
-    let at : c.loop-x.x ≡ low = omega (arith, c.loop-x.invariant.order, c.loop-x-test.false) in
-    let all : (n : ℕ) → InTree nodes r n → low ≤ n = λ n there. ((c.low-low.ensures.range act.way.mirrored n).1 there).0 in
+    (first || (c.args.first && c.is_none.result)) ≡ c.args.first → RowIs c.args.act c.args.first (λ n. other n || took n) c.loop-x.rows c.args.state
+found c first took other before before_ended follows up leaf_same end_same sum =
+    let mirrored = c.args.act.way.mirrored in
+    let e = c.args.act.prepared.now in
+    let long = seen-length mirrored e in
+    let old = c.loop-x.invariant in
+    let at : c.loop-x.x ≡ c.low-low.result = omega (arith, old.order, c.loop-x-test.false) in
     let leaves = c.leaves_row-leaves.result in
     let some : 1 < leaves = omega (arith, c.leaves_row-leaves.ensures) in
     let base : row_of c.set.new.self leaves ≡ row_of c.lay.new.rows leaves = c.set.ensures.keeps.same leaves (λ n. omega (arith, n, some)) in
-    let kept = c.loop-x.invariant.ends in
-    let down : EntersDownTo nodes r (c.args.first && is_none c.args.base) null (row_of c.args.rows.now 1) (row_of c.loop-x.rows 0) low (r + 1) = rw (no_row c.is_none.result c.args.base c.is_none.ensures) at (rw at at c.loop-x.invariant.entered) in
     let there : IfSome c.args.base (λ q. row_of c.close.new.rows (leaves_row q) ≡ row_of c.args.rows.now (leaves_row q)) = IfSome_then c.args.base c.requires.base (λ q low. c.close.ensures.keeps.same (leaves_row q) (λ n. omega (arith, n, low, c.ends_row-ends.ensures))) in
-    let laid : (n : ℕ) → n < length nodes → has_mark (row_of c.set.new.self leaves) n ≡ before n = λ n lt. let few : n < length e.nodes = omega (arith, lt, long) in
+    let laid : (n : ℕ) → n < length (nodes_of c.args.act.way e) → has_mark (row_of c.set.new.self leaves) n ≡ before n = λ n lt. let few : n < length e.nodes = omega (arith, lt, long) in
     rw base (c.lay.ensures.laid n (omega (arith, few, c.nodes-nodes.ensures.value)) ∙ marks_kept c.args.base leaves_row c.args.rows.now c.close.new.rows n there ∙ leaf_same n few) in
-    rw (← c.leaves_row-leaves.ensures, ← c.ends_row-ends.ensures, ← long)
-    (row_added nodes r arena (inside_seen act.way.mirrored e r c.requires.root) act.way.mirrored first (c.args.first && is_none c.args.base) null took other before before_ended follows
-    (row_of c.args.rows.now 1) (row_of c.loop-x.rows 0) (row_of c.set.new.self leaves) (row_of c.loop-x.rows leaves) (row_of c.loop-x.rows c.ends_row-ends.result) low all up down (rw at at c.loop-x.invariant.leaves) laid
-    (record { others = λ n lt ne. rw (← end_same n (omega (arith, lt, long))) (kept.others n lt ne); own = rw (← end_same r c.requires.root, ← no_row c.is_none.result c.args.base c.is_none.ensures) kept.own }))
+    rw (← c.leaves_row-leaves.ensures, ← c.ends_row-ends.ensures, ← long, ← sum)
+    (row_added _ _ (seen-arena mirrored e c.nodes-nodes.ensures.expr.arena) (inside_seen mirrored e _ c.requires.root) _ _ _ _ _ _ _ _ follows _ _ _ _ _ _ (λ n there. ((c.low-low.ensures.range mirrored n).1 there).0) up (rw at at old.entered) (rw at at old.leaves) laid
+    (record { others = λ n lt ne. rw (← end_same n (omega (arith, lt, long))) (old.ends.others n lt ne); own = rw (← end_same _ c.requires.root) old.ends.own }))
 
-more_none : (b : Bool) → (b || (b && false)) ≡ b
-more_none true = refl
-more_none false = refl
-
-all_none : (b : Bool) → (b && true) ≡ b
-all_none true = refl
-all_none false = refl
+absorbed : (a b : Bool) → (a || (a && b)) ≡ a
+absorbed a b = search rules
 
 -- with the row of a state
 added : (c : After-loop-x) (base : Option ℕ) → c.args.base ≡ base → IfSome base (λ q. (other took : ℕ → Bool) → RowIs c.args.act c.args.first other c.args.rows.now q →
     EndsUpTo (nodes_of c.args.act.way c.args.act.prepared.now) c.args.act.root took (null_in c.args.act.prepared.now.nodes c.args.act.kind) (row_of c.args.rows.now 1) c.args.act.root →
     RowIs c.args.act c.args.first (λ n. other n || took n) c.loop-x.rows c.args.state)
 added c None is = search rules
-added c (Some q) is = λ other took row up.
-    let from = found c c.args.first took other _ _ row up (λ n lt. rw is (sym (bits_here _ _ n lt))) (λ n lt. rw is (sym (bits_here _ _ n lt))) in
-    rw (is, more_none c.args.first) at from
+added c (Some q) is = λ other took row up. found c c.args.first took other _ _ row up (λ n lt. rw is (sym (bits_here _ _ n lt))) (λ n lt. rw is (sym (bits_here _ _ n lt))) (absorbed c.args.first c.is_none.result)
 
 pub returns-clause-alone : goal.returns-clause-alone
 returns-clause-alone c none took up =
-    let act = c.args.act in
-    let e = act.prepared.now in
-    let from = found c false took (λ n. false) (λ n. false) (λ n. false) (nothing (nodes_of act.way e) act.root act.way.mirrored (null_in e.nodes act.kind)) up (λ n lt. rw none refl) (λ n lt. rw none refl) in
-    rw (none, all_none c.args.first) at from
+    let alone : c.is_none.result ≡ true = no_row c.is_none.result c.args.base c.is_none.ensures ∙ ap is_none none in
+    found c false took _ _ _ (nothing _ _ _ _) up (λ n lt. rw none refl) (λ n lt. rw none refl) (rw alone (search rules))
 
 pub returns-clause-added : goal.returns-clause-added
 returns-clause-added c = added c c.args.base refl
