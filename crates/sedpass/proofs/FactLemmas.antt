@@ -104,9 +104,8 @@ pub parent_is : (e : WrittenExpression) (parents : List ℕ) (x noted : ℕ) →
     (noted < length e.nodes) × (x < noted) × ((mirrored : Bool) (node : Node) → slice_get (seen mirrored e).nodes noted ≡ Some node → IsPart node x)
 parent_is e parents x noted arena notes inside is =
     let p = arena.each x inside in
-    let low : p.0 < length e.nodes = slice_get_within e.nodes p.0 p.1 p.2 in
-    let same : noted ≡ p.0 = is ∙ notes p.0 x p.1 low p.2 p.3 in
-    rw same (low, arena.below p.0 x p.1 p.2 p.3, λ mirrored node at. noted_part e p.0 x p.1 p.2 p.3 mirrored node at)
+    let low = slice_get_within e.nodes p.0 p.1 p.2 in
+    rw (is ∙ notes p.0 x p.1 low p.2 p.3) (low, arena.below p.0 x p.1 p.2 p.3, λ mirrored node at. noted_part e p.0 x p.1 p.2 p.3 mirrored node at)
 
 -- a node was noted for its parts
 pub parents_more : (nodes : List Node) (arena : IsArena nodes) (old after : List ℕ) (x : ℕ) (node : Node) → length old ≡ x → slice_get nodes x ≡ Some node → ((c : ℕ) → IsPart node c → slice_index_or after c 0 ≡ x) →

@@ -7,27 +7,21 @@ use Rattle.sedpass.proofs.RowLemmas.{InTree-inside, ended_is, enters_tree}
 -- the row is that of a place, where those leaves took the byte before it
 module _ (nodes : List Node) (w : List ℕ) (r p : ℕ) (s : Starts) (arena : IsArena nodes) (inside : r < length nodes) (keeps first : Bool) (null took : ℕ → Bool) (nulls : AreNull nodes w p null) (begins : IsTrue first ↔ IsStart s p)
     (takes : (c : ℕ) (members : List Bool) → InTree nodes r c → slice_get nodes c ≡ Some (Set members) → IsTrue (took c) ↔ Took nodes w r s p c members) (entered ended : ℕ → Bool) (f : RowFollows nodes r keeps first null took entered ended) where
-  node_of : (x : ℕ) → InTree nodes r x → (node : Node) × (slice_get nodes x ≡ Some node)
-  node_of x there = node_at nodes x (omega (arith, InTree-inside nodes arena r x there, inside))
-
   up_below : (n x : ℕ) → x < n → InTree nodes r x → IsTrue (f.ends x) ↔ CanEnd nodes w r s x p
   up_below (suc n) x lt there =
       let low = InTree-inside nodes arena r x there in
-      let here = node_of x there in
+      let here = node_at nodes x (omega (arith, low, inside)) in
       let below = λ (c : ℕ) (part : IsPart here.0 c). arena.below x c here.0 here.1 part in
       rw (f.up x here.0 there here.1) (ended_is nodes w r s arena (λ m. took x) null f.ends x p low here.0 here.1 (λ m same. takes x m there (here.1 ∙ ap (λ k. Some k) same))
       (λ c part. nulls c (omega (arith, low, inside, below c part))) (λ c part. up_below n c (omega (arith, lt, below c part)) (part_of x c here.0 here.1 part there)))
   up_below n x lt there = absurd (omega (arith, lt))
-
-  up_all : (c : ℕ) → InTree nodes r c → IsTrue (f.ends c) ↔ CanEnd nodes w r s c p
-  up_all c there = up_below (c + 1) c (omega arith) there
 
   down_all : (c : ℕ) → InTree nodes r c → IsTrue (f.begins c) ↔ Enters nodes w r s c p
   down_all c (is_tree _ e) = search (rules, f.root, at_root, Enters-root)
   down_all c (part_of y _ node is part up) =
       let yr = InTree-inside nodes arena r y up in
       rw (f.down y c node up is part) (entered_is nodes w r y p s arena yr (f.begins y) (down_all y up) null f.ends node is
-      (λ n at. nulls n (omega (arith, yr, inside, arena.below y n node is at))) (λ n at. up_all n (part_of y n node is at up)) c part)
+      (λ n at. nulls n (omega (arith, yr, inside, arena.below y n node is at))) (λ n at. up_below (n + 1) n (omega arith) (part_of y n node is at up)) c part)
 
   starts : IsTrue first ↔ Enters nodes w r s r p
   starts = search (rules, at_root, Enters-root)
@@ -35,7 +29,7 @@ module _ (nodes : List Node) (w : List ℕ) (r p : ℕ) (s : Starts) (arena : Is
   pub row_of_place : RowOfPlace nodes w r s keeps p entered ended
   row_of_place = record {
     leaves = λ c. search (rules, f.leaves c, down_all c, enters_tree);
-    ends = λ c. search (rules, ends_at nodes w r c p s, f.ended_is c, up_all c, starts, nulls r inside, enters_tree, is_tree);
+    ends = λ c. search (rules, ends_at nodes w r c p s, f.ended_is c, up_below (c + 1) c (omega arith), starts, nulls r inside, enters_tree, is_tree);
   }
 
 -- where as many took the byte the same follows
@@ -82,20 +76,14 @@ ended_both one two null f g node = grind arith
 entered_both : (one two : Bool) (null f g : ℕ → Bool) (node : Node) (c : ℕ) → (entered_by one null f node c || entered_by two null g node c) ≡ entered_by (one || two) null (λ n. f n || g n) node c
 entered_both one two null f g node c = grind arith
 
-no_begin : (null : ℕ → Bool) (node : Node) (c : ℕ) → entered_by false null (λ n. false) node c ≡ false
-no_begin null node c = grind arith
-
-no_end : (null : ℕ → Bool) (node : Node) → ended_by (λ m. false) null (λ c. false) node ≡ false
-no_end null node = grind arith
-
 -- what follows from no leaf, where nothing begins
 pub nothing : (nodes : List Node) (r : ℕ) (keeps : Bool) (null : ℕ → Bool) → RowFollows nodes r keeps false null (λ c. false) (λ c. false) (λ c. false)
 nothing nodes r keeps null = record {
   begins = λ c. false;
   ends = λ c. false;
   root = refl;
-  down = λ x c node there is part. sym (no_begin null node c);
-  up = λ x node there is. sym (no_end null node);
+  down = λ x c node there is part. grind arith;
+  up = λ x node there is. grind arith;
   leaves = λ c. search (rules, true≢false);
   ended_is = λ c. search (rules, true≢false);
 }
@@ -110,9 +98,6 @@ module _ (nodes : List Node) (r : ℕ) (arena : IsArena nodes) (inside : r < len
   down_told : (x c : ℕ) (node : Node) → InTree nodes r x → slice_get nodes x ≡ Some node → IsPart node c → has_mark entered c ≡ entered_by (has_mark entered x) null (has_mark ended) node c
   down_told x c node there is part = same_truth _ _ (down.just x c node there is part) (λ h. down.closed x c node there is part (search (rules, entered_by_more, le-leb, all x there, lt-ltb, InTree-inside nodes arena r x there, arena.below x)))
 
-  either : (a b : Bool) → IsTrue (a || b) ↔ (IsTrue a ⊎ IsTrue b)
-  either a b = either-iff a b (IsTrue a) (IsTrue b) (λ h. h, λ h. h) (λ h. h, λ h. h)
-
   -- the nodes that end
   abbrev Last : ℕ → Type 0
   Last c = IsTrue (before_ended c) ⊎ (((IsTrue keeps ⊎ (c ≡ r)) × IsTrue (has_mark ended c)) ⊎ ((c ≡ r) × IsTrue begun × IsTrue (null r)))
@@ -122,9 +107,6 @@ module _ (nodes : List Node) (r : ℕ) (arena : IsArena nodes) (inside : r < len
 
   within : (c : ℕ) → InTree nodes r c → c < length nodes
   within c there = omega (arith, InTree-inside nodes arena r c there, inside)
-
-  marked : (marks : List Bool) (c : ℕ) → c < length nodes → IsTrue (has_mark marks c) → IsTrue (bits (length nodes) marks c)
-  marked marks c lt h = search (rules, lt-ltb)
 
   pub row_added : RowFollows nodes r keeps (first || begun) null (λ c. other c || took c) (bits (length nodes) leaves) (bits (length nodes) last)
   row_added = record {

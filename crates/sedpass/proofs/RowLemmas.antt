@@ -42,10 +42,7 @@ module _ (nodes : List Node) (w : List ℕ) (r : ℕ) (s : Starts) (arena : IsAr
   module _ (took : List Bool → Bool) (null ended : ℕ → Bool) (x j : ℕ) (le : x ≤ r) where
     pub ended_is : (node : Node) → slice_get nodes x ≡ Some node → ((m : List Bool) → node ≡ Set m → IsTrue (took m) ↔ Took nodes w r s j x m) →
         ((c : ℕ) → IsPart node c → IsTrue (null c) ↔ HasSpan nodes w c j j) → ((c : ℕ) → IsPart node c → IsTrue (ended c) ↔ CanEnd nodes w r s c j) → IsTrue (ended_by took null ended node) ↔ CanEnd nodes w r s x j
-    ended_is (Set m) is takes nulls ends = (
-      λ h. let here = (takes m refl).0 h in let taken = takes_some (slice_get w here.0) m here.3 in (here.0, omega arith, here.2, close_at nodes w x (Set m) arena is here.0 j (taken.0, taken.1, taken.2, sym here.1)),
-      λ h. let f = open_at nodes w x (Set m) arena is h.0 j h.3 in (takes m refl).1 (h.0, sym f.3, h.2, rw f.1 f.2),
-    )
+    ended_is (Set m) is takes nulls ends = grind (arith, takes m refl, open_at nodes w x (Set m) arena is, close_at nodes w x (Set m) arena is, takes_some)
     ended_is (Seq a b) is takes nulls ends =
         let truth = either-iff _ _ _ _ (ends b.index (inr refl)) (both-iff _ _ _ _ (ends a.index (inl refl)) (nulls b.index (inr refl))) in (
           λ h. elim (truth.0 h) [
@@ -63,11 +60,10 @@ module _ (nodes : List Node) (w : List ℕ) (r : ℕ) (s : Starts) (arena : IsAr
           ],
           λ h. let at = open_at nodes w x (Alt a b) arena is h.0 j h.3 in search (rules, truth.1, with_whole x a.index h.0 (Alt a b) is (inl refl) h.2, with_whole x b.index h.0 (Alt a b) is (inr refl) h.2),
         )
-    ended_is (Group k a) is takes nulls ends = (
-      λ h. up_with x j a.index (Group k a) le is refl (λ i f. f) (λ i at. close_at nodes w x (Group k a) arena is i j at) ((ends a.index refl).0 h),
-      λ h. (ends a.index refl).1 (h.0, h.1, with_whole x a.index h.0 (Group k a) is refl h.2, open_at nodes w x (Group k a) arena is h.0 j h.3),
-    )
-    ended_is (Star a first) is takes nulls ends = (λ h. one_copy x j a first le is ((ends a.index refl).0 h), λ h. let end = last_copy x h.0 j a first is h.2 h.3 in let ne = h.1 in search (rules, (ends a.index refl).1))
+    ended_is (Group k a) is takes nulls ends =
+        let part = ends a.index refl in
+        (λ h. search (rules, up_with x j a.index (Group k a) le is refl (λ i f. f) (λ i at. close_at nodes w x (Group k a) arena is i j at)), λ h. search (rules, open_at nodes w x (Group k a) arena is h.0 j h.3, with_whole x a.index h.0 (Group k a) is refl h.2))
+    ended_is (Star a first) is takes nulls ends = let part = ends a.index refl in search (rules, one_copy x j a first le is, last_copy)
     ended_is (Opt a first) is takes nulls ends = (
       λ h. up_with x j a.index (Opt a first) le is refl (λ i f. f) (λ i at. close_at nodes w x (Opt a first) arena is i j (inr at)) ((ends a.index refl).0 h),
       λ h. let at = open_at nodes w x (Opt a first) arena is h.0 j h.3 in let ne = h.1 in search (rules, (ends a.index refl).1, with_whole x a.index h.0 (Opt a first) is refl h.2),
