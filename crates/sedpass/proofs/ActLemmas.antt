@@ -17,13 +17,7 @@ ended_split took null f g y node less h = search (rules, less, eq-eqb)
 ends_part : (null : ℕ → Bool) (y : ℕ) (node : Node) → EndsAfter null node y → IsPart node y
 ends_part null y node h = search (rules, eqb-true)
 
-ends_more : (took : List Bool → Bool) (null f : ℕ → Bool) (y : ℕ) (node : Node) → IsTrue (f y) → EndsAfter null node y → IsTrue (ended_by took null f node)
-ends_more took null f y node here h = search (rules, eqb-true)
-
--- a node's part in r but r itself has its node in r
-pub parent_inside : (nodes : List Node) (r y p : ℕ) (node : Node) → IsArena nodes → InTree nodes r y → (y ≡ r → ⊥) → slice_get nodes p ≡ Some node → IsPart node y → InTree nodes r p
-parent_inside nodes r y p node arena inside ne is part = search (rules, arena.once)
-
+-- two truth values that say the same
 pub same_truth : (a b : Bool) → (IsTrue a → IsTrue b) → (IsTrue b → IsTrue a) → a ≡ b
 same_truth a b up down = search rules
 
@@ -54,11 +48,12 @@ one_node nodes p x node other is is' e = search (rules, same_Some)
 no_part_ends : (took null f : ℕ → Bool) (x : ℕ) (node : Node) → ((n : ℕ) → IsPart node n → f n ≡ false) → IsTrue (ended_by (λ m. took x) null f node) → IsTrue (took x)
 no_part_ends took null f x node none h = search (rules, none, true≢false)
 
-pub leaves_end : (nodes : List Node) (r y : ℕ) (took null : ℕ → Bool) (ended : List Bool) → MarkLeaves nodes r ended → ((c : ℕ) → c < length nodes → has_mark ended c ≡ took c) → ((c : ℕ) → InTree nodes r c → c < y → has_mark ended c ≡ false) → EndsUpTo nodes r took null ended y
+pub leaves_end : (nodes : List Node) (r y : ℕ) (took null : ℕ → Bool) (ended : List Bool) → MarkLeaves nodes r ended → ((c : ℕ) → c < length nodes → has_mark ended c ≡ took c) → ((c : ℕ) → InTree nodes r c → c < y → has_mark ended c ≡ false) →
+    EndsUpTo nodes r took null ended y
 leaves_end nodes r y took null ended only same none = record {
   inside = λ c lt h. (only c lt h).0;
   just = λ c node is h. search (rules, only c (slice_get_within nodes c node is) h, one_node, same, slice_get_within);
-  closed = λ c node there is h. same c (slice_get_within nodes c node is) ∙ no_part_ends took null (λ n. nat_lt n y && has_mark ended n) c node (λ n part. search (rules, ltb-true, none n, part_of, false_from_ne_true)) h;
+  closed = λ c node there is h. search (rules, same c (slice_get_within nodes c node is), no_part_ends, ltb-true, none, part_of, false_from_ne_true);
 }
 
 -- what a node says of where its parts begin
@@ -82,7 +77,9 @@ enters_none nodes r z null ended entered arena clear inside none = record {
   inside = λ c lt h. search (rules, clear, true≢false);
   root = clear r inside;
   just = λ q c node there is part h. search (rules, clear, arena.below, slice_get_within, true≢false);
-  closed = λ q c node there is part h. absurd (let inner = λ (n : ℕ) (part : IsPart node n). none n (part_of q n node is part there) in grind (arith, leb-true, ltb-true, InTree-inside nodes arena r q there, inner));
+  closed = λ q c node there is part h.
+      let inner = λ (n : ℕ) (part : IsPart node n). none n (part_of q n node is part there) in
+      absurd (grind (arith, leb-true, ltb-true, InTree-inside nodes arena r q there, inner));
 }
 
 -- Besides the marks of a base, of the leaves from x on those are marked that were entered.
@@ -107,12 +104,11 @@ module _ (nodes : List Node) (r : ℕ) (arena : IsArena nodes) (entered after : 
   pub down_step : (first : Bool) (ended : List Bool) (z : ℕ) → EntersDownTo nodes r first null ended entered (x + 1) z → EntersDownTo nodes r first null ended after y z
   down_step first ended z down =
       let there = down.inside x (slice_get_within nodes x node is) here in
-      let told = λ (c : ℕ) (part : IsPart node c) (h : IsTrue (entered_by true null (λ n. false) node c)). (adds c).1 (inr (part, h)) in
       record {
         inside = λ c lt h. search (rules, adds c, down.inside, part_of);
         root = still_marked r (InTree-inside nodes arena r x there) ∙ down.root;
-        just = λ q c other there' is' part h. let old = down.just q c other there' is' part in let more = (adds q).1 in let once = arena.once q x c other node is' is part in let one = one_node nodes x q node other is is' in search (rules, adds c);
-        closed = λ q c other there' is' part h. let old = down.closed q c other there' is' part in let more = still_above q in let one = one_node nodes x q node other is is' in search (rules, entered_split, adds c, cases_eq q x);
+        just = λ q c other there' is' part h. search (rules, adds c, adds q, down.just q c other there' is' part, arena.once q x c other node is' is part, one_node nodes x q node other is is');
+        closed = λ q c other there' is' part h. search (rules, entered_split, adds c, cases_eq q x, down.closed q c other there' is' part, still_above q, one_node nodes x q node other is is');
       }
 
   -- and the node itself, if it is a leaf
@@ -128,7 +124,7 @@ begins_split here more null f g y node c up less h = search (rules, up, less, eq
 module _ (nodes : List Node) (r : ℕ) (arena : IsArena nodes) (null : ℕ → Bool) (ended after_ended : List Bool) (y p z : ℕ) (node : Node) (is : slice_get nodes p ≡ Some node) (own : IsPart node y) (under : y < r)
     (here : IsTrue (has_mark ended y)) (inner : InTree nodes r y) (adds_ended : AddsMarks ended after_ended (λ c. (c ≡ p) × EndsAfter null node y)) (none : (c : ℕ) → y + 1 ≤ c → c < z → has_mark after_ended c ≡ false) where
   there : InTree nodes r p
-  there = parent_inside nodes r y p node arena inner (λ e. omega (arith, e, under)) is own
+  there = search (rules, arena.once, under)
 
   -- a mark below z is one below y, or y
   still_below : (n : ℕ) → IsTrue (nat_lt n z && has_mark after_ended n) → IsTrue (nat_lt n y && has_mark ended n) ⊎ (n ≡ y)
@@ -137,21 +133,19 @@ module _ (nodes : List Node) (r : ℕ) (arena : IsArena nodes) (null : ℕ → B
   pub up_step : (took : ℕ → Bool) → EndsUpTo nodes r took null ended y → EndsUpTo nodes r took null after_ended z
   up_step took up = record {
     inside = λ x low h. search (rules, up.inside, adds_ended x, there);
-    just = λ x other is' h. search (rules, adds_ended, up.just x other is', ended_by_more, ends_more, one_node, here);
-    closed = λ x other there' is' h. let old = up.closed x other there' is' in
-        let split = ended_split (λ m. took x) null (λ c. nat_lt c z && has_mark after_ended c) (λ c. nat_lt c y && has_mark ended c) y other (λ c part. still_below c) h in
-        search (rules, ends_part null y other, arena.once x p y other node is' is, one_node nodes p x node other is is', adds_ended x);
+    just = λ x other is' h. search (rules, adds_ended, up.just x other is', eqb-true, one_node, here);
+    closed = λ x other there' is' h. search (rules, up.closed x other there' is', ended_split, still_below, ends_part null y other, arena.once x p y other node is' is, one_node nodes p x node other is is', adds_ended x);
   }
 
   pub follow_step : (entered after : List Bool) → AddsMarks entered after (StartsAfter null node y) → EntersDownTo nodes r false null ended entered (r + 1) y → EntersDownTo nodes r false null after_ended after (r + 1) z
   follow_step entered after adds down = record {
     inside = λ c lt h. search (rules, adds c, down.inside, part_of, there);
-    root = same_truth _ _ (λ h. grind (arith, (adds r).0 h, down.root, arena.below p r node is, InTree-inside nodes arena r p there)) (λ h. absurd (true≢false (sym h)));
-    just = λ q c other there' is' part h. let old = down.just q c other there' is' part in let once = arena.once q p c other node is' is part in let one = one_node nodes p q node other is is' in search (rules, adds, adds_ended, eqb-true, here);
-    closed = λ q c other there' is' part h. let old = down.closed q c other there' is' part in let once = arena.once q p y other node is' is in let one = one_node nodes p q node other is is' in
+    root = search (rules, same_truth, adds r, down.root, arena.below p r node is, InTree-inside nodes arena r p there, true≢false);
+    just = λ q c other there' is' part h. search (rules, adds, adds_ended, eqb-true, here, down.just q c other there' is' part, arena.once q p c other node is' is part, one_node nodes p q node other is is');
+    closed = λ q c other there' is' part h.
         let past : IsTrue (nat_le (r + 1) q && has_mark after q) → IsTrue (nat_le (r + 1) q && has_mark entered q) = λ h. grind (arith, leb-true, InTree-inside nodes arena r q there') in
         let split = begins_split (nat_le (r + 1) q && has_mark after q) (nat_le (r + 1) q && has_mark entered q) null (λ n. nat_lt n z && has_mark after_ended n) (λ n. nat_lt n y && has_mark ended n) y other c past (λ n at. still_below n) h in
-        search (rules, adds c);
+        search (rules, adds c, down.closed q c other there' is' part, arena.once q p y other node is' is, one_node nodes p q node other is is');
   }
 
 -- the root is no part in itself
@@ -182,7 +176,7 @@ module _ (nodes : List Node) (r x : ℕ) (arena : IsArena nodes) (first : Bool) 
   enters_first = record {
     inside = λ c lt h. search (rules, cases_eq c r, is_tree, down.inside, still_other);
     root = set_here entered after r first is_after long;
-    just = λ q c node there is part h. let old = down.just q c node there is part in search (rules, more_first, still_other, not_whole q c node there is part);
+    just = λ q c node there is part h. search (rules, more_first, still_other, not_whole q c node there is part, down.just q c node there is part);
     closed = λ q c node there is part h. search (rules, still_other, not_whole, down.closed, entered_by_more, past_whole);
   }
 
@@ -196,12 +190,12 @@ pub record HasTaken (nodes : List Node) (low r : ℕ) (leaves : List Bool) (byte
   pub done : (c : ℕ) (node : Node) → low ≤ c → c < z → slice_get nodes c ≡ Some node → IsTrue (has_mark leaves c) → TakenBy byte node → IsTrue (has_mark ended c)
 
 -- the node x was entered, and marked if it is a leaf that takes the byte, and none above it up to z
-pub taken_step : (nodes : List Node) (low r : ℕ) (leaves : List Bool) (byte : Option ℕ) (ended after : List Bool) (x z : ℕ) (node : Node) (took : Bool) → slice_get nodes x ≡ Some node → IsTrue (has_mark leaves x) → (IsTrue took ↔ TakenBy byte node) → low ≤ x → x ≤ r →
-    after ≡ slice_set ended x took → x < length ended → ((c : ℕ) → x + 1 ≤ c → c < z → has_mark leaves c ≡ false) → HasTaken nodes low r leaves byte ended x → HasTaken nodes low r leaves byte after z
+pub taken_step : (nodes : List Node) (low r : ℕ) (leaves : List Bool) (byte : Option ℕ) (ended after : List Bool) (x z : ℕ) (node : Node) (took : Bool) → slice_get nodes x ≡ Some node → IsTrue (has_mark leaves x) → (IsTrue took ↔ TakenBy byte node) →
+    low ≤ x → x ≤ r → after ≡ slice_set ended x took → x < length ended → ((c : ℕ) → x + 1 ≤ c → c < z → has_mark leaves c ≡ false) → HasTaken nodes low r leaves byte ended x → HasTaken nodes low r leaves byte after z
 taken_step nodes low r leaves byte ended after x z node took is here law above below is_after long none has = record {
   just = λ c lt h. elim (cases_eq c x) [
-    | inl e ↦ rw e (above, below, here, (node, is, law.0 (sym (set_here ended after x took is_after long) ∙ rw (← e) h)))
-    | inr ne ↦ has.just c lt (rw (← set_other ended after x took is_after c ne) h)
+    | inl e ↦ let told : TakenBy byte node = law.0 (sym (set_here ended after x took is_after long) ∙ rw (← e) h) in rw e (above, below, here, (node, is, told))
+    | inr ne ↦ search (rules, has.just c lt, set_other)
   ];
   done = λ c other at under is' mark taken. search (rules, cases_eq c x, cases_lt c x, set_here, set_other, has.done, law, one_node, none, true≢false);
 }

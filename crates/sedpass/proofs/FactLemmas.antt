@@ -33,7 +33,7 @@ nullable_mirror first last other = refl
 -- so what is known of a node serves both ways
 pub null_shows : (mirrored : Bool) (e : WrittenExpression) (kind : PlaceKind) (w : List ℕ) (p : ℕ) → IsPlace w p (at_begin mirrored kind) (at_edge mirrored kind) →
     AreNull (seen mirrored e).nodes w p (null_in e.nodes kind)
-null_shows false e kind w p there c low = nullable_is w p kind.begin kind.end there (tree_at e.nodes c)
+null_shows false e kind w p there c low = search (rules, nullable_is)
 null_shows true e kind w p there c low = search (rules, tree_at-mirror, nullable_mirror, nullable_is)
 
 -- trees are ranges
@@ -47,7 +47,7 @@ module _ (nodes : List Node) (groups : ℕ) (expr : IsExpr nodes groups) where
   by_parts x low mid a b node is left right only long below =
       let range = below a low (omega (arith, long)) (omega (arith, long)) in
       let range' = below b mid (omega (arith, long)) (omega (arith, long)) in
-      range_of nodes x low node is (omega (arith, long)) (λ c from to. let at = cases_lt a c in search rules) (λ d c that tree. let at = only d that in search rules)
+      range_of nodes x low node is (omega (arith, long)) (λ c from to. search (rules, cases_lt a c)) (λ d c that tree. search (rules, only d that))
 
   range_by : (x low : ℕ) (node : Node) → slice_get nodes x ≡ Some node → FollowsParts nodes x node → RangesBelow x → low + size (tree_of (tree_at nodes) node) ≡ x + 1 → IsNodeRange nodes low x
   range_by x low (Seq a b) is follows below long = by_parts x low (a.index + 1) a.index b.index _ is (inl refl) (inr refl) (λ c part. part) (search (rules, size_positive)) below
@@ -58,10 +58,10 @@ module _ (nodes : List Node) (groups : ℕ) (expr : IsExpr nodes groups) where
   range_by x low other is follows below long = search (rules, range_of)
 
   ranges_below : (n : ℕ) → n ≤ length nodes → RangesBelow n
-  ranges_below zero small y low less long = absurd (omega arith)
   ranges_below (suc n) small y low less long =
       let here = node_at nodes y (omega arith) in
       range_by y low here.0 here.1 (expr.ranges y here.0 here.1) (λ z l lt. ranges_below n (omega arith) z l (omega arith)) (omega (arith, long, ap size (tree_at-node nodes y here.0 expr.arena here.1)))
+  ranges_below n small y low less long = absurd (omega arith)
 
 -- the nodes in x are those from low to x, in the mirrored expression too
 pub range_is : (mirrored : Bool) (e : WrittenExpression) → IsExpr e.nodes e.groups → (x low : ℕ) → x < length e.nodes → low + size (tree_at e.nodes x) ≡ x + 1 → IsNodeRange (seen mirrored e).nodes low x
@@ -115,5 +115,4 @@ parents_more nodes arena old after x node all is told others notes q c other lt 
 -- null strings are the same up to the next node
 pub nulls_more : (nodes : List Node) (mirrored told tells : Bool) (n : ℕ) (node : Node) (next : Facts) → IsArena nodes → slice_get nodes n ≡ Some node → IsFacts (tree_of (tree_at nodes) node) n next →
     ((tells ≡ false) ↔ (null_at next.null mirrored (not mirrored) ≡ null_at next.null false false)) → ((told ≡ false) ↔ SameNulls nodes mirrored n) → ((told || tells) ≡ false) ↔ SameNulls nodes mirrored (n + 1)
-nulls_more nodes mirrored told tells n node next arena is facts same old =
-    let here = tree_at-node nodes n node arena is in grind (arith, facts.null, same, old)
+nulls_more nodes mirrored told tells n node next arena is facts same old = grind (arith, facts.null, same, old, tree_at-node nodes n node arena is)

@@ -32,37 +32,33 @@ module _ (nodes : List Node) (w : List ℕ) (r p : ℕ) (s : Starts) (arena : Is
     ends = λ c. search (rules, ends_at nodes w r c p s, f.ended_is c, up_below (c + 1) c (omega arith), starts, nulls r inside, enters_tree, is_tree);
   }
 
--- where as many took the byte the same follows
-pub took_same : (nodes : List Node) (r : ℕ) (keeps first : Bool) (null took other entered ended : ℕ → Bool) → ((c : ℕ) → InTree nodes r c → other c ≡ took c) → RowFollows nodes r keeps first null took entered ended → RowFollows nodes r keeps first null other entered ended
-took_same nodes r keeps first null took other entered ended same f = record {
-  begins = f.begins;
-  ends = f.ends;
-  root = f.root;
-  down = f.down;
-  up = λ x node there is. rw (same x there) (f.up x node there is);
-  leaves = f.leaves;
-  ended_is = f.ended_is;
-}
-
--- where null strings are the same the same follows
+-- null strings that are the same say the same
 ended_null : (took : List Bool → Bool) (null other f : ℕ → Bool) (node : Node) → ((c : ℕ) → IsPart node c → other c ≡ null c) → ended_by took other f node ≡ ended_by took null f node
 ended_null took null other f node same = grind (arith, same)
 
 entered_null : (here : Bool) (null other f : ℕ → Bool) (node : Node) (c : ℕ) → ((n : ℕ) → IsPart node n → other n ≡ null n) → entered_by here other f node c ≡ entered_by here null f node c
 entered_null here null other f node c same = grind (arith, same)
 
+same_follows : (nodes : List Node) (r : ℕ) (keeps first : Bool) (null same_null took other entered ended : ℕ → Bool) → ((x c : ℕ) (node : Node) → InTree nodes r x → slice_get nodes x ≡ Some node → IsPart node c → same_null c ≡ null c) → same_null r ≡ null r →
+    ((c : ℕ) → InTree nodes r c → other c ≡ took c) → RowFollows nodes r keeps first null took entered ended → RowFollows nodes r keeps first same_null other entered ended
+same_follows nodes r keeps first null same_null took other entered ended nulls root same f = record {
+  begins = f.begins;
+  ends = f.ends;
+  root = f.root;
+  down = λ x c node there is part. f.down x c node there is part ∙ sym (entered_null (f.begins x) null same_null f.ends node c (λ n at. nulls x n node there is at));
+  up = λ x node there is. rw (same x there) (f.up x node there is ∙ sym (ended_null (λ m. took x) null same_null f.ends node (λ n at. nulls x n node there is at)));
+  leaves = f.leaves;
+  ended_is = λ c. rw root (f.ended_is c);
+}
+
+-- where as many took the byte the same follows
+pub took_same : (nodes : List Node) (r : ℕ) (keeps first : Bool) (null took other entered ended : ℕ → Bool) → ((c : ℕ) → InTree nodes r c → other c ≡ took c) → RowFollows nodes r keeps first null took entered ended → RowFollows nodes r keeps first null other entered ended
+took_same nodes r keeps first null took other entered ended same f = same_follows nodes r keeps first null null took other entered ended (λ x c node there is part. refl) refl same f
+
+-- where null strings are the same the same follows
 pub null_same : (nodes : List Node) (r : ℕ) (keeps first : Bool) (null other took entered ended : ℕ → Bool) → IsArena nodes → r < length nodes → ((x : ℕ) → x < length nodes → other x ≡ null x) → RowFollows nodes r keeps first null took entered ended → RowFollows nodes r keeps first other took entered ended
 null_same nodes r keeps first null other took entered ended arena inside same f =
-    let below = λ (x c : ℕ) (node : Node) (there : InTree nodes r x) (is : slice_get nodes x ≡ Some node) (part : IsPart node c). same c (omega (arith, InTree-inside nodes arena r x there, inside, arena.below x c node is part)) in
-    record {
-      begins = f.begins;
-      ends = f.ends;
-      root = f.root;
-      down = λ x c node there is part. f.down x c node there is part ∙ sym (entered_null (f.begins x) null other f.ends node c (λ n at. below x n node there is at));
-      up = λ x node there is. f.up x node there is ∙ sym (ended_null (λ m. took x) null other f.ends node (λ n at. below x n node there is at));
-      leaves = f.leaves;
-      ended_is = λ c. rw (same r inside) (f.ended_is c);
-    }
+    same_follows nodes r keeps first null other took took entered ended (λ x c node there is part. same c (omega (arith, InTree-inside nodes arena r x there, inside, arena.below x c node is part))) (same r inside) (λ c there. refl) f
 
 -- the marks of a state that is there still
 pub marks_kept : (base : Option ℕ) (row : ℕ → ℕ) (old new : List (List Bool)) (c : ℕ) → IfSome base (λ q. row_of new (row q) ≡ row_of old (row q)) → marks_of base row new c ≡ marks_of base row old c

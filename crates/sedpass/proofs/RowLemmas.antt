@@ -45,10 +45,7 @@ module _ (nodes : List Node) (w : List ℕ) (r : ℕ) (s : Starts) (arena : IsAr
     ended_is (Set m) is takes nulls ends = grind (arith, takes m refl, open_at nodes w x (Set m) arena is, close_at nodes w x (Set m) arena is, takes_some)
     ended_is (Seq a b) is takes nulls ends =
         let truth = either-iff _ _ _ _ (ends b.index (inr refl)) (both-iff _ _ _ _ (ends a.index (inl refl)) (nulls b.index (inr refl))) in (
-          λ h. elim (truth.0 h) [
-            | inl right ↦ let from = after_seq x right.0 a b le is right.2 in search (rules, Matches-forward (tree_at nodes a.index) w from.0 right.0 from.2, close_at nodes w x (Seq a b) arena is from.0 j)
-            | inr left ↦ (left.0.0, left.0.1, with_seq x left.0.0 a b le is left.0.2, close_at nodes w x (Seq a b) arena is left.0.0 j (j, left.0.3, left.1))
-          ],
+          λ h. search (rules, truth.0 h, after_seq, with_seq, close_at nodes w x (Seq a b) arena is, Matches-forward),
           λ h. let at = open_at nodes w x (Seq a b) arena is h.0 j h.3 in let same = cases_eq at.0 j in
               search (rules, h.1, truth.1, with_whole x a.index h.0 (Seq a b) is refl h.2, after_left x b.index h.0 at.0 a b is refl h.2 at.1, Matches-forward (tree_at nodes b.index) w at.0 j at.2),
         )
@@ -62,7 +59,8 @@ module _ (nodes : List Node) (w : List ℕ) (r : ℕ) (s : Starts) (arena : IsAr
         )
     ended_is (Group k a) is takes nulls ends =
         let part = ends a.index refl in
-        (λ h. search (rules, up_with x j a.index (Group k a) le is refl (λ i f. f) (λ i at. close_at nodes w x (Group k a) arena is i j at)), λ h. search (rules, open_at nodes w x (Group k a) arena is h.0 j h.3, with_whole x a.index h.0 (Group k a) is refl h.2))
+        let whole = up_with x j a.index (Group k a) le is refl (λ i f. f) (λ i at. close_at nodes w x (Group k a) arena is i j at) in
+        (λ h. search rules, λ h. search (rules, open_at nodes w x (Group k a) arena is h.0 j h.3, with_whole x a.index h.0 (Group k a) is refl h.2))
     ended_is (Star a first) is takes nulls ends = let part = ends a.index refl in search (rules, one_copy x j a first le is, last_copy)
     ended_is (Opt a first) is takes nulls ends = (
       λ h. up_with x j a.index (Opt a first) le is refl (λ i f. f) (λ i at. close_at nodes w x (Opt a first) arena is i j (inr at)) ((ends a.index refl).0 h),
@@ -81,8 +79,7 @@ module _ (nodes : List Node) (w : List ℕ) (r : ℕ) (s : Starts) (arena : IsAr
     right_part a b is null ended nulls ends =
         let truth = either-iff _ _ _ _ ends (both-iff _ _ _ _ enters nulls) in (
           λ h. elim (truth.0 h) [ inl end ↦ after_left x b.index end.0 p a b is refl (with_seq x end.0 a b le is end.2) end.3 | inr none ↦ after_left x b.index p p a b is refl none.0 none.1 ],
-          λ h. let from = after_seq x p a b le is h in let same = cases_eq from.0 p in
-              search (rules, truth.1, with_whole x a.index from.0 (Seq a b) is refl from.1, Matches-forward (tree_at nodes a.index) w from.0 p from.2),
+          λ h. let from = after_seq x p a b le is h in search (rules, cases_eq from.0 p, truth.1, with_whole x a.index from.0 (Seq a b) is refl from.1, Matches-forward (tree_at nodes a.index) w from.0 p from.2),
         )
 
     pub copy_part : (a : NodeId) (first : Bool) → slice_get nodes x ≡ Some (Star a first) → (ended : Bool) → (IsTrue ended ↔ CanEnd nodes w r s a.index p) → IsTrue (here || ended) ↔ Enters nodes w r s a.index p
@@ -133,10 +130,7 @@ by_part nodes x node is c (part_of y _ other is' part up) = search (rules, by_pa
 -- the nodes in x are those from low on, if it is so of each part
 pub range_of : (nodes : List Node) (x low : ℕ) (node : Node) → slice_get nodes x ≡ Some node → low ≤ x → ((c : ℕ) → low ≤ c → c < x → (a : ℕ) × IsPart node a × InTree nodes a c) →
     ((a c : ℕ) → IsPart node a → InTree nodes a c → (low ≤ c) × (c < x)) → IsNodeRange nodes low x
-range_of nodes x low node is small down up c = (
-  λ h. search (rules, cases_eq c x, is_tree, in_part, down c),
-  λ h. grind (arith, by_part nodes x node is c h, up),
-)
+range_of nodes x low node is small down up c = (λ h. search (rules, cases_eq c x, is_tree, in_part, down c), λ h. grind (arith, by_part nodes x node is c h, up))
 
 -- The same of a mirrored expression.
 
@@ -157,8 +151,7 @@ mirror_range e low r range c = search (rules, range c, in_mirror e r c, out_of_m
 -- what the row of a kept pass backwards shows
 pub behind_reaches : (e : WrittenExpression) (w : List ℕ) (r x p d : ℕ) (u t : Starts) (entered ended : ℕ → Bool) → IsArena e.nodes → Opposite (length w) u t → t.last ≤ length w → p + d ≡ length w →
     RowOfPlace (seen true e).nodes (reverse w) r u true d entered ended → IsTrue (ended x) ↔ ReachesEnd e.nodes w r t x p
-behind_reaches e w r x p d u t entered ended arena opposite inside sum row =
-    let law = reaches_mirror e w r u t arena opposite inside x p d sum in search rules
+behind_reaches e w r x p d u t entered ended arena opposite inside sum row = search (rules, reaches_mirror e w r u t arena opposite inside x p d sum)
 
 pub meet_rows : (e : WrittenExpression) (w : List ℕ) (r a p d : ℕ) (s u t : Starts) (keeps : Bool) (front front_ended entered behind : ℕ → Bool) → IsArena e.nodes → Opposite (length w) u t → t.last ≤ length w → p + d ≡ length w →
     RowOfPlace e.nodes w a s keeps p front front_ended → RowOfPlace (seen true e).nodes (reverse w) r u true d entered behind →

@@ -84,7 +84,8 @@ found c first took other before before_ended follows up leaf_same end_same sum =
     let laid : (n : ℕ) → n < length (nodes_of c.args.act.way e) → has_mark (row_of c.set.new.self leaves) n ≡ before n = λ n lt. let few : n < length e.nodes = omega (arith, lt, long) in
     rw base (c.lay.ensures.laid n (omega (arith, few, c.nodes-nodes.ensures.value)) ∙ marks_kept c.args.base leaves_row c.args.rows.now c.close.new.rows n there ∙ leaf_same n few) in
     rw (← c.leaves_row-leaves.ensures, ← c.ends_row-ends.ensures, ← long, ← sum)
-    (row_added _ _ (seen-arena mirrored e c.nodes-nodes.ensures.expr.arena) (inside_seen mirrored e _ c.requires.root) _ _ _ _ _ _ _ _ follows _ _ _ _ _ _ (λ n there. ((c.low-low.ensures.range mirrored n).1 there).0) up (rw at at old.entered) (rw at at old.leaves) laid
+    (row_added _ _ (seen-arena mirrored e c.nodes-nodes.ensures.expr.arena) (inside_seen mirrored e _ c.requires.root) _ _ _ _ _ _ _ _ follows _ _ _ _ _ _
+    (λ n there. ((c.low-low.ensures.range mirrored n).1 there).0) up (rw at at old.entered) (rw at at old.leaves) laid
     (record { others = λ n lt ne. rw (← end_same n (omega (arith, lt, long))) (old.ends.others n lt ne); own = rw (← end_same _ c.requires.root) old.ends.own }))
 
 absorbed : (a b : Bool) → (a || (a && b)) ≡ a

@@ -69,4 +69,5 @@ returns-in_default-clause-followed c =
     let not_first : (a b : NodeId) → c.look.result ≡ Seq a b → a.index ≡ c.args.y → ⊥ = λ a b e at.
     elim c.in_default.branch [ in_default-via-in-Seq+else-index-y w ↦ w.if-index-y.false (cc) | in_default-via-in_default w ↦ w.in_default.not-Seq a b e ] in
     let no_star : (a : NodeId) (first : Bool) → c.look.result ≡ Star a first → ⊥ = λ a first e. elim c.in_default.branch [ in_default-via-in-Seq+else-index-y w ↦ cc | in_default-via-in_default w ↦ w.in_default.not-Star a first e ] in
-    (c.parent-parent.result, c.look.result, c.look.ensures.node, part f, ends f _ c.set-in_default.ensures.marks (other_ends (null c.args.act) c.args.y _ (part f) not_first), rw kept (adds_none _ _ (λ n. none_begins (null c.args.act) c.args.y n _ not_first no_star)))
+    let end = other_ends (null c.args.act) c.args.y _ (part f) not_first in
+    (c.parent-parent.result, c.look.result, c.look.ensures.node, part f, ends f _ c.set-in_default.ensures.marks end, rw kept (adds_none _ _ (λ n. none_begins (null c.args.act) c.args.y n _ not_first no_star)))
