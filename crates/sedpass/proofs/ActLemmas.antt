@@ -1,5 +1,5 @@
 -- How the marks of a place are found by those that are set: upwards from the leaves that took the byte, and downwards from what begins.
-use Rattle.sedpass.proofs.Words.{AddsMarks, Alt, AreTakers, Bool, CanEnd, EndsAfter, EndsUpTo, Enters, EntersDownTo, Group, HasSpan, InTree, IsArena, IsNodeRange, IsPart, IsSetAt, IsTrue, List, Node, NodeId, Opt, Option, Seq, Set, Some, Star, Starts, StartsAfter, StartsWith, TakenBy, and_from, and_parts, ap, arith, cases_eq, cases_lt, ended_by, entered_by, eq-eqb, eqb, eqb-true, false, get_or-set_other, get_or-set_same, has_mark, inl, inr, is_tree, le-leb, leb-true, length, length-set, lt-ltb, ltb-true, nat_le, nat_lt, ne_eqb, node_at, part_of, refl, rules, same_Some, slice_get, slice_get_within, slice_set, sym, true, true≢false, ℕ, ◌&&◌, ◌+◌, ◌<◌, ◌||◌, ◌↔◌, ◌∙◌, ◌≡◌, ◌≤◌, ◌⊎◌, MarkLeaves, TookBy}
+use Rattle.sedpass.proofs.Words.{AddsMarks, AreTakers, Bool, CanEnd, EndsAfter, EndsUpTo, Enters, EntersDownTo, HasSpan, InTree, IsArena, IsNodeRange, IsPart, IsSetAt, IsTrue, List, Node, NodeId, Option, Seq, Some, Star, Starts, StartsAfter, StartsWith, TakenBy, and_from, and_parts, arith, cases_eq, cases_lt, ended_by, entered_by, eq-eqb, eqb, eqb-true, false, get_or-set_other, get_or-set_same, has_mark, inl, inr, is_tree, le-leb, leb-true, length, lt-ltb, ltb-true, nat_le, nat_lt, ne_eqb, node_at, part_of, refl, rules, same_Some, slice_get, slice_get_within, slice_set, sym, true, true≢false, ℕ, ◌&&◌, ◌+◌, ◌<◌, ◌||◌, ◌↔◌, ◌∙◌, ◌≡◌, ◌≤◌, ◌⊎◌, MarkLeaves}
 use Rattle.std.proofs.lemmas.Bool.{false_from_ne_true}
 use Rattle.sedpass.proofs.RowLemmas.{InTree-inside, copy_part, right_part, with_node}
 
@@ -95,7 +95,7 @@ module _ (nodes : List Node) (r : ℕ) (arena : IsArena nodes) (entered after : 
     (adds : AddsMarks entered after (StartsWith null node)) (none : (c : ℕ) → y ≤ c → c < x → has_mark after c ≡ false) where
   -- marks from x on stay
   still_marked : (c : ℕ) → x ≤ c → has_mark after c ≡ has_mark entered c
-  still_marked c le = search (rules, same_truth, (adds c).0, (adds c).1, arena.below x c node is)
+  still_marked c le = grind (arith, adds c, arena.below x c node is)
 
   still_above : (q : ℕ) → (q ≡ x → ⊥) → IsTrue (nat_le y q && has_mark after q) → IsTrue (nat_le (x + 1) q && has_mark entered q)
   still_above q ne h = grind (arith, leb-true, le-leb, none q, still_marked q)

@@ -1,5 +1,5 @@
 -- The row that follows from which leaves took a byte: that it is the place's, what two of them have together, and that scans find it.
-use Rattle.sedpass.proofs.Words.{HasSpan, IfSome, None, marks_of, row_of, AreNull, Bool, CanEnd, EndsUpTo, Enters, Enters-root, EntersDownTo, InTree, IsArena, IsPart, IsStart, IsTrue, List, Node, Seq, Set, Option, RowFollows, RowOfPlace, Some, Starts, Took, and_from, and_parts, cases_eq, either-iff, node_at, true≢false, ap, arith, at_root, bits, ended_by, entered_by, false, has_mark, inl, inr, is_tree, le-leb, length, lt-ltb, ltb-true, nat_le, nat_lt, part_of, refl, rules, slice_get, subst, suc, sym, zero, ℕ, ◌&&◌, ◌+◌, ◌<◌, ◌∙◌, ◌||◌, ◌≡◌, ◌≤◌, ◌⊎◌, ◌↔◌}
+use Rattle.sedpass.proofs.Words.{IfSome, None, marks_of, row_of, AreNull, Bool, CanEnd, EndsUpTo, Enters, Enters-root, EntersDownTo, InTree, IsArena, IsPart, IsStart, IsTrue, List, Node, Set, Option, RowFollows, RowOfPlace, Some, Starts, Took, and_from, node_at, true≢false, ap, arith, at_root, bits, ended_by, entered_by, false, has_mark, is_tree, le-leb, length, lt-ltb, ltb-true, part_of, refl, rules, slice_get, suc, sym, ℕ, ◌+◌, ◌<◌, ◌∙◌, ◌||◌, ◌≡◌, ◌≤◌, ◌⊎◌, ◌↔◌}
 use Rattle.sedpass.proofs.ActLemmas.{HasEnds, HasLeaves, ended_by_more, entered_by_more, entered_is, same_truth}
 use Rattle.sedpass.proofs.LeaveLemmas.{ends_at}
 use Rattle.sedpass.proofs.RowLemmas.{InTree-inside, ended_is, enters_tree}
@@ -23,13 +23,10 @@ module _ (nodes : List Node) (w : List ℕ) (r p : ℕ) (s : Starts) (arena : Is
       rw (f.down y c node up is part) (entered_is nodes w r y p s arena yr (f.begins y) (down_all y up) null f.ends node is
       (λ n at. nulls n (omega (arith, yr, inside, arena.below y n node is at))) (λ n at. up_below (n + 1) n (omega arith) (part_of y n node is at up)) c part)
 
-  starts : IsTrue first ↔ Enters nodes w r s r p
-  starts = search (rules, at_root, Enters-root)
-
   pub row_of_place : RowOfPlace nodes w r s keeps p entered ended
   row_of_place = record {
     leaves = λ c. search (rules, f.leaves c, down_all c, enters_tree);
-    ends = λ c. search (rules, ends_at nodes w r c p s, f.ended_is c, up_below (c + 1) c (omega arith), starts, nulls r inside, enters_tree, is_tree);
+    ends = λ c. search (rules, ends_at nodes w r c p s, f.ended_is c, up_below (c + 1) c (omega arith), at_root, Enters-root, nulls r inside, enters_tree, is_tree);
   }
 
 -- null strings that are the same say the same
@@ -92,7 +89,8 @@ module _ (nodes : List Node) (r : ℕ) (arena : IsArena nodes) (inside : r < len
   up_told x node there is = search (rules, same_truth, up.just x node is, up.closed x node there is, ended_by_more, and_from, lt-ltb, InTree-inside, arena.below)
 
   down_told : (x c : ℕ) (node : Node) → InTree nodes r x → slice_get nodes x ≡ Some node → IsPart node c → has_mark entered c ≡ entered_by (has_mark entered x) null (has_mark ended) node c
-  down_told x c node there is part = same_truth _ _ (down.just x c node there is part) (λ h. down.closed x c node there is part (search (rules, entered_by_more, le-leb, all x there, lt-ltb, InTree-inside nodes arena r x there, arena.below x)))
+  down_told x c node there is part = same_truth _ _ (down.just x c node there is part)
+      (λ h. down.closed x c node there is part (search (rules, entered_by_more, le-leb, all x there, lt-ltb, InTree-inside nodes arena r x there, arena.below x)))
 
   -- the nodes that end
   abbrev Last : ℕ → Type 0
@@ -101,9 +99,6 @@ module _ (nodes : List Node) (r : ℕ) (arena : IsArena nodes) (inside : r < len
   last_told : (c : ℕ) → c < length nodes → IsTrue (has_mark last c) ↔ Last c
   last_told c lt = grind (arith, kept.own, kept.others c lt)
 
-  within : (c : ℕ) → InTree nodes r c → c < length nodes
-  within c there = omega (arith, InTree-inside nodes arena r c there, inside)
-
   pub row_added : RowFollows nodes r keeps (first || begun) null (λ c. other c || took c) (bits (length nodes) leaves) (bits (length nodes) last)
   row_added = record {
     begins = λ c. f.begins c || has_mark entered c;
@@ -111,6 +106,6 @@ module _ (nodes : List Node) (r : ℕ) (arena : IsArena nodes) (inside : r < len
     root = rw (f.root, down.root) refl;
     down = λ x c node there is part. rw (f.down x c node there is part, down_told x c node there is part) (entered_both (f.begins x) (has_mark entered x) null f.ends (has_mark ended) node c);
     up = λ x node there is. rw (f.up x node there is, up_told x node there is) (ended_both (other x) (took x) null f.ends (has_mark ended) node);
-    leaves = λ c. search (rules, ltb-true, lt-ltb, has.leaf c, f.leaves c, laid c, down.inside c, within c, all c);
-    ended_is = λ c. search (rules, ltb-true, lt-ltb, last_told c, f.ended_is c, up.inside c, within c, is_tree);
+    leaves = λ c. search (rules, ltb-true, lt-ltb, has.leaf c, f.leaves c, laid c, down.inside c, InTree-inside nodes arena r c, inside, all c);
+    ended_is = λ c. search (rules, ltb-true, lt-ltb, last_told c, f.ended_is c, up.inside c, InTree-inside nodes arena r c, inside, is_tree);
   }

@@ -1,5 +1,5 @@
 -- The bits of a set of groups.
-use Rattle.sedpass.proofs.Words.{rules, ◌≡◌, ℕ, zero, suc, ◌-◌, ◌*◌, ◌%◌, ◌^◌, ◌<◌, ◌≤◌, ◌&&◌, ◌||◌, not, IsTrue, ap, ◌∙◌, inl, inr, arith, bit_and, bit_or, w16, eqb, common_steps, bit_at, trailing_zeros, and-false, mod-eq_of_lt, bit_at_or, bit_at_and, bit_at_not, bit_at-lt, bit_at-zero, bit_at-pow_same, bit_at-pow_other, bit_at_above, bit_at_ones, bit_at-trailing_zeros, and_le_r, ne_eqb, cases_lt, cases_eq, eq-eqb, lt-ltb, ltb-true, GroupSet, pow_mono, reported, holds}
+use Rattle.sedpass.proofs.Words.{rules, ◌≡◌, ℕ, zero, suc, ◌-◌, ◌*◌, ◌%◌, ◌^◌, ◌<◌, ◌≤◌, ◌&&◌, ◌||◌, not, IsTrue, ap, arith, bit_and, bit_or, w16, eqb, common_steps, bit_at, trailing_zeros, and-false, mod-eq_of_lt, bit_at_or, bit_at_and, bit_at_not, bit_at-lt, bit_at-zero, bit_at-pow_same, bit_at-pow_other, bit_at_above, bit_at_ones, bit_at-trailing_zeros, and_le_r, ne_eqb, cases_eq, eq-eqb, lt-ltb, ltb-true, GroupSet, pow_mono, reported, holds}
 
 abbrev of_bits : ℕ → GroupSet
 of_bits n = record { bits = n }

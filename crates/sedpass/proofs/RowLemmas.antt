@@ -46,26 +46,31 @@ module _ (nodes : List Node) (w : List ℕ) (r : ℕ) (s : Starts) (arena : IsAr
     ended_is (Seq a b) is takes nulls ends =
         let truth = either-iff _ _ _ _ (ends b.index (inr refl)) (both-iff _ _ _ _ (ends a.index (inl refl)) (nulls b.index (inr refl))) in (
           λ h. search (rules, truth.0 h, after_seq, with_seq, close_at nodes w x (Seq a b) arena is, Matches-forward),
-          λ h. let at = open_at nodes w x (Seq a b) arena is h.0 j h.3 in let same = cases_eq at.0 j in
-              search (rules, h.1, truth.1, with_whole x a.index h.0 (Seq a b) is refl h.2, after_left x b.index h.0 at.0 a b is refl h.2 at.1, Matches-forward (tree_at nodes b.index) w at.0 j at.2),
+          λ h. let at = open_at nodes w x (Seq a b) arena is h.0 j h.3 in search (
+            rules,
+            cases_eq at.0 j,
+            h.1,
+            truth.1,
+            with_whole x a.index h.0 (Seq a b) is refl h.2,
+            after_left x b.index h.0 at.0 a b is refl h.2 at.1,
+            Matches-forward (tree_at nodes b.index) w at.0 j at.2,
+          ),
         )
     ended_is (Alt a b) is takes nulls ends =
-        let truth = either-iff _ _ _ _ (ends a.index (inl refl)) (ends b.index (inr refl)) in (
-          λ h. elim (truth.0 h) [
-            | inl l ↦ up_with x j a.index (Alt a b) le is (inl refl) (λ i f. f) (λ i at. close_at nodes w x (Alt a b) arena is i j (inl at)) l
-            | inr m ↦ up_with x j b.index (Alt a b) le is (inr refl) (λ i f. f) (λ i at. close_at nodes w x (Alt a b) arena is i j (inr at)) m
-          ],
-          λ h. let at = open_at nodes w x (Alt a b) arena is h.0 j h.3 in search (rules, truth.1, with_whole x a.index h.0 (Alt a b) is (inl refl) h.2, with_whole x b.index h.0 (Alt a b) is (inr refl) h.2),
+        let truth = either-iff _ _ _ _ (ends a.index (inl refl)) (ends b.index (inr refl)) in
+        let close = λ (i : ℕ). close_at nodes w x (Alt a b) arena is i j in (
+          λ h. search (rules, truth.0 h, up_with x j a.index (Alt a b) le is, up_with x j b.index (Alt a b) le is),
+          λ h. search (rules, open_at nodes w x (Alt a b) arena is h.0 j h.3, truth.1, with_whole x a.index h.0 (Alt a b) is (inl refl) h.2, with_whole x b.index h.0 (Alt a b) is (inr refl) h.2),
         )
     ended_is (Group k a) is takes nulls ends =
         let part = ends a.index refl in
         let whole = up_with x j a.index (Group k a) le is refl (λ i f. f) (λ i at. close_at nodes w x (Group k a) arena is i j at) in
         (λ h. search rules, λ h. search (rules, open_at nodes w x (Group k a) arena is h.0 j h.3, with_whole x a.index h.0 (Group k a) is refl h.2))
     ended_is (Star a first) is takes nulls ends = let part = ends a.index refl in search (rules, one_copy x j a first le is, last_copy)
-    ended_is (Opt a first) is takes nulls ends = (
-      λ h. up_with x j a.index (Opt a first) le is refl (λ i f. f) (λ i at. close_at nodes w x (Opt a first) arena is i j (inr at)) ((ends a.index refl).0 h),
-      λ h. let at = open_at nodes w x (Opt a first) arena is h.0 j h.3 in let ne = h.1 in search (rules, (ends a.index refl).1, with_whole x a.index h.0 (Opt a first) is refl h.2),
-    )
+    ended_is (Opt a first) is takes nulls ends =
+        let part = ends a.index refl in
+        let whole = up_with x j a.index (Opt a first) le is refl (λ i f. f) (λ i at. close_at nodes w x (Opt a first) arena is i j (inr at)) in
+        (λ h. search rules, λ h. search (rules, h.1, open_at nodes w x (Opt a first) arena is h.0 j h.3, with_whole x a.index h.0 (Opt a first) is refl h.2))
     ended_is other is takes nulls ends = not_true _ (λ h. let at = open_at nodes w x other arena is h.0 j h.3 in omega arith)
 
   -- downwards: the mark of a part that is entered, by that of its node

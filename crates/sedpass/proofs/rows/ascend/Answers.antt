@@ -1,4 +1,4 @@
-use Rattle.sedpass.proofs.Words.{InTree, ◌<◌, ℕ, arith, IsCounted, IsTrue, KeepsRows, TakesAtLeast, false, is_tree, EndsUpTo, length, has_mark, nodes_of, null_in, refl, row_of, seen-arena, seen-length, ◌+◌, ◌≡◌, ◌≤◌}
+use Rattle.sedpass.proofs.Words.{InTree, ◌<◌, ℕ, arith, IsCounted, KeepsRows, TakesAtLeast, false, is_tree, has_mark, nodes_of, refl, row_of, seen-arena, seen-length, ◌≡◌, ◌≤◌}
 use Rattle.sedpass.proofs.ActLemmas.{end_last, enters_none, follow_step, leaves_end, up_step}
 use Rattle.sedpass.proofs.FactLemmas.{inside_seen}
 use Rattle.sedpass.proofs.RowLemmas.{keeps_then, still_wide}

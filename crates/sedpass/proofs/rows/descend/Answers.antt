@@ -1,10 +1,10 @@
 use Rattle.std.specs.Option.{is_none}
-use Rattle.sedpass.proofs.Words.{rules, Bool, Option, false, is_some, not, true, EntersDownTo, IfSome, RowFollows, RowIs, EndsUpTo, leaves_row, ends_row, marks_of, row_of, None, Some, sym, ◌||◌, ◌&&◌, ap, arith, InTree, IsApart, IsCounted, IsTrue, KeepsRows, TakesAtLeast, length, has_mark, nodes_of, null_in, refl, seen-arena, seen-length, slice_set, ℕ, ◌+◌, ◌-◌, ◌<◌, ◌∙◌, ◌≡◌, ◌≢◌, ◌≤◌}
+use Rattle.sedpass.proofs.Words.{rules, Bool, Option, false, is_some, not, true, IfSome, RowFollows, RowIs, EndsUpTo, leaves_row, ends_row, marks_of, row_of, None, Some, sym, ◌||◌, ◌&&◌, ap, arith, IsApart, IsCounted, KeepsRows, TakesAtLeast, length, has_mark, nodes_of, null_in, refl, seen-arena, seen-length, slice_set, ℕ, ◌+◌, ◌-◌, ◌<◌, ◌∙◌, ◌≡◌, ◌≢◌}
 use Rattle.std.proofs.lemmas.Option.{IfSome_then}
 use Rattle.sedpass.proofs.FollowLemmas.{marks_kept, nothing, row_added}
 use Rattle.sedpass.proofs.ActLemmas.{down_step, enters_first, leaves_none, leaves_step}
 use Rattle.sedpass.proofs.FactLemmas.{inside_seen}
-use Rattle.sedpass.proofs.RowLemmas.{InTree-inside, bits_here, keeps_then, still_wide}
+use Rattle.sedpass.proofs.RowLemmas.{bits_here, keeps_then, still_wide}
 use Rattle.sedpass.proofs.rows.descend.Goals.{After-loop-x}
 use Rattle.sedpass.proofs.rows.descend.Goals as goal
 

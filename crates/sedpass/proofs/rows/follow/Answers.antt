@@ -1,4 +1,4 @@
-use Rattle.sedpass.proofs.Words.{Act, AddsMarks, EndsAfter, IsPart, IsTrue, ◌↔◌, List, Bool, NodeId, Seq, Some, Star, StartsAfter, ap, arith, eq-eqb, inl, inr, length, null_in, refl, row_of, rules, slice_set, sym, true, true≢false, ℕ, ◌<◌, ◌∙◌, ◌≡◌}
+use Rattle.sedpass.proofs.Words.{Act, AddsMarks, EndsAfter, IsPart, IsTrue, ◌↔◌, List, Bool, NodeId, Seq, Star, StartsAfter, ap, arith, eq-eqb, inr, length, null_in, refl, row_of, slice_set, sym, true, true≢false, ℕ, ◌<◌, ◌∙◌, ◌≡◌}
 use Rattle.sedpass.proofs.ActLemmas.{adds_none, adds_one, none_begins, other_ends, second_begins, seq_ends}
 use Rattle.sedpass.proofs.rows.follow.Goals as goal
 use Rattle.sedpass.proofs.rows.follow.Goals.{After-look, After-null_at, in_default-via-in-Seq+else-index-y, in_default-via-in_default}

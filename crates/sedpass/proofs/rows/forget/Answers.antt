@@ -1,4 +1,4 @@
-use Rattle.sedpass.proofs.Words.{true≢false, sym, ◌∙◌, ◌<◌, ℕ, has_mark, length, ◌+◌, ◌≡◌, arith, false, nodes_of, null_in, row_of, seen-arena, seen-length}
+use Rattle.sedpass.proofs.Words.{true≢false, sym, ◌∙◌, ◌<◌, ℕ, has_mark, length, ◌≡◌, arith, false, nodes_of, row_of, seen-arena, seen-length}
 use Rattle.sedpass.proofs.ActLemmas.{enters_none, leaves_end}
 use Rattle.sedpass.proofs.FactLemmas.{inside_seen}
 use Rattle.sedpass.proofs.rows.forget.Goals as goal

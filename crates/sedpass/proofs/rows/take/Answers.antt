@@ -1,4 +1,4 @@
-use Rattle.sedpass.proofs.Words.{Some, arith, seen-length, size, tree_at, IsCounted, List, Bool, TakesAtLeast, length, nodes_of, row_of, ◌+◌, ◌<◌, ◌∙◌, ◌≡◌, ◌≢◌}
+use Rattle.sedpass.proofs.Words.{arith, seen-length, size, tree_at, IsCounted, TakesAtLeast, length, row_of, ◌<◌, ◌∙◌, ◌≡◌}
 use Rattle.sedpass.proofs.ActLemmas.{taken_both, taken_step}
 use Rattle.sedpass.proofs.RowLemmas.{keeps_then, still_wide}
 use Rattle.sedpass.proofs.rows.take.Goals as goal
