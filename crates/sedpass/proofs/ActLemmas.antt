@@ -1,5 +1,6 @@
 -- How the marks of a place are found by those that are set: upwards from the leaves that took the byte, and downwards from what begins.
-use Rattle.sedpass.proofs.Words.{AddsMarks, Alt, AreTakers, Bool, CanEnd, EndsAfter, EndsUpTo, Enters, EntersDownTo, Group, HasSpan, InTree, IsArena, IsNodeRange, IsPart, IsSetAt, IsTrue, List, Node, NodeId, Opt, Option, Seq, Set, Some, Star, Starts, StartsAfter, StartsWith, TakenBy, and_from, and_parts, ap, arith, cases_eq, cases_lt, ended_by, entered_by, eq-eqb, eqb, eqb-true, false, get_or-set_other, get_or-set_same, has_mark, inl, inr, is_tree, le-leb, leb-true, length, length-set, lt-ltb, ltb-true, nat_le, nat_lt, ne_eqb, node_at, part_of, refl, rules, same_Some, slice_get, slice_get_within, slice_set, sym, true, true≢false, ℕ, ◌&&◌, ◌+◌, ◌<◌, ◌||◌, ◌↔◌, ◌∙◌, ◌≡◌, ◌≤◌, ◌⊎◌, MarkLeaves, TookBy}
+use Rattle.sedpass.proofs.Words.{AddsMarks, AreTakers, Bool, CanEnd, EndsAfter, EndsUpTo, Enters, EntersDownTo, HasSpan, InTree, IsArena, IsNodeRange, IsPart, IsSetAt, IsTrue, List, Node, NodeId, Option, Seq, Some, Star, Starts, StartsAfter, StartsWith, TakenBy, and_from, and_parts, arith, cases_eq, cases_lt, ended_by, entered_by, eq-eqb, eqb, eqb-true, false, get_or-set_other, get_or-set_same, has_mark, inl, inr, is_tree, le-leb, leb-true, length, lt-ltb, ltb-true, nat_le, nat_lt, ne_eqb, node_at, part_of, refl, rules, same_Some, slice_get, slice_get_within, slice_set, sym, true, true≢false, ℕ, ◌&&◌, ◌+◌, ◌<◌, ◌||◌, ◌↔◌, ◌∙◌, ◌≡◌, ◌≤◌, ◌⊎◌, MarkLeaves}
+use Rattle.std.proofs.lemmas.Bool.{false_from_ne_true}
 use Rattle.sedpass.proofs.RowLemmas.{InTree-inside, copy_part, right_part, with_node}
 
 -- more marks say more
@@ -16,22 +17,9 @@ ended_split took null f g y node less h = search (rules, less, eq-eqb)
 ends_part : (null : ℕ → Bool) (y : ℕ) (node : Node) → EndsAfter null node y → IsPart node y
 ends_part null y node h = search (rules, eqb-true)
 
-ends_more : (took : List Bool → Bool) (null f : ℕ → Bool) (y : ℕ) (node : Node) → IsTrue (f y) → EndsAfter null node y → IsTrue (ended_by took null f node)
-ends_more took null f y node here h = search (rules, eqb-true)
-
--- a node's part in r but r itself has its node in r
-pub parent_inside : (nodes : List Node) (r y p : ℕ) (node : Node) → IsArena nodes → InTree nodes r y → (y ≡ r → ⊥) → slice_get nodes p ≡ Some node → IsPart node y → InTree nodes r p
-parent_inside nodes r y p node arena (is_tree _ e) ne is part = absurd (ne e)
-parent_inside nodes r y p node arena (part_of z _ other is' part' up) ne is part = let same = arena.once z p y other node is' is part' part in rw (← same) up
-
--- a truth value that can't be true
-unset : (b : Bool) → (IsTrue b → ⊥) → b ≡ false
-unset true none = absurd (none refl)
-unset false none = refl
-
+-- two truth values that say the same
 pub same_truth : (a b : Bool) → (IsTrue a → IsTrue b) → (IsTrue b → IsTrue a) → a ≡ b
-same_truth true b up down = sym (up refl)
-same_truth false b up down = sym (unset b (λ h. true≢false (sym (down h))))
+same_truth a b up down = search rules
 
 -- one mark is set
 pub set_here : (marks after : List Bool) (p : ℕ) (v : Bool) → after ≡ slice_set marks p v → p < length marks → has_mark after p ≡ v
@@ -41,83 +29,32 @@ pub set_other : (marks after : List Bool) (p : ℕ) (v : Bool) → after ≡ sli
 set_other marks after p v is c ne = search (rules, get_or-set_other)
 
 pub set_more : (marks after : List Bool) (p : ℕ) → after ≡ slice_set marks p true → p < length marks → (c : ℕ) → IsTrue (has_mark marks c) → IsTrue (has_mark after c)
-set_more marks after p is long c h = elim (cases_eq c p) [ inl e ↦ rw e (set_here marks after p true is long) | inr ne ↦ rw (set_other marks after p true is c ne) h ]
+set_more marks after p is long c h = search (rules, set_here, set_other, cases_eq c p)
 
 pub set_was : (marks after : List Bool) (p : ℕ) → after ≡ slice_set marks p true → (c : ℕ) → IsTrue (has_mark after c) → (c ≡ p) ⊎ IsTrue (has_mark marks c)
-set_was marks after p is c h = elim (cases_eq c p) [ inl e ↦ inl e | inr ne ↦ inr (rw (← set_other marks after p true is c ne) h) ]
+set_was marks after p is c h = search (rules, set_other, cases_eq c p)
 
 -- none, one or two marks are added
 pub adds_none : (marks : List Bool) (P : ℕ → Type 0) → ((c : ℕ) → P c → ⊥) → AddsMarks marks marks P
 adds_none marks P none c = (λ h. inl h, λ h. elim h [ inl old ↦ old | inr told ↦ absurd (none c told) ])
 
 pub adds_one : (marks after : List Bool) (p : ℕ) (P : ℕ → Type 0) → after ≡ slice_set marks p true → p < length marks → P p → ((c : ℕ) → P c → c ≡ p) → AddsMarks marks after P
-adds_one marks after p P is long here only c = (
-  λ h. elim (set_was marks after p is c h) [ inl e ↦ inr (rw e here) | inr old ↦ inl old ],
-  λ h. elim h [ inl old ↦ set_more marks after p is long c old | inr told ↦ rw (only c told) (set_here marks after p true is long) ],
-)
-
-pub adds_two : (marks mid after : List Bool) (a b : ℕ) (P : ℕ → Type 0) → mid ≡ slice_set marks a true → after ≡ slice_set mid b true → a < length marks → b < length marks → P a → P b → ((c : ℕ) → P c → (c ≡ a) ⊎ (c ≡ b)) → AddsMarks marks after P
-adds_two marks mid after a b P is_mid is low high left right only c =
-    let room : b < length mid = omega (arith, high, ap length is_mid ∙ length-set marks a true) in (
-      λ h. elim (set_was mid after b is c h) [ inl e ↦ inr (rw e right) | inr old ↦ elim (set_was marks mid a is_mid c old) [ inl e ↦ inr (rw e left) | inr older ↦ inl older ] ],
-      λ h. elim h [
-        | inl old ↦ set_more mid after b is room c (set_more marks mid a is_mid low c old)
-        | inr told ↦ elim (only c told) [ inl e ↦ rw e (set_more mid after b is room a (set_here marks mid a true is_mid low)) | inr e ↦ rw e (set_here mid after b true is room) ]
-      ],
-    )
+adds_one marks after p P is long here only c = search (rules, set_was, set_more, set_here, only)
 
 one_node : (nodes : List Node) (p x : ℕ) (node other : Node) → slice_get nodes p ≡ Some node → slice_get nodes x ≡ Some other → x ≡ p → other ≡ node
 one_node nodes p x node other is is' e = search (rules, same_Some)
 
-skipped : (marks : List Bool) (y z : ℕ) → ((c : ℕ) → y ≤ c → c < z → has_mark marks c ≡ false) → (c : ℕ) → IsTrue (nat_lt c z && has_mark marks c) → IsTrue (nat_lt c y && has_mark marks c)
-skipped marks y z none c h =
-    let parts = and_parts _ _ h in
-    elim (cases_lt c y) [ inl low ↦ and_from _ _ (lt-ltb c y low) parts.1 | inr high ↦ absurd (true≢false (sym parts.1 ∙ none c high (ltb-true c z parts.0))) ]
+-- where nothing is marked below y in r, and only leaves are above, those have ended alone
+no_part_ends : (took null f : ℕ → Bool) (x : ℕ) (node : Node) → ((n : ℕ) → IsPart node n → f n ≡ false) → IsTrue (ended_by (λ m. took x) null f node) → IsTrue (took x)
+no_part_ends took null f x node none h = search (rules, none, true≢false)
 
-module _ (nodes : List Node) (r : ℕ) (arena : IsArena nodes) (took null : ℕ → Bool) where
-  -- a mark below one more, but the last
-  below_more : (ended after : List Bool) (y p : ℕ) (node : Node) → slice_get nodes p ≡ Some node → IsPart node y → AddsMarks ended after (λ c. (c ≡ p) × EndsAfter null node y) → (c : ℕ) → IsTrue (nat_lt c (y + 1) && has_mark after c) →
-      IsTrue (nat_lt c y && has_mark ended c) ⊎ (c ≡ y)
-  below_more ended after y p node is part adds c h =
-      let parts : IsTrue (nat_lt c (y + 1)) × IsTrue (has_mark after c) = and_parts (nat_lt c (y + 1)) (has_mark after c) h in
-      let low : c < y + 1 = ltb-true c (y + 1) parts.0 in
-      elim (cases_eq c y) [
-        | inl e ↦ inr e
-        | inr ne ↦ elim ((adds c).0 parts.1) [ inl old ↦ inl (and_from (nat_lt c y) (has_mark ended c) (lt-ltb c y (omega (arith, low, ne))) old) | inr new ↦ absurd (omega (arith, new.0, low, arena.below p y node is part)) ]
-      ]
-
-  -- no mark from y up to z
-  pub up_skip : (ended : List Bool) (y z : ℕ) → ((c : ℕ) → y ≤ c → c < z → has_mark ended c ≡ false) → EndsUpTo nodes r took null ended y → EndsUpTo nodes r took null ended z
-  up_skip ended y z none up = record {
-    inside = up.inside;
-    just = up.just;
-    closed = λ x node there is h. up.closed x node there is (ended_by_more (λ m. took x) null (λ c. nat_lt c z && has_mark ended c) (λ c. nat_lt c y && has_mark ended c) node (λ c part h. skipped ended y z none c h) h);
-  }
-
-  -- no node below the first one that is marked
-  pub none_first : (ended : List Bool) (low y : ℕ) → y < length nodes → IsNodeRange nodes low r → ((c : ℕ) → low ≤ c → c < y → has_mark ended c ≡ false) → EndsUpTo nodes r took null ended 0 → (c : ℕ) → 0 ≤ c → c < y → has_mark ended c ≡ false
-  none_first ended low y lt range none up c at under = elim (cases_lt c low) [
-    | inl below ↦ unset (has_mark ended c) (λ h. omega (arith, below, ((range c).1 (up.inside c (omega (arith, under, lt)) h)).0))
-    | inr above ↦ none c above under
-  ]
-
-  -- the node y has ended, and its node p with it, or not
-  pub up_step : (ended after : List Bool) (y p : ℕ) (node : Node) → slice_get nodes p ≡ Some node → IsPart node y → (y ≡ r → ⊥) → y < length nodes → IsTrue (has_mark ended y) → AddsMarks ended after (λ c. (c ≡ p) × EndsAfter null node y) →
-      EndsUpTo nodes r took null ended y → EndsUpTo nodes r took null after (y + 1)
-  up_step ended after y p node is part ne lt here adds up =
-      let there = parent_inside nodes r y p node arena (up.inside y lt here) ne is part in
-      let more = λ (c : ℕ) (h : IsTrue (has_mark ended c)). (adds c).1 (inl h) in
-      record {
-        inside = λ x low h. elim ((adds x).0 h) [ inl old ↦ up.inside x low old | inr new ↦ rw (new.0) there ];
-        just = λ x other is' h. elim ((adds x).0 h) [
-          | inl old ↦ ended_by_more (λ m. took x) null (has_mark ended) (has_mark after) other (λ c part h. more c h) (up.just x other is' old)
-          | inr new ↦ let same : other ≡ node = one_node nodes p x node other is is' new.0 in rw same (ends_more (λ m. took x) null (has_mark after) y node (more y here) new.1)
-        ];
-        closed = λ x other there' is' h. elim (ended_split (λ m. took x) null (λ c. nat_lt c (y + 1) && has_mark after c) (λ c. nat_lt c y && has_mark ended c) y other (λ c part' h. below_more ended after y p node is part adds c h) h) [
-          | inl old ↦ more x (up.closed x other there' is' old)
-          | inr end ↦ let same : x ≡ p = arena.once x p y other node is' is (ends_part null y other end) part in let one : other ≡ node = one_node nodes p x node other is is' same in (adds x).1 (inr (same, rw (← one) end))
-        ];
-      }
+pub leaves_end : (nodes : List Node) (r y : ℕ) (took null : ℕ → Bool) (ended : List Bool) → MarkLeaves nodes r ended → ((c : ℕ) → c < length nodes → has_mark ended c ≡ took c) → ((c : ℕ) → InTree nodes r c → c < y → has_mark ended c ≡ false) →
+    EndsUpTo nodes r took null ended y
+leaves_end nodes r y took null ended only same none = record {
+  inside = λ c lt h. (only c lt h).0;
+  just = λ c node is h. search (rules, only c (slice_get_within nodes c node is) h, one_node, same, slice_get_within);
+  closed = λ c node there is h. search (rules, same c (slice_get_within nodes c node is), no_part_ends, ltb-true, none, part_of, false_from_ne_true);
+}
 
 -- what a node says of where its parts begin
 module _ (nodes : List Node) (w : List ℕ) (r x p : ℕ) (s : Starts) (arena : IsArena nodes) (le : x ≤ r) (here : Bool) (enters : IsTrue here ↔ Enters nodes w r s x p) (null ended : ℕ → Bool) where
@@ -130,177 +67,99 @@ module _ (nodes : List Node) (w : List ℕ) (r x p : ℕ) (s : Starts) (arena : 
       let right = right_part nodes w r s arena x p le here enters a b is (null a.index) (ended a.index) (nulls a.index (inl refl)) (ends a.index (inl refl)) in
       let ne = arena.distinct x (Seq a b) is in
       search (rules, right, ne_eqb)
-  entered_is (Alt a b) is nulls ends c part = let law = with_node nodes w r s arena x p le here enters c (Alt a b) is part (λ h. h) in law
-  entered_is (Group k a) is nulls ends c part = with_node nodes w r s arena x p le here enters c (Group k a) is part (λ h. h)
-  entered_is (Opt a first) is nulls ends c part = with_node nodes w r s arena x p le here enters c (Opt a first) is part (λ h. h)
-  entered_is (Star a first) is nulls ends c part = let law = copy_part nodes w r s arena x p le here enters a first is (ended a.index) (ends a.index refl) in rw (← part) law
-  entered_is other is nulls ends c part = absurd part
+  entered_is (Star a first) is nulls ends c part = rw (← part) (copy_part nodes w r s arena x p le here enters a first is (ended a.index) (ends a.index refl))
+  entered_is node is nulls ends c part = search (rules, with_node nodes w r s arena x p le here enters c node is part)
 
--- Downwards.
+-- nothing is entered where nothing has ended yet
+pub enters_none : (nodes : List Node) (r z : ℕ) (null : ℕ → Bool) (ended entered : List Bool) → IsArena nodes → ((c : ℕ) → c < length nodes → has_mark entered c ≡ false) → r < length nodes →
+    ((c : ℕ) → InTree nodes r c → c < z → has_mark ended c ≡ false) → EntersDownTo nodes r false null ended entered (r + 1) z
+enters_none nodes r z null ended entered arena clear inside none = record {
+  inside = λ c lt h. search (rules, clear, true≢false);
+  root = clear r inside;
+  just = λ q c node there is part h. search (rules, clear, arena.below, slice_get_within, true≢false);
+  closed = λ q c node there is part h.
+      let inner = λ (n : ℕ) (part : IsPart node n). none n (part_of q n node is part there) in
+      absurd (grind (arith, leb-true, ltb-true, InTree-inside nodes arena r q there, inner));
+}
 
-none_entered : (null : ℕ → Bool) (node : Node) (c : ℕ) → IsTrue (entered_by false null (λ n. false) node c) → ⊥
-none_entered null (Seq a b) c h = search (rules, true≢false)
-none_entered null (Star a first) c h = true≢false (sym h)
-none_entered null other c h = true≢false (sym h)
+-- Besides the marks of a base, of the leaves from x on those are marked that were entered.
+pub record HasLeaves (nodes : List Node) (base entered leaves : List Bool) (x : ℕ) : Type 0 where
+  pub leaf : (c : ℕ) → c < length nodes → IsTrue (has_mark leaves c) ↔ (IsTrue (has_mark base c) ⊎ ((x ≤ c) × IsTrue (has_mark entered c) × IsSetAt nodes c))
 
 -- what a node says of its part is said by its beginning, or by what ended
-pub entered_split : (here : Bool) (null f : ℕ → Bool) (node : Node) (c : ℕ) → IsTrue (entered_by here null f node c) → IsTrue (entered_by false null f node c) ⊎ (IsTrue here × IsTrue (entered_by true null (λ n. false) node c))
+entered_split : (here : Bool) (null f : ℕ → Bool) (node : Node) (c : ℕ) → IsTrue (entered_by here null f node c) → IsTrue (entered_by false null f node c) ⊎ (IsTrue here × IsTrue (entered_by true null (λ n. false) node c))
 entered_split here null f node c h = search rules
 
-module _ (nodes : List Node) (r : ℕ) (arena : IsArena nodes) (first : Bool) (null : ℕ → Bool) (ended : List Bool) (z : ℕ) where
-  -- no mark from y up to x
-  pub down_skip : (entered : List Bool) (y x : ℕ) → ((c : ℕ) → y ≤ c → c < x → has_mark entered c ≡ false) → EntersDownTo nodes r first null ended entered x z → EntersDownTo nodes r first null ended entered y z
-  down_skip entered y x none down = record {
-    inside = down.inside;
-    root = down.root;
-    just = down.just;
-    closed = λ q c node there is part h. down.closed q c node there is part (entered_by_more (nat_le y q && has_mark entered q) (nat_le x q && has_mark entered q) null (λ n. nat_lt n z && has_mark ended n) (λ n. nat_lt n z && has_mark ended n) node c
-        (λ h. let parts = and_parts _ _ h in elim (cases_lt q x) [ inl low ↦ absurd (true≢false (sym parts.1 ∙ none q (leb-true y q parts.0) low)) | inr high ↦ and_from _ _ (le-leb x q high) parts.1 ]) (λ n at h. h) h);
-  }
-
+-- Downwards: the node x is entered, and none below it from y on.
+module _ (nodes : List Node) (r : ℕ) (arena : IsArena nodes) (entered after : List Bool) (x y : ℕ) (node : Node) (is : slice_get nodes x ≡ Some node) (here : IsTrue (has_mark entered x)) (null : ℕ → Bool)
+    (adds : AddsMarks entered after (StartsWith null node)) (none : (c : ℕ) → y ≤ c → c < x → has_mark after c ≡ false) where
   -- marks from x on stay
-  pub still_marked : (entered after : List Bool) (x : ℕ) (node : Node) → slice_get nodes x ≡ Some node → AddsMarks entered after (StartsWith null node) → (c : ℕ) → x ≤ c → has_mark after c ≡ has_mark entered c
-  still_marked entered after x node is adds c le = same_truth (has_mark after c) (has_mark entered c)
-      (λ h. elim ((adds c).0 h) [ inl old ↦ old | inr new ↦ absurd (omega (arith, le, arena.below x c node is new.0)) ]) (λ h. (adds c).1 (inl h))
+  still_marked : (c : ℕ) → x ≤ c → has_mark after c ≡ has_mark entered c
+  still_marked c le = grind (arith, adds c, arena.below x c node is)
 
-  still_above : (entered after : List Bool) (x q : ℕ) (node : Node) → slice_get nodes x ≡ Some node → (IsTrue (has_mark after q) → IsTrue (has_mark entered q) ⊎ (IsPart node q × IsTrue (entered_by true null (λ n. false) node q))) →
-      (q ≡ x → ⊥) → IsTrue (nat_le x q && has_mark after q) → IsTrue (nat_le (x + 1) q && has_mark entered q)
-  still_above entered after x q node is new ne h =
-      let parts : IsTrue (nat_le x q) × IsTrue (has_mark after q) = and_parts (nat_le x q) (has_mark after q) h in
-      let over : x ≤ q = leb-true x q parts.0 in
-      let above : x + 1 ≤ q = omega (arith, over, ne) in
-      let not_part : IsPart node q → ⊥ = λ part. omega (arith, above, arena.below x q node is part) in
-      search (rules, le-leb)
+  still_above : (q : ℕ) → (q ≡ x → ⊥) → IsTrue (nat_le y q && has_mark after q) → IsTrue (nat_le (x + 1) q && has_mark entered q)
+  still_above q ne h = grind (arith, leb-true, le-leb, none q, still_marked q)
 
   -- the parts of the node x that begin with it are marked
-  pub down_step : (entered after : List Bool) (x : ℕ) (node : Node) → slice_get nodes x ≡ Some node → IsTrue (has_mark entered x) → AddsMarks entered after (StartsWith null node) →
-      EntersDownTo nodes r first null ended entered (x + 1) z → EntersDownTo nodes r first null ended after x z
-  down_step entered after x node is here adds down =
-      let new = λ (c : ℕ). (adds c).0 in
-      let more = λ (c : ℕ) (h : IsTrue (has_mark entered c)). (adds c).1 (inl h) in
-      let told = λ (c : ℕ) (part : IsPart node c) (h : IsTrue (entered_by true null (λ n. false) node c)). (adds c).1 (inr (part, h)) in
-      let low = InTree-inside nodes arena r x (down.inside x (slice_get_within nodes x node is) here) in
+  pub down_step : (first : Bool) (ended : List Bool) (z : ℕ) → EntersDownTo nodes r first null ended entered (x + 1) z → EntersDownTo nodes r first null ended after y z
+  down_step first ended z down =
+      let there = down.inside x (slice_get_within nodes x node is) here in
       record {
-        inside = λ c lt h. elim (new c h) [ inl old ↦ down.inside c lt old | inr part ↦ part_of x c node is part.0 (down.inside x (slice_get_within nodes x node is) here) ];
-        root = still_marked entered after x node is adds r low ∙ down.root;
-        just = λ q c other there' is' part h. elim (new c h) [
-          | inl old ↦ entered_by_more (has_mark entered q) (has_mark after q) null (has_mark ended) (has_mark ended) other c (more q) (λ n at h. h) (down.just q c other there' is' part old)
-          | inr told ↦ let same = arena.once q x c other node is' is part told.0 in let one : other ≡ node = one_node nodes x q node other is is' same in
-              rw one (entered_by_more true (has_mark after q) null (λ n. false) (has_mark ended) node c (λ h. more q (rw same here)) (λ n at h. absurd (true≢false (sym h))) told.1)
-        ];
-        closed = λ q c other there is' part h. elim (cases_eq q x) [
-          | inl e ↦ let one : other ≡ node = one_node nodes x q node other is is' e in elim (entered_split _ null (λ n. nat_lt n z && has_mark ended n) other c h) [
-            | inl end ↦ more c (down.closed q c other there is' part (entered_by_more false _ null _ (λ n. nat_lt n z && has_mark ended n) other c (λ h. absurd (true≢false (sym h))) (λ n at h. h) end))
-            | inr begin ↦ told c (rw (← one) part) (rw (← one) begin.1)
-          ]
-          | inr ne ↦ more c (down.closed q c other there is' part (entered_by_more (nat_le x q && has_mark after q) (nat_le (x + 1) q && has_mark entered q) null (λ n. nat_lt n z && has_mark ended n) (λ n. nat_lt n z && has_mark ended n) other c
-              (still_above entered after x q node is (new q) ne) (λ n at h. h) h))
-        ];
+        inside = λ c lt h. search (rules, adds c, down.inside, part_of);
+        root = still_marked r (InTree-inside nodes arena r x there) ∙ down.root;
+        just = λ q c other there' is' part h. search (rules, adds c, adds q, down.just q c other there' is' part, arena.once q x c other node is' is part, one_node nodes x q node other is is');
+        closed = λ q c other there' is' part h. search (rules, entered_split, adds c, cases_eq q x, down.closed q c other there' is' part, still_above q, one_node nodes x q node other is is');
       }
 
+  -- and the node itself, if it is a leaf
+  pub leaves_step : (base leaves after_leaves : List Bool) → y ≤ x → AddsMarks leaves after_leaves (λ c. (c ≡ x) × IsSetAt nodes c) → HasLeaves nodes base entered leaves (x + 1) → HasLeaves nodes base after after_leaves y
+  leaves_step base leaves after_leaves le law has = record { leaf = λ c lt. search (rules, law c, has.leaf c lt, still_marked c, none c, cases_eq c x, cases_lt c x, true≢false) }
+
 -- What ended says which part begins.
+begins_split : (here more : Bool) (null f g : ℕ → Bool) (y : ℕ) (node : Node) (c : ℕ) → (IsTrue here → IsTrue more) → ((n : ℕ) → IsPart node n → IsTrue (f n) → IsTrue (g n) ⊎ (n ≡ y)) → IsTrue (entered_by here null f node c) →
+    IsTrue (entered_by more null g node c) ⊎ (IsPart node y × IsTrue (entered_by false null (λ n. eqb n y) node c))
+begins_split here more null f g y node c up less h = search (rules, up, less, eq-eqb)
 
--- the part whose end says that another begins
-by_end : (null f : ℕ → Bool) (node : Node) (c : ℕ) → IsPart node c → IsTrue (entered_by false null f node c) → (n : ℕ) × IsPart node n × IsTrue (f n) × ((g : ℕ → Bool) → IsTrue (g n) → IsTrue (entered_by false null g node c))
-by_end null f (Seq a b) c part h = (a.index, inl refl, search rules, λ g at. search rules)
-by_end null f (Star a first) c part h = (a.index, refl, h, λ g at. at)
-by_end null f other c part h = absurd (true≢false (sym h))
+-- Upwards: the node y has ended, of which p is the node, and none above it up to z.
+module _ (nodes : List Node) (r : ℕ) (arena : IsArena nodes) (null : ℕ → Bool) (ended after_ended : List Bool) (y p z : ℕ) (node : Node) (is : slice_get nodes p ≡ Some node) (own : IsPart node y) (under : y < r)
+    (here : IsTrue (has_mark ended y)) (inner : InTree nodes r y) (adds_ended : AddsMarks ended after_ended (λ c. (c ≡ p) × EndsAfter null node y)) (none : (c : ℕ) → y + 1 ≤ c → c < z → has_mark after_ended c ≡ false) where
+  there : InTree nodes r p
+  there = search (rules, arena.once, under)
 
-module _ (nodes : List Node) (r : ℕ) (arena : IsArena nodes) (null : ℕ → Bool) (ended after_ended entered after : List Bool) (y p : ℕ) (node : Node) (is : slice_get nodes p ≡ Some node) (own : IsPart node y)
-    (here : IsTrue (has_mark ended y)) (there : InTree nodes r p)
-    (adds_ended : AddsMarks ended after_ended (λ c. (c ≡ p) × EndsAfter null node y)) (adds : AddsMarks entered after (StartsAfter null node y))
-    (down : EntersDownTo nodes r false null ended entered (r + 1) y) where
-  more_ended : (c : ℕ) → IsTrue (has_mark ended c) → IsTrue (has_mark after_ended c)
-  more_ended c h = (adds_ended c).1 (inl h)
+  -- a mark below z is one below y, or y
+  still_below : (n : ℕ) → IsTrue (nat_lt n z && has_mark after_ended n) → IsTrue (nat_lt n y && has_mark ended n) ⊎ (n ≡ y)
+  still_below n h = grind (arith, ltb-true, lt-ltb, (adds_ended n).0, none n, arena.below p y node is own)
 
-  more : (c : ℕ) → IsTrue (has_mark entered c) → IsTrue (has_mark after c)
-  more c h = (adds c).1 (inl h)
-
-  new : (c : ℕ) → IsTrue (has_mark after c) → IsTrue (has_mark entered c) ⊎ StartsAfter null node y c
-  new c h = (adds c).0 h
-
-  told : (c : ℕ) → IsPart node c → IsTrue (entered_by false null (λ n. eqb n y) node c) → IsTrue (has_mark after c)
-  told c part h = (adds c).1 (inr (part, h))
-
-  not_root : IsTrue (has_mark after r) → ⊥
-  not_root h = elim (new r h) [ inl old ↦ true≢false (sym old ∙ down.root) | inr part ↦ omega (arith, arena.below p r node is part.0, InTree-inside nodes arena r p there) ]
-
-  still_below : (q n : ℕ) → InTree nodes r q → (n ≡ y → ⊥) → IsTrue (nat_lt n (y + 1) && has_mark after_ended n) → IsTrue (nat_lt n y && has_mark ended n)
-  still_below q n there' ne h =
-      let parts : IsTrue (nat_lt n (y + 1)) × IsTrue (has_mark after_ended n) = and_parts (nat_lt n (y + 1)) (has_mark after_ended n) h in
-      let low : n < y + 1 = ltb-true n (y + 1) parts.0 in
-      let under : n < y = omega (arith, low, ne) in
-      let apart : n ≡ p → ⊥ = λ e. omega (arith, e, under, arena.below p y node is own) in
-      search (rules, lt-ltb)
-
-  closed_more : (q c : ℕ) (other : Node) → InTree nodes r q → slice_get nodes q ≡ Some other → IsPart other c → IsTrue (entered_by false null (λ n. nat_lt n (y + 1) && has_mark after_ended n) other c) → IsTrue (has_mark after c)
-  closed_more q c other there' is' part h =
-      let end = by_end null (λ n. nat_lt n (y + 1) && has_mark after_ended n) other c part h in
-      elim (cases_eq end.0 y) [
-        | inl e ↦ let same : q ≡ p = arena.once q p y other node is' is (rw (← e) end.1) own in let one : other ≡ node = one_node nodes p q node other is is' same in
-            told c (rw (← one) part) (rw (← one) (end.3 (λ n. eqb n y) (eq-eqb end.0 y e)))
-        | inr ne ↦ more c (down.closed q c other there' is' part (entered_by_more false (nat_le (r + 1) q && has_mark entered q) null (λ n. nat_lt n y && has_mark ended n) (λ n. nat_lt n y && has_mark ended n) other c
-            (λ h. absurd (true≢false (sym h))) (λ n at h. h) (end.3 (λ n. nat_lt n y && has_mark ended n) (still_below q end.0 there' ne end.2))))
-      ]
-
-  past_root : (q : ℕ) → InTree nodes r q → IsTrue (nat_le (r + 1) q && has_mark after q) → IsTrue false
-  past_root q there' h = let parts : IsTrue (nat_le (r + 1) q) × IsTrue (has_mark after q) = and_parts (nat_le (r + 1) q) (has_mark after q) h in absurd (omega (arith, leb-true (r + 1) q parts.0, InTree-inside nodes arena r q there'))
-
-  pub follow_step : EntersDownTo nodes r false null after_ended after (r + 1) (y + 1)
-  follow_step = record {
-    inside = λ c lt h. elim (new c h) [ inl old ↦ down.inside c lt old | inr part ↦ part_of p c node is part.0 there ];
-    root = search (rules, not_root);
-    just = λ q c other there' is' part h. elim (new c h) [
-      | inl old ↦ entered_by_more (has_mark entered q) (has_mark after q) null (has_mark ended) (has_mark after_ended) other c (more q) (λ n at. more_ended n) (down.just q c other there' is' part old)
-      | inr by ↦ let same : q ≡ p = arena.once q p c other node is' is part by.0 in let one : other ≡ node = one_node nodes p q node other is is' same in
-          rw one (entered_by_more false (has_mark after q) null (λ n. eqb n y) (has_mark after_ended) node c (λ h. absurd (true≢false (sym h))) (λ n at h. more_ended n (rw (eqb-true n y h) here)) by.1)
-    ];
-    closed = λ q c other there' is' part h. closed_more q c other there' is' part (entered_by_more (nat_le (r + 1) q && has_mark after q) false null (λ n. nat_lt n (y + 1) && has_mark after_ended n) (λ n. nat_lt n (y + 1) && has_mark after_ended n) other c
-        (past_root q there') (λ n at h. h) h);
+  pub up_step : (took : ℕ → Bool) → EndsUpTo nodes r took null ended y → EndsUpTo nodes r took null after_ended z
+  up_step took up = record {
+    inside = λ x low h. search (rules, up.inside, adds_ended x, there);
+    just = λ x other is' h. search (rules, adds_ended, up.just x other is', eqb-true, one_node, here);
+    closed = λ x other there' is' h. search (rules, up.closed x other there' is', ended_split, still_below, ends_part null y other, arena.once x p y other node is' is, one_node nodes p x node other is is', adds_ended x);
   }
 
--- no part ended from y up to x
-module _ (nodes : List Node) (r : ℕ) (arena : IsArena nodes) (first : Bool) (null : ℕ → Bool) (ended entered : List Bool) (low : ℕ) where
-  pub end_skip : (y x : ℕ) → ((c : ℕ) → y ≤ c → c < x → has_mark ended c ≡ false) → EntersDownTo nodes r first null ended entered low y → EntersDownTo nodes r first null ended entered low x
-  end_skip y x none down = record {
-    inside = down.inside;
-    root = down.root;
-    just = down.just;
-    closed = λ q c node there is part h. down.closed q c node there is part (entered_by_more (nat_le low q && has_mark entered q) (nat_le low q && has_mark entered q) null (λ n. nat_lt n x && has_mark ended n) (λ n. nat_lt n y && has_mark ended n) node c
-        (λ h. h) (λ n at h. skipped ended y x none n h) h);
+  pub follow_step : (entered after : List Bool) → AddsMarks entered after (StartsAfter null node y) → EntersDownTo nodes r false null ended entered (r + 1) y → EntersDownTo nodes r false null after_ended after (r + 1) z
+  follow_step entered after adds down = record {
+    inside = λ c lt h. search (rules, adds c, down.inside, part_of, there);
+    root = search (rules, same_truth, adds r, down.root, arena.below p r node is, InTree-inside nodes arena r p there, true≢false);
+    just = λ q c other there' is' part h. search (rules, adds, adds_ended, eqb-true, here, down.just q c other there' is' part, arena.once q p c other node is' is part, one_node nodes p q node other is is');
+    closed = λ q c other there' is' part h.
+        let past : IsTrue (nat_le (r + 1) q && has_mark after q) → IsTrue (nat_le (r + 1) q && has_mark entered q) = λ h. grind (arith, leb-true, InTree-inside nodes arena r q there') in
+        let split = begins_split (nat_le (r + 1) q && has_mark after q) (nat_le (r + 1) q && has_mark entered q) null (λ n. nat_lt n z && has_mark after_ended n) (λ n. nat_lt n y && has_mark ended n) y other c past (λ n at. still_below n) h in
+        search (rules, adds c, down.closed q c other there' is' part, arena.once q p y other node is' is, one_node nodes p q node other is is');
   }
 
-  -- the root is no part in itself
-  pub end_last : EntersDownTo nodes r first null ended entered low r → EntersDownTo nodes r first null ended entered low (r + 1)
-  end_last down = record {
-    inside = down.inside;
-    root = down.root;
-    just = down.just;
-    closed = λ q c node there is part h. down.closed q c node there is part (entered_by_more (nat_le low q && has_mark entered q) (nat_le low q && has_mark entered q) null (λ n. nat_lt n (r + 1) && has_mark ended n) (λ n. nat_lt n r && has_mark ended n) node c
-        (λ h. h) (λ n at h. and_from _ _ (lt-ltb n r (omega (arith, InTree-inside nodes arena r q there, arena.below q n node is at))) (and_parts (nat_lt n (r + 1)) (has_mark ended n) h).1) h);
-  }
+-- the root is no part in itself
+pub end_last : (nodes : List Node) (r low : ℕ) (first : Bool) (null : ℕ → Bool) (ended entered : List Bool) → IsArena nodes → EntersDownTo nodes r first null ended entered low r → EntersDownTo nodes r first null ended entered low (r + 1)
+end_last nodes r low first null ended entered arena down = record {
+  inside = down.inside;
+  root = down.root;
+  just = down.just;
+  closed = λ q c node there is part h. down.closed q c node there is part (search (rules, entered_by_more, ltb-true, lt-ltb, and_parts, and_from, InTree-inside, arena.below));
+}
 
-none_below : (f : ℕ → Bool) (n : ℕ) → (nat_lt n 0 && f n) ≡ false
-none_below f n = unset (nat_lt n 0 && f n) (λ h. omega (arith, ltb-true n 0 (and_parts (nat_lt n 0) (f n) h).0))
-
--- nothing is marked yet
-module _ (nodes : List Node) (r : ℕ) (arena : IsArena nodes) (null : ℕ → Bool) (ended entered : List Bool) (clear : (c : ℕ) → c < length nodes → has_mark entered c ≡ false) (inside : r < length nodes) where
-  none_told : (q c : ℕ) (node : Node) → InTree nodes r q → IsTrue (entered_by (nat_le (r + 1) q && has_mark entered q) null (λ n. nat_lt n 0 && has_mark ended n) node c) → ⊥
-  none_told q c node there h =
-      let none : (nat_le (r + 1) q && has_mark entered q) ≡ false = unset (nat_le (r + 1) q && has_mark entered q) (λ h. omega (arith, leb-true (r + 1) q (and_parts (nat_le (r + 1) q) (has_mark entered q) h).0, InTree-inside nodes arena r q there)) in
-      none_entered null node c (entered_by_more (nat_le (r + 1) q && has_mark entered q) false null (λ n. nat_lt n 0 && has_mark ended n) (λ n. false) node c (λ h. sym none ∙ h) (λ n at h. sym (none_below (has_mark ended) n) ∙ h) h)
-
-  pub enters_none : EntersDownTo nodes r false null ended entered (r + 1) 0
-  enters_none = record {
-    inside = λ c lt h. absurd (true≢false (sym h ∙ clear c lt));
-    root = clear r inside;
-    just = λ q c node there is part h. absurd (true≢false (sym h ∙ clear c (omega (arith, arena.below q c node is part, slice_get_within nodes q node is))));
-    closed = λ q c node there is part h. absurd (none_told q c node there h);
-  }
-
--- the root begins, or doesn't
-module _ (nodes : List Node) (r : ℕ) (arena : IsArena nodes) (first : Bool) (null : ℕ → Bool) (ended entered after : List Bool) (is_after : after ≡ slice_set entered r first) (long : r < length entered) (z : ℕ)
-    (down : EntersDownTo nodes r false null ended entered (r + 1) z) where
+-- the root begins, or doesn't, and no other node from x on
+module _ (nodes : List Node) (r x : ℕ) (arena : IsArena nodes) (first : Bool) (null : ℕ → Bool) (ended entered after : List Bool) (is_after : after ≡ slice_set entered r first) (long : r < length entered) (z : ℕ)
+    (none : (c : ℕ) → x ≤ c → c < r + 1 → has_mark after c ≡ false) (down : EntersDownTo nodes r false null ended entered (r + 1) z) where
   still_other : (c : ℕ) → (c ≡ r → ⊥) → has_mark after c ≡ has_mark entered c
   still_other = set_other entered after r first is_after
 
@@ -308,189 +167,60 @@ module _ (nodes : List Node) (r : ℕ) (arena : IsArena nodes) (first : Bool) (n
   not_whole q c node there is part e = omega (arith, e, InTree-inside nodes arena r q there, arena.below q c node is part)
 
   more_first : (q : ℕ) → IsTrue (has_mark entered q) → IsTrue (has_mark after q)
-  more_first q h = elim (cases_eq q r) [ inl e ↦ absurd (true≢false (sym (rw (← e) h) ∙ down.root)) | inr ne ↦ rw (still_other q ne) h ]
+  more_first q h = grind (arith, still_other q, down.root)
 
-  past_whole : (q : ℕ) → InTree nodes r q → IsTrue (nat_le (r + 1) q && has_mark after q) → IsTrue (nat_le (r + 1) q && has_mark entered q)
-  past_whole q there h = let parts : IsTrue (nat_le (r + 1) q) × IsTrue (has_mark after q) = and_parts (nat_le (r + 1) q) (has_mark after q) h in absurd (omega (arith, leb-true (r + 1) q parts.0, InTree-inside nodes arena r q there))
+  past_whole : (q : ℕ) → InTree nodes r q → IsTrue (nat_le x q && has_mark after q) → IsTrue (nat_le (r + 1) q && has_mark entered q)
+  past_whole q there h = grind (arith, leb-true, none q, InTree-inside nodes arena r q there)
 
-  pub enters_first : EntersDownTo nodes r first null ended after (r + 1) z
+  pub enters_first : EntersDownTo nodes r first null ended after x z
   enters_first = record {
-    inside = λ c lt h. elim (cases_eq c r) [ inl e ↦ is_tree c e | inr ne ↦ down.inside c lt (rw (← still_other c ne) h) ];
+    inside = λ c lt h. search (rules, cases_eq c r, is_tree, down.inside, still_other);
     root = set_here entered after r first is_after long;
-    just = λ q c node there is part h. entered_by_more (has_mark entered q) (has_mark after q) null (has_mark ended) (has_mark ended) node c (more_first q) (λ n at h. h)
-        (down.just q c node there is part (rw (← still_other c (not_whole q c node there is part)) h));
-    closed = λ q c node there is part h. rw (still_other c (not_whole q c node there is part))
-        (down.closed q c node there is part (entered_by_more (nat_le (r + 1) q && has_mark after q) (nat_le (r + 1) q && has_mark entered q) null (λ n. nat_lt n z && has_mark ended n) (λ n. nat_lt n z && has_mark ended n) node c
-        (past_whole q there) (λ n at h. h) h));
+    just = λ q c node there is part h. search (rules, more_first, still_other, not_whole q c node there is part, down.just q c node there is part);
+    closed = λ q c node there is part h. search (rules, still_other, not_whole, down.closed, entered_by_more, past_whole);
   }
+
+  -- no leaf is marked yet
+  pub leaves_none : (base : List Bool) → HasLeaves nodes base after base x
+  leaves_none base = record { leaf = λ c lt. grind (arith, none c, enters_first.inside c lt, InTree-inside nodes arena r c) }
 
 -- Of the leaves below z those are marked that were entered and take the byte.
 pub record HasTaken (nodes : List Node) (low r : ℕ) (leaves : List Bool) (byte : Option ℕ) (ended : List Bool) (z : ℕ) : Type 0 where
   pub just : (c : ℕ) → c < length nodes → IsTrue (has_mark ended c) → (low ≤ c) × (c ≤ r) × IsTrue (has_mark leaves c) × ((node : Node) × (slice_get nodes c ≡ Some node) × TakenBy byte node)
   pub done : (c : ℕ) (node : Node) → low ≤ c → c < z → slice_get nodes c ≡ Some node → IsTrue (has_mark leaves c) → TakenBy byte node → IsTrue (has_mark ended c)
 
-module _ (nodes : List Node) (low r : ℕ) (leaves : List Bool) (byte : Option ℕ) where
-  -- no leaf from y up to z was entered
-  pub taken_skip : (ended : List Bool) (y z : ℕ) → ((c : ℕ) → y ≤ c → c < z → has_mark leaves c ≡ false) → HasTaken nodes low r leaves byte ended y → HasTaken nodes low r leaves byte ended z
-  taken_skip ended y z none has = record {
-    just = has.just;
-    done = λ c node at under is here taken. elim (cases_lt c y) [ inl below ↦ has.done c node at below is here taken | inr above ↦ absurd (true≢false (sym here ∙ none c above under)) ];
-  }
-
-  -- the node x was entered, and marked if it is a leaf that takes the byte
-  pub taken_step : (ended after : List Bool) (x : ℕ) (node : Node) (took : Bool) → slice_get nodes x ≡ Some node → IsTrue (has_mark leaves x) → (IsTrue took ↔ TakenBy byte node) → low ≤ x → x ≤ r → after ≡ slice_set ended x took → x < length ended →
-      HasTaken nodes low r leaves byte ended x → HasTaken nodes low r leaves byte after (x + 1)
-  taken_step ended after x node took is here law above below is_after long has = record {
-    just = λ c lt h. elim (cases_eq c x) [
-      | inl e ↦ rw e (above, below, here, (node, is, law.0 (sym (set_here ended after x took is_after long) ∙ rw (← e) h)))
-      | inr ne ↦ has.just c lt (rw (← set_other ended after x took is_after c ne) h)
-    ];
-    done = λ c other at under is' mark taken. elim (cases_eq c x) [
-      | inl e ↦ let one : other ≡ node = one_node nodes x c node other is is' e in rw e (set_here ended after x took is_after long ∙ law.1 (rw (← one) taken))
-      | inr ne ↦ rw (set_other ended after x took is_after c ne) (has.done c other at (omega (arith, under, ne)) is' mark taken)
-    ];
-  }
-
-  -- all of them are
-  pub taken_all : (ended : List Bool) → IsNodeRange nodes low r → HasTaken nodes low r leaves byte ended (r + 1) → TookBy nodes r (has_mark leaves) byte (has_mark ended) × MarkLeaves nodes r ended
-  taken_all ended range has = (
-    λ c node there is. (
-      λ h. let at = has.just c (slice_get_within nodes c node is) h in let same : at.3.0 ≡ node = one_node nodes c c node at.3.0 is at.3.1 refl in (at.2, rw (← same) at.3.2),
-      λ h. let at = (range c).1 there in has.done c node at.0 (omega (arith, at.1)) is h.0 h.1,
-    ),
-    λ c lt h. let at = has.just c lt h in let set = at.3.2 in ((range c).0 (at.0, at.1), (set.0, at.3.1 ∙ ap (λ n. Some n) set.1)),
-  )
+-- the node x was entered, and marked if it is a leaf that takes the byte, and none above it up to z
+pub taken_step : (nodes : List Node) (low r : ℕ) (leaves : List Bool) (byte : Option ℕ) (ended after : List Bool) (x z : ℕ) (node : Node) (took : Bool) → slice_get nodes x ≡ Some node → IsTrue (has_mark leaves x) → (IsTrue took ↔ TakenBy byte node) →
+    low ≤ x → x ≤ r → after ≡ slice_set ended x took → x < length ended → ((c : ℕ) → x + 1 ≤ c → c < z → has_mark leaves c ≡ false) → HasTaken nodes low r leaves byte ended x → HasTaken nodes low r leaves byte after z
+taken_step nodes low r leaves byte ended after x z node took is here law above below is_after long none has = record {
+  just = λ c lt h. elim (cases_eq c x) [
+    | inl e ↦ let told : TakenBy byte node = law.0 (sym (set_here ended after x took is_after long) ∙ rw (← e) h) in rw e (above, below, here, (node, is, told))
+    | inr ne ↦ search (rules, has.just c lt, set_other)
+  ];
+  done = λ c other at under is' mark taken. search (rules, cases_eq c x, cases_lt c x, set_here, set_other, has.done, law, one_node, none, true≢false);
+}
 
 -- those leaves have ended that were entered and take the byte, of the whole expression
-pub taken_both : (nodes : List Node) (low r : ℕ) (leaves takers ended : List Bool) (byte : ℕ) → low ≡ 0 → length nodes ≡ r + 1 → AreTakers nodes byte takers →
-    ((c : ℕ) → c < length nodes → has_mark ended c ≡ (has_mark leaves c && has_mark takers c)) → HasTaken nodes low r leaves (Some byte) ended (r + 1)
-taken_both nodes low r leaves takers ended byte none whole are both = record {
-  just = λ c lt h.
-      let marks = and_parts (has_mark leaves c) (has_mark takers c) (sym (both c lt) ∙ h) in
-      let node = node_at nodes c lt in
-      (omega (arith, none), omega (arith, lt, whole), marks.0, (node.0, node.1, (are c node.0 node.1).0 marks.1));
-  done = λ c node at under is here taken. both c (omega (arith, under, whole)) ∙ and_from (has_mark leaves c) (has_mark takers c) here ((are c node is).1 taken);
-}
-
--- only leaves are marked, and nothing above them is yet
-and_false : (b : Bool) → (b && false) ≡ false
-and_false true = refl
-and_false false = refl
-
-no_part_ends : (took null f : ℕ → Bool) (x : ℕ) (node : Node) → ((n : ℕ) → IsPart node n → f n ≡ false) → IsTrue (ended_by (λ m. took x) null f node) → IsTrue (took x)
-no_part_ends took null f x (Set members) none h = h
-no_part_ends took null f x (Seq a b) none h = let left = none a.index (inl refl) in let right = none b.index (inr refl) in absurd (search (rules, true≢false))
-no_part_ends took null f x (Alt a b) none h = let left = none a.index (inl refl) in let right = none b.index (inr refl) in absurd (search (rules, true≢false))
-no_part_ends took null f x (Group k a) none h = absurd (true≢false (sym h ∙ none a.index refl))
-no_part_ends took null f x (Star a first) none h = absurd (true≢false (sym h ∙ none a.index refl))
-no_part_ends took null f x (Opt a first) none h = absurd (true≢false (sym h ∙ none a.index refl))
-no_part_ends took null f x other none h = absurd (true≢false (sym h))
-
-pub leaves_end : (nodes : List Node) (r : ℕ) (null : ℕ → Bool) (ended : List Bool) → MarkLeaves nodes r ended → EndsUpTo nodes r (has_mark ended) null ended 0
-leaves_end nodes r null ended only = record {
-  inside = λ c lt h. (only c lt h).0;
-  just = λ c node is h. let set = (only c (slice_get_within nodes c node is) h).1 in let same : node ≡ Set set.0 = one_node nodes c c (Set set.0) node set.1 is refl in rw same h;
-  closed = λ c node there is h. no_part_ends (has_mark ended) null (λ n. nat_lt n 0 && has_mark ended n) c node (λ n part. none_below (has_mark ended) n) h;
-}
-
--- where nothing is marked nothing took the byte
-pub none_end : (nodes : List Node) (r y : ℕ) (null : ℕ → Bool) (ended : List Bool) → IsArena nodes → ((c : ℕ) → c < length nodes → has_mark ended c ≡ false) → EndsUpTo nodes r (λ c. false) null ended y
-none_end nodes r y null ended arena none = record {
-  inside = λ c lt h. absurd (true≢false (sym h ∙ none c lt));
-  just = λ c node is h. absurd (true≢false (sym h ∙ none c (slice_get_within nodes c node is)));
-  closed = λ c node there is h.
-      let clear = λ (n : ℕ) (part : IsPart node n). none n (omega (arith, slice_get_within nodes c node is, arena.below c n node is part)) in
-      absurd (true≢false (sym (no_part_ends (λ n. false) null (λ n. nat_lt n y && has_mark ended n) c node (λ n part. rw (clear n part) (and_false (nat_lt n y))) h)));
-}
-
--- Besides the marks of a base, of the leaves from x on those are marked that were entered.
-pub record HasLeaves (nodes : List Node) (base entered leaves : List Bool) (x : ℕ) : Type 0 where
-  pub leaf : (c : ℕ) → c < length nodes → IsTrue (has_mark leaves c) ↔ (IsTrue (has_mark base c) ⊎ ((x ≤ c) × IsTrue (has_mark entered c) × IsSetAt nodes c))
-
-module _ (nodes : List Node) (base : List Bool) where
-  pub leaves_none : (entered : List Bool) (x : ℕ) → ((c : ℕ) → c < length nodes → IsTrue (has_mark entered c) → c < x) → HasLeaves nodes base entered base x
-  leaves_none entered x below = record { leaf = λ c lt. (λ h. inl h, λ h. elim h [ inl old ↦ old | inr new ↦ absurd (omega (arith, below c lt new.1, new.0)) ]) }
-
-  -- no node from y up to x is entered
-  pub leaves_skip : (entered leaves : List Bool) (y x : ℕ) → y ≤ x → ((c : ℕ) → y ≤ c → c < x → has_mark entered c ≡ false) → HasLeaves nodes base entered leaves x → HasLeaves nodes base entered leaves y
-  leaves_skip entered leaves y x le none has = record {
-    leaf = λ c lt. (
-      λ h. elim ((has.leaf c lt).0 h) [ inl old ↦ inl old | inr at ↦ inr (omega (arith, le, at.0), at.1, at.2) ],
-      λ h. elim h [
-        | inl old ↦ (has.leaf c lt).1 (inl old)
-        | inr at ↦ elim (cases_lt c x) [ inl under ↦ absurd (true≢false (sym at.1 ∙ none c at.0 under)) | inr past ↦ (has.leaf c lt).1 (inr (past, at.1, at.2)) ]
-      ],
-    );
-  }
-
-  -- the node x is entered, and marked if it is a leaf
-  pub leaves_step : (entered leaves after_entered after : List Bool) (x : ℕ) → IsTrue (has_mark entered x) → ((c : ℕ) → x ≤ c → has_mark after_entered c ≡ has_mark entered c) → AddsMarks leaves after (λ c. (c ≡ x) × IsSetAt nodes c) →
-      HasLeaves nodes base entered leaves (x + 1) → HasLeaves nodes base after_entered after x
-  leaves_step entered leaves after_entered after x here kept law has = record {
-    leaf = λ c lt. (
-      λ h. elim ((law c).0 h) [
-        | inl old ↦ elim ((has.leaf c lt).0 old) [ inl first ↦ inl first | inr at ↦ let le : x ≤ c = omega (arith, at.0) in inr (le, rw (kept c le) at.1, at.2) ]
-        | inr new ↦ let le : x ≤ c = omega (arith, new.0) in inr (le, rw (kept c le, new.0) here, new.1)
-      ],
-      λ h. (law c).1 (elim h [
-        | inl first ↦ inl ((has.leaf c lt).1 (inl first))
-        | inr at ↦ elim (cases_eq c x) [ inl e ↦ inr (e, at.2) | inr ne ↦ inl ((has.leaf c lt).1 (inr (omega (arith, at.0, ne), rw (← kept c at.0) at.1, at.2))) ]
-      ]),
-    );
-  }
+pub taken_both : (nodes : List Node) (low r : ℕ) (leaves takers ended : List Bool) (byte : ℕ) → IsNodeRange nodes low r → low ≡ 0 → length nodes ≡ r + 1 → AreTakers nodes byte takers →
+    ((c : ℕ) → c < length nodes → has_mark ended c ≡ (has_mark leaves c && has_mark takers c)) → MarkLeaves nodes r ended
+taken_both nodes low r leaves takers ended byte range none whole are both c lt h = let node = node_at nodes c lt in search (rules, range c, both c lt, are, and_parts)
 
 -- The marks of the nodes that end: besides some all where they are kept, and the root's own, where it begins as the null string too.
 pub record HasEnds (m r : ℕ) (keeps first : Bool) (null before : ℕ → Bool) (ended last : List Bool) : Type 0 where
   pub others : (c : ℕ) → c < m → (c ≡ r → ⊥) → has_mark last c ≡ (before c || (keeps && has_mark ended c))
   pub own : has_mark last r ≡ (before r || (has_mark ended r || (first && null r)))
 
--- of a concatenation that begins the first part begins, and the second one where the first is null
-pub seq_first : (null : ℕ → Bool) (a b : NodeId) (c : ℕ) → c ≡ a.index → IsTrue (entered_by true null (λ n. false) (Seq a b) c)
-seq_first null a b c e = search (rules, eq-eqb)
+-- Of a node of which the part y has ended: it ends too, but where that was the first of two parts, and no part begins.
+pub other_ends : (null : ℕ → Bool) (y : ℕ) (node : Node) → IsPart node y → ((a b : NodeId) → node ≡ Seq a b → a.index ≡ y → ⊥) → EndsAfter null node y
+other_ends null y node part not_first = search (rules, eq-eqb)
 
-pub seq_second : (null : ℕ → Bool) (a b : NodeId) (c : ℕ) → c ≡ b.index → null a.index ≡ true → IsTrue (entered_by true null (λ n. false) (Seq a b) c)
-seq_second null a b c e is = search rules
+pub none_begins : (null : ℕ → Bool) (y c : ℕ) (node : Node) → ((a b : NodeId) → node ≡ Seq a b → a.index ≡ y → ⊥) → ((a : NodeId) (first : Bool) → node ≡ Star a first → ⊥) → StartsAfter null node y c → ⊥
+none_begins null y c node not_first no_star h = search (rules, eqb-true, true≢false)
 
-pub seq_only : (null : ℕ → Bool) (a b : NodeId) (c : ℕ) → null a.index ≡ false → StartsWith null (Seq a b) c → c ≡ a.index
-seq_only null a b c is told = let part = told.0 in let h = told.1 in search (rules, eqb-true)
+-- The second part begins where the first has ended, and their node ends where that one is null.
+module _ (null : ℕ → Bool) (a b : NodeId) (y : ℕ) (apart : a.index ≡ b.index → ⊥) (at : a.index ≡ y) where
+  pub second_begins : (marks after : List Bool) → after ≡ slice_set marks b.index true → b.index < length marks → AddsMarks marks after (StartsAfter null (Seq a b) y)
+  second_begins marks after is long c = search (rules, set_was, set_more, set_here, eq-eqb, ne_eqb, true≢false)
 
--- no other node has a part
-pub no_part : (node : Node) → ((a b : NodeId) → node ≡ Seq a b → ⊥) → ((a b : NodeId) → node ≡ Alt a b → ⊥) → ((k : ℕ) (a : NodeId) → node ≡ Group k a → ⊥) → ((a : NodeId) (first : Bool) → node ≡ Star a first → ⊥) →
-    ((a : NodeId) (first : Bool) → node ≡ Opt a first → ⊥) → (c : ℕ) → IsPart node c → ⊥
-no_part (Seq a b) seq alt group star opt c part = seq a b refl
-no_part (Alt a b) seq alt group star opt c part = alt a b refl
-no_part (Group k a) seq alt group star opt c part = group k a refl
-no_part (Star a first) seq alt group star opt c part = star a first refl
-no_part (Opt a first) seq alt group star opt c part = opt a first refl
-no_part other seq alt group star opt c part = part
-
--- Of a node of which a part has ended.
-pub seq_ends : (took : List Bool → Bool) (null f : ℕ → Bool) (a b : NodeId) → IsTrue (f a.index) → null b.index ≡ true → IsTrue (ended_by took null f (Seq a b))
-seq_ends took null f a b end is = search rules
-
-pub other_ends : (took : List Bool → Bool) (null f : ℕ → Bool) (y : ℕ) (node : Node) → IsPart node y → IsTrue (f y) → ((a b : NodeId) → node ≡ Seq a b → a.index ≡ y → ⊥) → IsTrue (ended_by took null f node)
-other_ends took null f y (Seq a b) (inl at) end not_first = absurd (not_first a b refl at)
-other_ends took null f y (Seq a b) (inr at) end not_first = search rules
-other_ends took null f y (Alt a b) (inl at) end not_first = search rules
-other_ends took null f y (Alt a b) (inr at) end not_first = search rules
-other_ends took null f y (Group k a) at end not_first = rw at end
-other_ends took null f y (Star a first) at end not_first = rw at end
-other_ends took null f y (Opt a first) at end not_first = rw at end
-other_ends took null f y other at end not_first = absurd at
-
--- which part begins where the part y has ended
-pub second_begins : (null : ℕ → Bool) (a b : NodeId) (y : ℕ) → (a.index ≡ b.index → ⊥) → a.index ≡ y → IsTrue (entered_by false null (λ n. eqb n y) (Seq a b) b.index)
-second_begins null a b y ne at = search (rules, eq-eqb, ne_eqb)
-
-pub second_alone : (null : ℕ → Bool) (a b : NodeId) (y c : ℕ) → IsPart (Seq a b) c → IsTrue (entered_by false null (λ n. eqb n y) (Seq a b) c) → c ≡ b.index
-second_alone null a b y c (inl at) h = absurd (search (rules, eq-eqb, true≢false))
-second_alone null a b y c (inr at) h = sym at
-
-pub none_begins : (null : ℕ → Bool) (y c : ℕ) (node : Node) → ((a b : NodeId) → node ≡ Seq a b → a.index ≡ y → ⊥) → ((a : NodeId) (first : Bool) → node ≡ Star a first → ⊥) → IsTrue (entered_by false null (λ n. eqb n y) node c) → ⊥
-none_begins null y c (Seq a b) not_first no_star h = not_first a b refl (search (rules, eqb-true))
-none_begins null y c (Star a first) not_first no_star h = no_star a first refl
-none_begins null y c other not_first no_star h = true≢false (sym h)
-
--- nor does the node end with its first part, where the other isn't null
-pub seq_stays : (null : ℕ → Bool) (a b : NodeId) (y : ℕ) → (a.index ≡ b.index → ⊥) → a.index ≡ y → null b.index ≡ false → EndsAfter null (Seq a b) y → ⊥
-seq_stays null a b y ne at is h = search (rules, eqb-true, true≢false)
+  pub seq_ends : EndsAfter null (Seq a b) y ↔ IsTrue (null b.index)
+  seq_ends = search (rules, eq-eqb, eqb-true)

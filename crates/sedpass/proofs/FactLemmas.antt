@@ -1,20 +1,18 @@
 -- What is found out of each node once, and what it means for passes.
 use Rattle.std.proofs.lemmas.List.{get_or_append_left}
-use Rattle.sedpass.proofs.Words.{SameNulls, cases_lt, not, null_at, ◌||◌, true≢false, ◌∙◌, AreParents, IsPart, cases_eq, mirror_node, seen-node, slice_get_within, slice_index_or, sym}
-use Rattle.sedpass.proofs.Words.{rules, ◌≡◌, ℕ, zero, suc, ◌+◌, ◌<◌, ◌≤◌, ◌⊎◌, ◌↔◌, Bool, true, false, ◌&&◌, List, [], ◌∷◌, ◌++◌, length, Some, IsTrue, refl, ap, inl, inr, arith, bit_and, bit_or, ◌||◌, slice_get, eqb, option_eq, bit_at_and, bit_at_or, bit_at-lt, cases_lt, same_Some, none-some, size, IsArena, IsExpr, IsPart, FollowsParts, mirror, seen, Node, Seq, Alt, Group, Star, Opt, tree_at-node, tree_at-mirror, seen-length, Matches, no_copy, IsPlace, Matches-forward, node_at, Facts, PlaceKind, either-iff, both-iff, Tree, byte_of, sequence, either_of, grouped, WrittenExpression, tree_of, tree_at, size_positive, nullable, null_in, null_at, is_one_set, IsFacts, AreFacts, IsShort, length_of, at_begin, at_edge, IsNodeRange, AreNull}
+use Rattle.sedpass.proofs.Words.{SameNulls, cases_lt, not, null_at, ◌||◌, ◌∙◌, AreParents, IsPart, seen-node, slice_get_within, slice_index_or}
+use Rattle.sedpass.proofs.Words.{rules, ◌≡◌, ℕ, zero, suc, ◌+◌, ◌<◌, ◌≤◌, ◌⊎◌, ◌↔◌, Bool, true, false, ◌&&◌, List, [], ◌∷◌, ◌++◌, length, Some, IsTrue, refl, ap, inl, inr, arith, bit_and, bit_or, ◌||◌, slice_get, eqb, option_eq, bit_at_and, bit_at_or, bit_at-lt, cases_lt, same_Some, none-some, size, IsArena, IsExpr, IsPart, FollowsParts, mirror, seen, Node, Seq, Alt, Group, Star, Opt, tree_at-node, tree_at-mirror, seen-length, Matches, no_copy, IsPlace, Matches-forward, node_at, Facts, PlaceKind, Tree, byte_of, sequence, either_of, grouped, WrittenExpression, tree_of, tree_at, size_positive, nullable, null_in, null_at, is_one_set, IsFacts, AreFacts, IsShort, length_of, at_begin, at_edge, IsNodeRange, AreNull}
 use Rattle.sedpass.proofs.LengthLemmas.{sum_parts, same_parts}
-use Rattle.sedpass.proofs.RowLemmas.{part_mirror, not_true, range_of, mirror_range}
+use Rattle.sedpass.proofs.RowLemmas.{part_mirror, range_of, mirror_range}
 use Rattle.sedpass.proofs.GroupSetLemmas.{two_bits}
 
 -- null strings
 module _ (w : List ℕ) (p : ℕ) (first last : Bool) (there : IsPlace w p first last) where
   -- the null string at a place of the kind
   pub nullable_is : (t : Tree) → IsTrue (nullable first last t) ↔ Matches t w p p
-  nullable_is (byte_of members) = not_true (Matches (byte_of members) w p p) (λ h. omega (arith, h.3))
-  nullable_is (sequence a b) =
-      let both = both-iff (nullable first last a) (nullable first last b) (Matches a w p p) (Matches b w p p) (nullable_is a) (nullable_is b) in
-      (λ h. (p, (both.0 h).0, (both.0 h).1), λ h. let e : h.0 ≡ p = omega (arith, Matches-forward a w p h.0 h.1, Matches-forward b w h.0 p h.2) in both.1 (rw e at h.1, rw e at h.2))
-  nullable_is (either_of a b) = either-iff (nullable first last a) (nullable first last b) (Matches a w p p) (Matches b w p p) (nullable_is a) (nullable_is b)
+  nullable_is (byte_of members) = search rules
+  nullable_is (sequence a b) = grind (arith, nullable_is a, nullable_is b, Matches-forward a w p, Matches-forward b w)
+  nullable_is (either_of a b) = search (rules, nullable_is a, nullable_is b)
   nullable_is (grouped k a) = nullable_is a
   nullable_is other = search (rules, no_copy)
 
@@ -35,7 +33,7 @@ nullable_mirror first last other = refl
 -- so what is known of a node serves both ways
 pub null_shows : (mirrored : Bool) (e : WrittenExpression) (kind : PlaceKind) (w : List ℕ) (p : ℕ) → IsPlace w p (at_begin mirrored kind) (at_edge mirrored kind) →
     AreNull (seen mirrored e).nodes w p (null_in e.nodes kind)
-null_shows false e kind w p there c low = nullable_is w p kind.begin kind.end there (tree_at e.nodes c)
+null_shows false e kind w p there c low = search (rules, nullable_is)
 null_shows true e kind w p there c low = search (rules, tree_at-mirror, nullable_mirror, nullable_is)
 
 -- trees are ranges
@@ -49,7 +47,7 @@ module _ (nodes : List Node) (groups : ℕ) (expr : IsExpr nodes groups) where
   by_parts x low mid a b node is left right only long below =
       let range = below a low (omega (arith, long)) (omega (arith, long)) in
       let range' = below b mid (omega (arith, long)) (omega (arith, long)) in
-      range_of nodes x low node is (omega (arith, long)) (λ c from to. let at = cases_lt a c in search rules) (λ d c that tree. let at = only d that in search rules)
+      range_of nodes x low node is (omega (arith, long)) (λ c from to. search (rules, cases_lt a c)) (λ d c that tree. search (rules, only d that))
 
   range_by : (x low : ℕ) (node : Node) → slice_get nodes x ≡ Some node → FollowsParts nodes x node → RangesBelow x → low + size (tree_of (tree_at nodes) node) ≡ x + 1 → IsNodeRange nodes low x
   range_by x low (Seq a b) is follows below long = by_parts x low (a.index + 1) a.index b.index _ is (inl refl) (inr refl) (λ c part. part) (search (rules, size_positive)) below
@@ -60,10 +58,10 @@ module _ (nodes : List Node) (groups : ℕ) (expr : IsExpr nodes groups) where
   range_by x low other is follows below long = search (rules, range_of)
 
   ranges_below : (n : ℕ) → n ≤ length nodes → RangesBelow n
-  ranges_below zero small y low less long = absurd (omega arith)
   ranges_below (suc n) small y low less long =
       let here = node_at nodes y (omega arith) in
       range_by y low here.0 here.1 (expr.ranges y here.0 here.1) (λ z l lt. ranges_below n (omega arith) z l (omega arith)) (omega (arith, long, ap size (tree_at-node nodes y here.0 expr.arena here.1)))
+  ranges_below n small y low less long = absurd (omega arith)
 
 -- the nodes in x are those from low to x, in the mirrored expression too
 pub range_is : (mirrored : Bool) (e : WrittenExpression) → IsExpr e.nodes e.groups → (x low : ℕ) → x < length e.nodes → low + size (tree_at e.nodes x) ≡ x + 1 → IsNodeRange (seen mirrored e).nodes low x
@@ -75,12 +73,12 @@ inside_seen mirrored e x inside = omega (arith, seen-length mirrored e)
 
 -- a node without parts whose matches have one byte is a set
 pub shown_set : (a : Tree) (x : ℕ) (part : Facts) → IsFacts a x part → part.low ≡ x → option_eq eqb part.length (Some 1) ≡ true → is_one_set a ≡ true
-shown_set a x part shown low long = let size_is = shown.low in let same = shown.long in search (rules, size_positive)
+shown_set a x part shown low long = search (rules, shown.low, shown.long, size_positive)
 
 -- an expression has no longer matches of one length than nodes
 length_short : (t : Tree) (n : ℕ) → length_of t ≡ Some n → n ≤ size t
-length_short (sequence a b) n is = let parts = sum_parts (length_of a) (length_of b) n is in omega (arith, parts.4, length_short a parts.0 parts.2, length_short b parts.1 parts.3)
-length_short (either_of a b) n is = omega (arith, length_short a n (same_parts (length_of a) (length_of b) n is).0)
+length_short (sequence a b) n is = grind (arith, sum_parts (length_of a) (length_of b) n is, length_short a, length_short b)
+length_short (either_of a b) n is = grind (arith, same_parts (length_of a) (length_of b) n is, length_short a)
 length_short (grouped k a) n is = omega (arith, length_short a n is)
 length_short other n is = search (rules, same_Some)
 
@@ -95,42 +93,26 @@ last_shown (first ∷ shown) next fact (suc x) is = search (rules, last_shown sh
 
 pub facts_more : (nodes : List Node) (arena : IsArena nodes) (shown : List Facts) (node : Node) (next : Facts) → AreFacts nodes shown → slice_get nodes (length shown) ≡ Some node →
     IsFacts (tree_of (tree_at nodes) node) (length shown) next → AreFacts nodes (shown ++ next ∷ [])
-facts_more nodes arena shown node next facts there here x fact is =
-    elim (last_shown shown next fact x is) [ inl old ↦ facts x fact old | inr new ↦ rw (new.0, new.1, tree_at-node nodes (length shown) node arena there) here ]
+facts_more nodes arena shown node next facts there here x fact is = search (rules, last_shown shown next fact x is, facts x fact, tree_at-node nodes (length shown) node arena there)
 
 noted_part : (e : WrittenExpression) (p x : ℕ) (node : Node) → slice_get e.nodes p ≡ Some node → IsPart node x → (mirrored : Bool) (other : Node) → slice_get (seen mirrored e).nodes p ≡ Some other → IsPart other x
-noted_part e p x node is part false other at = let same : other ≡ node = search (rules, same_Some) in rw same part
-noted_part e p x node is part true other at = let mirror = seen-node true e p node is in let same : other ≡ mirror_node node = search (rules, same_Some) in rw same ((part_mirror node x).0 part)
+noted_part e p x node is part false other at = search (rules, same_Some)
+noted_part e p x node is part true other at = search (rules, seen-node true e p node is, same_Some, part_mirror)
 
 -- the node that is noted for a part has it, mirrored or not
 pub parent_is : (e : WrittenExpression) (parents : List ℕ) (x noted : ℕ) → IsArena e.nodes → AreParents e.nodes parents (length e.nodes) → x + 1 < length e.nodes → noted ≡ slice_index_or parents x 0 →
     (noted < length e.nodes) × (x < noted) × ((mirrored : Bool) (node : Node) → slice_get (seen mirrored e).nodes noted ≡ Some node → IsPart node x)
 parent_is e parents x noted arena notes inside is =
     let p = arena.each x inside in
-    let low : p.0 < length e.nodes = slice_get_within e.nodes p.0 p.1 p.2 in
-    let same : noted ≡ p.0 = is ∙ notes p.0 x p.1 low p.2 p.3 in
-    rw same (low, arena.below p.0 x p.1 p.2 p.3, λ mirrored node at. noted_part e p.0 x p.1 p.2 p.3 mirrored node at)
+    let low = slice_get_within e.nodes p.0 p.1 p.2 in
+    rw (is ∙ notes p.0 x p.1 low p.2 p.3) (low, arena.below p.0 x p.1 p.2 p.3, λ mirrored node at. noted_part e p.0 x p.1 p.2 p.3 mirrored node at)
 
 -- a node was noted for its parts
 pub parents_more : (nodes : List Node) (arena : IsArena nodes) (old after : List ℕ) (x : ℕ) (node : Node) → length old ≡ x → slice_get nodes x ≡ Some node → ((c : ℕ) → IsPart node c → slice_index_or after c 0 ≡ x) →
     ((c : ℕ) → (IsPart node c → ⊥) → slice_index_or after c 0 ≡ slice_index_or (old ++ 0 ∷ []) c 0) → AreParents nodes old x → AreParents nodes after (x + 1)
-parents_more nodes arena old after x node all is told others notes q c other lt is' part = elim (cases_eq q x) [
-  | inl e ↦ let same : other ≡ node = search (rules, same_Some) in told c (rw (← same) part) ∙ sym e
-  | inr ne ↦ others c (λ mine. ne (arena.once q x c other node is' is part mine)) ∙ get_or_append_left old (0 ∷ []) 0 c (omega (arith, all, lt, ne, arena.below q c other is' part)) ∙ notes q c other (omega (arith, lt, ne)) is' part
-]
-
-neither : (a b : Bool) → (a || b) ≡ false → (a ≡ false) × (b ≡ false)
-neither true b none = absurd (true≢false none)
-neither false b none = (refl, none)
+parents_more nodes arena old after x node all is told others notes q c other lt is' part = grind (arith, told c, others c, arena.once q x c other node is' is part, arena.below q c other is' part, notes q c other, get_or_append_left old (0 ∷ []) 0 c)
 
 -- null strings are the same up to the next node
 pub nulls_more : (nodes : List Node) (mirrored told tells : Bool) (n : ℕ) (node : Node) (next : Facts) → IsArena nodes → slice_get nodes n ≡ Some node → IsFacts (tree_of (tree_at nodes) node) n next →
     ((tells ≡ false) ↔ (null_at next.null mirrored (not mirrored) ≡ null_at next.null false false)) → ((told ≡ false) ↔ SameNulls nodes mirrored n) → ((told || tells) ≡ false) ↔ SameNulls nodes mirrored (n + 1)
-nulls_more nodes mirrored told tells n node next arena is facts same old =
-    let here = tree_at-node nodes n node arena is in (
-      λ none x lt. let parts = neither told tells none in elim (cases_lt x n) [
-        | inl low ↦ old.0 parts.0 x low
-        | inr high ↦ let e : x ≡ n = omega arith in rw (e, here) (sym (facts.null mirrored (not mirrored)) ∙ same.0 parts.1 ∙ facts.null false false)
-      ],
-      λ all. rw (old.1 (λ x lt. all x (omega (arith, lt))), same.1 (facts.null mirrored (not mirrored) ∙ rw here at (all n (omega arith)) ∙ sym (facts.null false false))) refl,
-    )
+nulls_more nodes mirrored told tells n node next arena is facts same old = grind (arith, facts.null, same, old, tree_at-node nodes n node arena is)

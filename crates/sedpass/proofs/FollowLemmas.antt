@@ -1,5 +1,5 @@
 -- The row that follows from which leaves took a byte: that it is the place's, what two of them have together, and that scans find it.
-use Rattle.sedpass.proofs.Words.{HasSpan, IfSome, None, marks_of, row_of, AreNull, Bool, CanEnd, EndsUpTo, Enters, Enters-root, EntersDownTo, InTree, IsArena, IsPart, IsStart, IsTrue, List, Node, Seq, Set, Option, RowFollows, RowOfPlace, Some, Starts, Took, and_from, and_parts, cases_eq, either-iff, node_at, true≢false, ap, arith, at_root, bits, ended_by, entered_by, false, has_mark, inl, inr, is_tree, le-leb, length, lt-ltb, ltb-true, nat_le, nat_lt, part_of, refl, rules, slice_get, subst, suc, sym, zero, ℕ, ◌&&◌, ◌+◌, ◌<◌, ◌∙◌, ◌||◌, ◌≡◌, ◌≤◌, ◌⊎◌, ◌↔◌}
+use Rattle.sedpass.proofs.Words.{IfSome, None, marks_of, row_of, AreNull, Bool, CanEnd, EndsUpTo, Enters, Enters-root, EntersDownTo, InTree, IsArena, IsPart, IsStart, IsTrue, List, Node, Set, Option, RowFollows, RowOfPlace, Some, Starts, Took, and_from, node_at, true≢false, ap, arith, at_root, bits, ended_by, entered_by, false, has_mark, is_tree, le-leb, length, lt-ltb, ltb-true, part_of, refl, rules, slice_get, suc, sym, ℕ, ◌+◌, ◌<◌, ◌∙◌, ◌||◌, ◌≡◌, ◌≤◌, ◌⊎◌, ◌↔◌}
 use Rattle.sedpass.proofs.ActLemmas.{HasEnds, HasLeaves, ended_by_more, entered_by_more, entered_is, same_truth}
 use Rattle.sedpass.proofs.LeaveLemmas.{ends_at}
 use Rattle.sedpass.proofs.RowLemmas.{InTree-inside, ended_is, enters_tree}
@@ -7,86 +7,55 @@ use Rattle.sedpass.proofs.RowLemmas.{InTree-inside, ended_is, enters_tree}
 -- the row is that of a place, where those leaves took the byte before it
 module _ (nodes : List Node) (w : List ℕ) (r p : ℕ) (s : Starts) (arena : IsArena nodes) (inside : r < length nodes) (keeps first : Bool) (null took : ℕ → Bool) (nulls : AreNull nodes w p null) (begins : IsTrue first ↔ IsStart s p)
     (takes : (c : ℕ) (members : List Bool) → InTree nodes r c → slice_get nodes c ≡ Some (Set members) → IsTrue (took c) ↔ Took nodes w r s p c members) (entered ended : ℕ → Bool) (f : RowFollows nodes r keeps first null took entered ended) where
-  node_of : (x : ℕ) → InTree nodes r x → (node : Node) × (slice_get nodes x ≡ Some node)
-  node_of x there = node_at nodes x (omega (arith, InTree-inside nodes arena r x there, inside))
-
   up_below : (n x : ℕ) → x < n → InTree nodes r x → IsTrue (f.ends x) ↔ CanEnd nodes w r s x p
-  up_below zero x lt there = absurd (omega (arith, lt))
   up_below (suc n) x lt there =
       let low = InTree-inside nodes arena r x there in
-      let here = node_of x there in
-      let law = ended_is nodes w r s arena (λ m. took x) null f.ends x p low here.0 here.1
-      (λ m same. takes x m there (here.1 ∙ ap (λ k. Some k) same))
-      (λ c part. nulls c (omega (arith, low, inside, arena.below x c here.0 here.1 part)))
-      (λ c part. up_below n c (omega (arith, lt, arena.below x c here.0 here.1 part)) (part_of x c here.0 here.1 part there)) in
-      (λ h. law.0 (sym (f.up x here.0 there here.1) ∙ h), λ h. f.up x here.0 there here.1 ∙ law.1 h)
-
-  up_all : (c : ℕ) → InTree nodes r c → IsTrue (f.ends c) ↔ CanEnd nodes w r s c p
-  up_all c there = up_below (c + 1) c (omega arith) there
+      let here = node_at nodes x (omega (arith, low, inside)) in
+      let below = λ (c : ℕ) (part : IsPart here.0 c). arena.below x c here.0 here.1 part in
+      rw (f.up x here.0 there here.1) (ended_is nodes w r s arena (λ m. took x) null f.ends x p low here.0 here.1 (λ m same. takes x m there (here.1 ∙ ap (λ k. Some k) same))
+      (λ c part. nulls c (omega (arith, low, inside, below c part))) (λ c part. up_below n c (omega (arith, lt, below c part)) (part_of x c here.0 here.1 part there)))
+  up_below n x lt there = absurd (omega (arith, lt))
 
   down_all : (c : ℕ) → InTree nodes r c → IsTrue (f.begins c) ↔ Enters nodes w r s c p
   down_all c (is_tree _ e) = search (rules, f.root, at_root, Enters-root)
   down_all c (part_of y _ node is part up) =
       let yr = InTree-inside nodes arena r y up in
-      let law = entered_is nodes w r y p s arena yr (f.begins y) (down_all y up) null f.ends node is
-      (λ n at. nulls n (omega (arith, yr, inside, arena.below y n node is at))) (λ n at. up_all n (part_of y n node is at up)) c part in
-      let told = f.down y c node up is part in
-      (λ h. law.0 (sym told ∙ h), λ h. told ∙ law.1 h)
-
-  starts : IsTrue first ↔ Enters nodes w r s r p
-  starts = search (rules, at_root, Enters-root)
+      rw (f.down y c node up is part) (entered_is nodes w r y p s arena yr (f.begins y) (down_all y up) null f.ends node is
+      (λ n at. nulls n (omega (arith, yr, inside, arena.below y n node is at))) (λ n at. up_below (n + 1) n (omega arith) (part_of y n node is at up)) c part)
 
   pub row_of_place : RowOfPlace nodes w r s keeps p entered ended
   row_of_place = record {
-    leaves = λ c. (
-      λ h. let leaf = (f.leaves c).0 h in (leaf.2.0, leaf.2.1, (down_all c leaf.0).0 leaf.1),
-      λ leaf. let there = enters_tree nodes w r s c p leaf.2 in (f.leaves c).1 (there, (down_all c there).1 leaf.2, (leaf.0, leaf.1)),
-    );
-    ends = λ c. let law = ends_at nodes w r c p s in (
-      λ h. let at = (f.ended_is c).0 h in elim at.1 [
-        | inl end ↦ (end.0, law.1 (inl ((up_all c at.0).0 end.1)))
-        | inr here ↦ (inr here.0, law.1 (inr (here.0, rw here.0 (starts.0 here.1, (nulls r inside).0 here.2))))
-      ],
-      λ h. elim (law.0 h.1) [
-        | inl end ↦ let there = enters_tree nodes w r s c end.0 end.2 in (f.ended_is c).1 (there, inl (h.0, (up_all c there).1 end))
-        | inr none ↦ (f.ended_is c).1 (is_tree c none.0, inr (none.0, starts.1 (subst (λ (x : ℕ). Enters nodes w r s x p) none.0 none.1.0), (nulls r inside).1 (subst (λ (x : ℕ). HasSpan nodes w x p p) none.0 none.1.1)))
-      ],
-    );
+    leaves = λ c. search (rules, f.leaves c, down_all c, enters_tree);
+    ends = λ c. search (rules, ends_at nodes w r c p s, f.ended_is c, up_below (c + 1) c (omega arith), at_root, Enters-root, nulls r inside, enters_tree, is_tree);
   }
 
--- where as many took the byte the same follows
-pub took_same : (nodes : List Node) (r : ℕ) (keeps first : Bool) (null took other entered ended : ℕ → Bool) → ((c : ℕ) → InTree nodes r c → other c ≡ took c) → RowFollows nodes r keeps first null took entered ended → RowFollows nodes r keeps first null other entered ended
-took_same nodes r keeps first null took other entered ended same f = record {
+-- null strings that are the same say the same
+ended_null : (took : List Bool → Bool) (null other f : ℕ → Bool) (node : Node) → ((c : ℕ) → IsPart node c → other c ≡ null c) → ended_by took other f node ≡ ended_by took null f node
+ended_null took null other f node same = grind (arith, same)
+
+entered_null : (here : Bool) (null other f : ℕ → Bool) (node : Node) (c : ℕ) → ((n : ℕ) → IsPart node n → other n ≡ null n) → entered_by here other f node c ≡ entered_by here null f node c
+entered_null here null other f node c same = grind (arith, same)
+
+same_follows : (nodes : List Node) (r : ℕ) (keeps first : Bool) (null same_null took other entered ended : ℕ → Bool) → ((x c : ℕ) (node : Node) → InTree nodes r x → slice_get nodes x ≡ Some node → IsPart node c → same_null c ≡ null c) → same_null r ≡ null r →
+    ((c : ℕ) → InTree nodes r c → other c ≡ took c) → RowFollows nodes r keeps first null took entered ended → RowFollows nodes r keeps first same_null other entered ended
+same_follows nodes r keeps first null same_null took other entered ended nulls root same f = record {
   begins = f.begins;
   ends = f.ends;
   root = f.root;
-  down = f.down;
-  up = λ x node there is. rw (same x there) (f.up x node there is);
+  down = λ x c node there is part. f.down x c node there is part ∙ sym (entered_null (f.begins x) null same_null f.ends node c (λ n at. nulls x n node there is at));
+  up = λ x node there is. rw (same x there) (f.up x node there is ∙ sym (ended_null (λ m. took x) null same_null f.ends node (λ n at. nulls x n node there is at)));
   leaves = f.leaves;
-  ended_is = f.ended_is;
+  ended_is = λ c. rw root (f.ended_is c);
 }
 
+-- where as many took the byte the same follows
+pub took_same : (nodes : List Node) (r : ℕ) (keeps first : Bool) (null took other entered ended : ℕ → Bool) → ((c : ℕ) → InTree nodes r c → other c ≡ took c) → RowFollows nodes r keeps first null took entered ended → RowFollows nodes r keeps first null other entered ended
+took_same nodes r keeps first null took other entered ended same f = same_follows nodes r keeps first null null took other entered ended (λ x c node there is part. refl) refl same f
+
 -- where null strings are the same the same follows
-ended_null : (took : List Bool → Bool) (null other f : ℕ → Bool) (node : Node) → ((c : ℕ) → IsPart node c → other c ≡ null c) → ended_by took other f node ≡ ended_by took null f node
-ended_null took null other f (Seq a b) same = rw (same b.index (inr refl)) refl
-ended_null took null other f node same = grind arith
-
-entered_null : (here : Bool) (null other f : ℕ → Bool) (node : Node) (c : ℕ) → ((n : ℕ) → IsPart node n → other n ≡ null n) → entered_by here other f node c ≡ entered_by here null f node c
-entered_null here null other f (Seq a b) c same = rw (same a.index (inl refl)) refl
-entered_null here null other f node c same = grind arith
-
 pub null_same : (nodes : List Node) (r : ℕ) (keeps first : Bool) (null other took entered ended : ℕ → Bool) → IsArena nodes → r < length nodes → ((x : ℕ) → x < length nodes → other x ≡ null x) → RowFollows nodes r keeps first null took entered ended → RowFollows nodes r keeps first other took entered ended
 null_same nodes r keeps first null other took entered ended arena inside same f =
-    let below = λ (x c : ℕ) (node : Node) (there : InTree nodes r x) (is : slice_get nodes x ≡ Some node) (part : IsPart node c). same c (omega (arith, InTree-inside nodes arena r x there, inside, arena.below x c node is part)) in
-    record {
-      begins = f.begins;
-      ends = f.ends;
-      root = f.root;
-      down = λ x c node there is part. f.down x c node there is part ∙ sym (entered_null (f.begins x) null other f.ends node c (λ n at. below x n node there is at));
-      up = λ x node there is. f.up x node there is ∙ sym (ended_null (λ m. took x) null other f.ends node (λ n at. below x n node there is at));
-      leaves = f.leaves;
-      ended_is = λ c. rw (same r inside) (f.ended_is c);
-    }
+    same_follows nodes r keeps first null other took took entered ended (λ x c node there is part. same c (omega (arith, InTree-inside nodes arena r x there, inside, arena.below x c node is part))) (same r inside) (λ c there. refl) f
 
 -- the marks of a state that is there still
 pub marks_kept : (base : Option ℕ) (row : ℕ → ℕ) (old new : List (List Bool)) (c : ℕ) → IfSome base (λ q. row_of new (row q) ≡ row_of old (row q)) → marks_of base row new c ≡ marks_of base row old c
@@ -100,22 +69,16 @@ ended_both one two null f g node = grind arith
 entered_both : (one two : Bool) (null f g : ℕ → Bool) (node : Node) (c : ℕ) → (entered_by one null f node c || entered_by two null g node c) ≡ entered_by (one || two) null (λ n. f n || g n) node c
 entered_both one two null f g node c = grind arith
 
-no_begin : (null : ℕ → Bool) (node : Node) (c : ℕ) → entered_by false null (λ n. false) node c ≡ false
-no_begin null node c = grind arith
-
-no_end : (null : ℕ → Bool) (node : Node) → ended_by (λ m. false) null (λ c. false) node ≡ false
-no_end null node = grind arith
-
 -- what follows from no leaf, where nothing begins
 pub nothing : (nodes : List Node) (r : ℕ) (keeps : Bool) (null : ℕ → Bool) → RowFollows nodes r keeps false null (λ c. false) (λ c. false) (λ c. false)
 nothing nodes r keeps null = record {
   begins = λ c. false;
   ends = λ c. false;
   root = refl;
-  down = λ x c node there is part. sym (no_begin null node c);
-  up = λ x node there is. sym (no_end null node);
-  leaves = λ c. (λ h. absurd (true≢false (sym h)), λ leaf. leaf.1);
-  ended_is = λ c. (λ h. absurd (true≢false (sym h)), λ at. elim at.1 [ inl end ↦ end.1 | inr here ↦ here.1 ]);
+  down = λ x c node there is part. grind arith;
+  up = λ x node there is. grind arith;
+  leaves = λ c. search (rules, true≢false);
+  ended_is = λ c. search (rules, true≢false);
 }
 
 -- the marks that scans set, besides those of a row
@@ -123,52 +86,18 @@ module _ (nodes : List Node) (r : ℕ) (arena : IsArena nodes) (inside : r < len
     (ended entered base leaves last : List Bool) (low : ℕ) (all : (c : ℕ) → InTree nodes r c → low ≤ c) (up : EndsUpTo nodes r took null ended r) (down : EntersDownTo nodes r begun null ended entered low (r + 1))
     (has : HasLeaves nodes base entered leaves low) (laid : (c : ℕ) → c < length nodes → has_mark base c ≡ before c) (kept : HasEnds (length nodes) r keeps begun null before_ended ended last) where
   up_told : (x : ℕ) (node : Node) → InTree nodes r x → slice_get nodes x ≡ Some node → has_mark ended x ≡ ended_by (λ m. took x) null (has_mark ended) node
-  up_told x node there is = same_truth _ _ (up.just x node is) (λ h. up.closed x node there is (ended_by_more (λ m. took x) null (has_mark ended) (λ c. nat_lt c r && has_mark ended c) node
-      (λ c part mark. and_from _ _ (lt-ltb c r (omega (arith, InTree-inside nodes arena r x there, arena.below x c node is part))) mark) h))
+  up_told x node there is = search (rules, same_truth, up.just x node is, up.closed x node there is, ended_by_more, and_from, lt-ltb, InTree-inside, arena.below)
 
   down_told : (x c : ℕ) (node : Node) → InTree nodes r x → slice_get nodes x ≡ Some node → IsPart node c → has_mark entered c ≡ entered_by (has_mark entered x) null (has_mark ended) node c
-  down_told x c node there is part = same_truth _ _ (down.just x c node there is part) (λ h. down.closed x c node there is part
-      (entered_by_more (has_mark entered x) (nat_le low x && has_mark entered x) null (has_mark ended) (λ n. nat_lt n (r + 1) && has_mark ended n) node c
-      (λ mark. and_from _ _ (le-leb low x (all x there)) mark) (λ n at mark. and_from _ _ (lt-ltb n (r + 1) (omega (arith, InTree-inside nodes arena r x there, arena.below x n node is at))) mark) h))
-
-  either : (a b : Bool) → IsTrue (a || b) ↔ (IsTrue a ⊎ IsTrue b)
-  either a b = either-iff a b (IsTrue a) (IsTrue b) (λ h. h, λ h. h) (λ h. h, λ h. h)
+  down_told x c node there is part = same_truth _ _ (down.just x c node there is part)
+      (λ h. down.closed x c node there is part (search (rules, entered_by_more, le-leb, all x there, lt-ltb, InTree-inside nodes arena r x there, arena.below x)))
 
   -- the nodes that end
   abbrev Last : ℕ → Type 0
   Last c = IsTrue (before_ended c) ⊎ (((IsTrue keeps ⊎ (c ≡ r)) × IsTrue (has_mark ended c)) ⊎ ((c ≡ r) × IsTrue begun × IsTrue (null r)))
 
   last_told : (c : ℕ) → c < length nodes → IsTrue (has_mark last c) ↔ Last c
-  last_told c lt = elim (cases_eq c r) [
-    | inl e ↦
-        let own = kept.own in
-        let one = either (before_ended r) (has_mark ended r || (begun && null r)) in
-        let two = either (has_mark ended r) (begun && null r) in (
-          λ h. elim (one.0 (sym own ∙ rw (← e) h)) [
-            | inl old ↦ inl (rw e old)
-            | inr new ↦ elim (two.0 new) [ inl end ↦ inr (inl (inr e, rw e end)) | inr here ↦ let parts = and_parts begun (null r) here in inr (inr (e, parts.0, parts.1)) ]
-          ],
-          λ h. rw e (own ∙ one.1 (elim h [
-            | inl old ↦ inl (rw (← e) old)
-            | inr new ↦ inr (two.1 (elim new [ inl end ↦ inl (rw (← e) end.1) | inr here ↦ inr (and_from begun (null r) here.1 here.2) ]))
-          ])),
-        )
-    | inr ne ↦
-        let own = kept.others c lt ne in
-        let one = either (before_ended c) (keeps && has_mark ended c) in (
-          λ h. elim (one.0 (sym own ∙ h)) [ inl old ↦ inl old | inr new ↦ let parts = and_parts keeps (has_mark ended c) new in inr (inl (inl parts.0, parts.1)) ],
-          λ h. own ∙ one.1 (elim h [
-            | inl old ↦ inl old
-            | inr new ↦ elim new [ inl end ↦ inr (and_from keeps (has_mark ended c) (elim end.0 [ inl k ↦ k | inr e ↦ absurd (ne e) ]) end.1) | inr here ↦ absurd (ne here.0) ]
-          ]),
-        )
-  ]
-
-  within : (c : ℕ) → InTree nodes r c → c < length nodes
-  within c there = omega (arith, InTree-inside nodes arena r c there, inside)
-
-  marked : (marks : List Bool) (c : ℕ) → c < length nodes → IsTrue (has_mark marks c) → IsTrue (bits (length nodes) marks c)
-  marked marks c lt h = and_from (nat_lt c (length nodes)) (has_mark marks c) (lt-ltb c (length nodes) lt) h
+  last_told c lt = grind (arith, kept.own, kept.others c lt)
 
   pub row_added : RowFollows nodes r keeps (first || begun) null (λ c. other c || took c) (bits (length nodes) leaves) (bits (length nodes) last)
   row_added = record {
@@ -177,28 +106,6 @@ module _ (nodes : List Node) (r : ℕ) (arena : IsArena nodes) (inside : r < len
     root = rw (f.root, down.root) refl;
     down = λ x c node there is part. rw (f.down x c node there is part, down_told x c node there is part) (entered_both (f.begins x) (has_mark entered x) null f.ends (has_mark ended) node c);
     up = λ x node there is. rw (f.up x node there is, up_told x node there is) (ended_both (other x) (took x) null f.ends (has_mark ended) node);
-    leaves = λ c. let two = either (f.begins c) (has_mark entered c) in (
-      λ h. let parts : IsTrue (nat_lt c (length nodes)) × IsTrue (has_mark leaves c) = and_parts (nat_lt c (length nodes)) (has_mark leaves c) h in
-          let lt : c < length nodes = ltb-true c (length nodes) parts.0 in
-          elim ((has.leaf c lt).0 parts.1) [
-            | inl old ↦ let leaf = (f.leaves c).0 (sym (laid c lt) ∙ old) in (leaf.0, two.1 (inl leaf.1), leaf.2)
-            | inr at ↦ (down.inside c lt at.1, two.1 (inr at.1), at.2)
-          ],
-      λ leaf. let lt = within c leaf.0 in marked leaves c lt ((has.leaf c lt).1 (elim (two.0 leaf.1) [
-        | inl old ↦ inl (laid c lt ∙ (f.leaves c).1 (leaf.0, old, leaf.2))
-        | inr new ↦ inr (all c leaf.0, new, leaf.2)
-      ])),
-    );
-    ended_is = λ c. let two = either (f.ends c) (has_mark ended c) in let starts = either first begun in (
-      λ h. let parts : IsTrue (nat_lt c (length nodes)) × IsTrue (has_mark last c) = and_parts (nat_lt c (length nodes)) (has_mark last c) h in
-          let lt : c < length nodes = ltb-true c (length nodes) parts.0 in
-          elim ((last_told c lt).0 parts.1) [
-            | inl old ↦ let at = (f.ended_is c).0 old in (at.0, elim at.1 [ inl end ↦ inl (end.0, two.1 (inl end.1)) | inr here ↦ inr (here.0, starts.1 (inl here.1), here.2) ])
-            | inr new ↦ elim new [ inl end ↦ (up.inside c lt end.1, inl (end.0, two.1 (inr end.1))) | inr here ↦ (is_tree c here.0, inr (here.0, starts.1 (inr here.1), here.2)) ]
-          ],
-      λ at. let lt = within c at.0 in marked last c lt ((last_told c lt).1 (elim at.1 [
-        | inl end ↦ elim (two.0 end.1) [ inl old ↦ inl ((f.ended_is c).1 (at.0, inl (end.0, old))) | inr new ↦ inr (inl (end.0, new)) ]
-        | inr here ↦ elim (starts.0 here.1) [ inl old ↦ inl ((f.ended_is c).1 (at.0, inr (here.0, old, here.2))) | inr new ↦ inr (inr (here.0, new, here.2)) ]
-      ])),
-    );
+    leaves = λ c. search (rules, ltb-true, lt-ltb, has.leaf c, f.leaves c, laid c, down.inside c, InTree-inside nodes arena r c, inside, all c);
+    ended_is = λ c. search (rules, ltb-true, lt-ltb, last_told c, f.ended_is c, up.inside c, InTree-inside nodes arena r c, inside, is_tree);
   }

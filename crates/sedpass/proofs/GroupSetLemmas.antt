@@ -1,5 +1,5 @@
 -- The bits of a set of groups.
-use Rattle.sedpass.proofs.Words.{rules, ◌≡◌, ℕ, zero, suc, ◌-◌, ◌*◌, ◌%◌, ◌^◌, ◌<◌, ◌≤◌, ◌&&◌, ◌||◌, not, IsTrue, ap, ◌∙◌, inl, inr, arith, bit_and, bit_or, w16, eqb, common_steps, bit_at, trailing_zeros, and-false, mod-eq_of_lt, bit_at_or, bit_at_and, bit_at_not, bit_at-lt, bit_at-zero, bit_at-pow_same, bit_at-pow_other, bit_at_above, bit_at_ones, bit_at-trailing_zeros, and_le_r, ne_eqb, cases_lt, cases_eq, eq-eqb, lt-ltb, ltb-true, GroupSet, pow_mono, reported, holds}
+use Rattle.sedpass.proofs.Words.{rules, ◌≡◌, ℕ, zero, suc, ◌-◌, ◌*◌, ◌%◌, ◌^◌, ◌<◌, ◌≤◌, ◌&&◌, ◌||◌, not, IsTrue, ap, arith, bit_and, bit_or, w16, eqb, common_steps, bit_at, trailing_zeros, and-false, mod-eq_of_lt, bit_at_or, bit_at_and, bit_at_not, bit_at-lt, bit_at-zero, bit_at-pow_same, bit_at-pow_other, bit_at_above, bit_at_ones, bit_at-trailing_zeros, and_le_r, ne_eqb, cases_eq, eq-eqb, lt-ltb, ltb-true, GroupSet, pow_mono, reported, holds}
 
 abbrev of_bits : ℕ → GroupSet
 of_bits n = record { bits = n }
@@ -25,15 +25,10 @@ pub meet_in : (a b : ℕ) → a < 65536 → (bit_and (bit_and a b) 1023 ≡ 0 �
 meet_in a b small some =
     let n = bit_and (bit_and a b) 1023 in
     let k = trailing_zeros w16 n in
-    let bit : bit_at n k ≡ 1 = (bit_at-trailing_zeros w16 n (omega arith) (omega (arith, and_le_r (bit_and a b) 1023))).1 in
-    let low : k < 10 = elim (cases_lt k 10) [ inl lt ↦ lt | inr ge ↦ absurd (omega (arith, bit, bit_at_above n 10 k (omega (arith, and_le_r (bit_and a b) 1023)) ge)) ] in
-    let whole = bit_at_and (bit_and a b) 1023 k in
-    let parts = bit_at_and a b k in
-    (k, search (rules, bit_at-lt a k, lt-ltb, eq-eqb), search (rules, bit_at-lt b k, lt-ltb, eq-eqb))
+    let few : n < 1024 = omega (arith, and_le_r (bit_and a b) 1023) in
+    let bit : bit_at n k ≡ 1 = (bit_at-trailing_zeros w16 n (omega arith) (omega arith)).1 in
+    let low : k < 10 = grind (arith, bit_at_above n 10 k few) in
+    (k, search (rules, bit_at_and (bit_and a b) 1023 k, bit_at_and a b k, bit_at-lt a k, lt-ltb, eq-eqb), search (rules, bit_at_and (bit_and a b) 1023 k, bit_at_and a b k, bit_at-lt b k, lt-ltb, eq-eqb))
 
 pub in_both : (a b k : ℕ) → IsTrue (holds (of_bits a) k) → IsTrue (holds (of_bits b) k) → bit_and (bit_and a b) 1023 ≡ 0 → ⊥
-in_both a b k one other none =
-    let zero = ap (λ n. bit_at n k) none ∙ bit_at-zero k in
-    let whole = bit_at_and (bit_and a b) 1023 k in
-    let parts = bit_at_and a b k in
-    grind (arith, common_steps, ltb-true, bit_at_ones 10 k)
+in_both a b k one other none = grind (arith, common_steps, ltb-true, bit_at_ones 10 k, ap (λ n. bit_at n k) none, bit_at-zero k, bit_at_and (bit_and a b) 1023 k, bit_at_and a b k)

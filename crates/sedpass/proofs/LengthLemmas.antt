@@ -24,11 +24,7 @@ all_long other w n is i j s = search rules
 -- of copies of one length the last one begins that much before the end
 pub copies_long : (R : ℕ → ℕ → Type 0) (j n : ℕ) → AllLong R n → (i : ℕ) → i < j → CopiesLead R j i → LastCopy R j i (j - n)
 copies_long R j n long i lt no_copy = absurd (omega arith)
-copies_long R j n long i lt (one_more _ k up r rest) =
-    let next : k ≡ i + n = long i k r in
-    elim (cases_eq k j) [
-      | inl e ↦ let here : j - n ≡ i = omega arith in rw here (only i lt (rw e at r))
-      | inr ne ↦
-          let less : k < j = omega (arith, ne, CopiesLead-forward R j k rest) in
-          then_copy i k (j - n) up less r rest (λ l low s c. omega (arith, long i l s)) (copies_long R j n long k less rest)
-    ]
+copies_long R j n long i lt (one_more _ k up r rest) = elim (cases_eq k j) [
+  | inl e ↦ let here : j - n ≡ i = omega (arith, long i k r) in rw here (only i lt (rw e at r))
+  | inr ne ↦ let less : k < j = omega (arith, ne, CopiesLead-forward R j k rest) in then_copy i k (j - n) up less r rest (λ l low s c. omega (arith, long i k r, long i l s)) (copies_long R j n long k less rest)
+]

@@ -20,11 +20,11 @@ module _ (nodes : List Node) (w : List ℕ) (r : ℕ) (s : Starts) (arena : IsAr
 
   -- the left part of a concatenation is entered with it
   pub with_seq : (x i : ℕ) (a b : NodeId) → x ≤ r → slice_get nodes x ≡ Some (Seq a b) → Enters nodes w r s a.index i → Enters nodes w r s x i
-  with_seq x i a b le is e = let from = Enters-part nodes w r s arena x le a.index i (Seq a b) is (inl refl) e in let ne = arena.distinct x (Seq a b) is in search (rules, sym)
+  with_seq x i a b le is e = let ne = arena.distinct x (Seq a b) is in search (rules, sym, Enters-part nodes w r s arena x le a.index i (Seq a b) is (inl refl) e)
 
   -- the right part where the left one ends
   after_seq : (x i : ℕ) (a b : NodeId) → x ≤ r → slice_get nodes x ≡ Some (Seq a b) → Enters nodes w r s b.index i → (k : ℕ) × Enters nodes w r s x k × HasSpan nodes w a.index k i
-  after_seq x i a b le is e = let from = Enters-part nodes w r s arena x le b.index i (Seq a b) is (inr refl) e in let ne = arena.distinct x (Seq a b) is in search rules
+  after_seq x i a b le is e = let ne = arena.distinct x (Seq a b) is in search (rules, Enters-part nodes w r s arena x le b.index i (Seq a b) is (inr refl) e)
 
   -- a repetition goes on with one more copy
   pub one_copy : (x j : ℕ) (a : NodeId) (first : Bool) → x ≤ r → slice_get nodes x ≡ Some (Star a first) → CanEnd nodes w r s a.index j →
@@ -32,47 +32,45 @@ module _ (nodes : List Node) (w : List ℕ) (r : ℕ) (s : Starts) (arena : IsAr
   one_copy x j a first le is end =
       let from = Enters-part nodes w r s arena x le a.index end.0 (Star a first) is refl end.2 in
       let copies = CopiesLead-append (HasSpan nodes w a.index) end.0 from.0 j (open_at nodes w x (Star a first) arena is from.0 end.0 from.2) end.1 end.3 in
-      (from.0, omega (arith, end.1, Matches-forward (tree_at nodes x) w from.0 end.0 from.2), from.1, close_at nodes w x (Star a first) arena is from.0 j copies)
+      search (rules, Matches-forward (tree_at nodes x) w from.0 end.0 from.2, close_at nodes w x (Star a first) arena is from.0 j copies)
 
   -- and its last copy ends with it
   pub last_copy : (x i j : ℕ) (a : NodeId) (first : Bool) → slice_get nodes x ≡ Some (Star a first) → Enters nodes w r s x i → HasSpan nodes w x i j → (i ≡ j) ⊎ CanEnd nodes w r s a.index j
-  last_copy x i j a first is e at = let last = CopiesLead-last (HasSpan nodes w a.index) j i (open_at nodes w x (Star a first) arena is i j at) in
-      let more = λ (k : ℕ). again x a.index i k a first is refl e in let whole = λ (k : ℕ). close_at nodes w x (Star a first) arena is i k in search rules
+  last_copy x i j a first is e at = grind (arith, CopiesLead-last (HasSpan nodes w a.index) j i, open_at nodes w x (Star a first) arena is i j, again, close_at nodes w x (Star a first) arena is i)
 
   -- upwards: the mark of a node that ends with a byte, by those of its parts
   module _ (took : List Bool → Bool) (null ended : ℕ → Bool) (x j : ℕ) (le : x ≤ r) where
     pub ended_is : (node : Node) → slice_get nodes x ≡ Some node → ((m : List Bool) → node ≡ Set m → IsTrue (took m) ↔ Took nodes w r s j x m) →
         ((c : ℕ) → IsPart node c → IsTrue (null c) ↔ HasSpan nodes w c j j) → ((c : ℕ) → IsPart node c → IsTrue (ended c) ↔ CanEnd nodes w r s c j) → IsTrue (ended_by took null ended node) ↔ CanEnd nodes w r s x j
-    ended_is (Set m) is takes nulls ends = (
-      λ h. let here = (takes m refl).0 h in let taken = takes_some (slice_get w here.0) m here.3 in (here.0, omega arith, here.2, close_at nodes w x (Set m) arena is here.0 j (taken.0, taken.1, taken.2, sym here.1)),
-      λ h. let f = open_at nodes w x (Set m) arena is h.0 j h.3 in (takes m refl).1 (h.0, sym f.3, h.2, rw f.1 f.2),
-    )
+    ended_is (Set m) is takes nulls ends = grind (arith, takes m refl, open_at nodes w x (Set m) arena is, close_at nodes w x (Set m) arena is, takes_some)
     ended_is (Seq a b) is takes nulls ends =
         let truth = either-iff _ _ _ _ (ends b.index (inr refl)) (both-iff _ _ _ _ (ends a.index (inl refl)) (nulls b.index (inr refl))) in (
-          λ h. elim (truth.0 h) [
-            | inl right ↦ let from = after_seq x right.0 a b le is right.2 in search (rules, Matches-forward (tree_at nodes a.index) w from.0 right.0 from.2, close_at nodes w x (Seq a b) arena is from.0 j)
-            | inr left ↦ (left.0.0, left.0.1, with_seq x left.0.0 a b le is left.0.2, close_at nodes w x (Seq a b) arena is left.0.0 j (j, left.0.3, left.1))
-          ],
-          λ h. let at = open_at nodes w x (Seq a b) arena is h.0 j h.3 in let same = cases_eq at.0 j in
-              search (rules, h.1, truth.1, with_whole x a.index h.0 (Seq a b) is refl h.2, after_left x b.index h.0 at.0 a b is refl h.2 at.1, Matches-forward (tree_at nodes b.index) w at.0 j at.2),
+          λ h. search (rules, truth.0 h, after_seq, with_seq, close_at nodes w x (Seq a b) arena is, Matches-forward),
+          λ h. let at = open_at nodes w x (Seq a b) arena is h.0 j h.3 in search (
+            rules,
+            cases_eq at.0 j,
+            h.1,
+            truth.1,
+            with_whole x a.index h.0 (Seq a b) is refl h.2,
+            after_left x b.index h.0 at.0 a b is refl h.2 at.1,
+            Matches-forward (tree_at nodes b.index) w at.0 j at.2,
+          ),
         )
     ended_is (Alt a b) is takes nulls ends =
-        let truth = either-iff _ _ _ _ (ends a.index (inl refl)) (ends b.index (inr refl)) in (
-          λ h. elim (truth.0 h) [
-            | inl l ↦ up_with x j a.index (Alt a b) le is (inl refl) (λ i f. f) (λ i at. close_at nodes w x (Alt a b) arena is i j (inl at)) l
-            | inr m ↦ up_with x j b.index (Alt a b) le is (inr refl) (λ i f. f) (λ i at. close_at nodes w x (Alt a b) arena is i j (inr at)) m
-          ],
-          λ h. let at = open_at nodes w x (Alt a b) arena is h.0 j h.3 in search (rules, truth.1, with_whole x a.index h.0 (Alt a b) is (inl refl) h.2, with_whole x b.index h.0 (Alt a b) is (inr refl) h.2),
+        let truth = either-iff _ _ _ _ (ends a.index (inl refl)) (ends b.index (inr refl)) in
+        let close = λ (i : ℕ). close_at nodes w x (Alt a b) arena is i j in (
+          λ h. search (rules, truth.0 h, up_with x j a.index (Alt a b) le is, up_with x j b.index (Alt a b) le is),
+          λ h. search (rules, open_at nodes w x (Alt a b) arena is h.0 j h.3, truth.1, with_whole x a.index h.0 (Alt a b) is (inl refl) h.2, with_whole x b.index h.0 (Alt a b) is (inr refl) h.2),
         )
-    ended_is (Group k a) is takes nulls ends = (
-      λ h. up_with x j a.index (Group k a) le is refl (λ i f. f) (λ i at. close_at nodes w x (Group k a) arena is i j at) ((ends a.index refl).0 h),
-      λ h. (ends a.index refl).1 (h.0, h.1, with_whole x a.index h.0 (Group k a) is refl h.2, open_at nodes w x (Group k a) arena is h.0 j h.3),
-    )
-    ended_is (Star a first) is takes nulls ends = (λ h. one_copy x j a first le is ((ends a.index refl).0 h), λ h. let end = last_copy x h.0 j a first is h.2 h.3 in let ne = h.1 in search (rules, (ends a.index refl).1))
-    ended_is (Opt a first) is takes nulls ends = (
-      λ h. up_with x j a.index (Opt a first) le is refl (λ i f. f) (λ i at. close_at nodes w x (Opt a first) arena is i j (inr at)) ((ends a.index refl).0 h),
-      λ h. let at = open_at nodes w x (Opt a first) arena is h.0 j h.3 in let ne = h.1 in search (rules, (ends a.index refl).1, with_whole x a.index h.0 (Opt a first) is refl h.2),
-    )
+    ended_is (Group k a) is takes nulls ends =
+        let part = ends a.index refl in
+        let whole = up_with x j a.index (Group k a) le is refl (λ i f. f) (λ i at. close_at nodes w x (Group k a) arena is i j at) in
+        (λ h. search rules, λ h. search (rules, open_at nodes w x (Group k a) arena is h.0 j h.3, with_whole x a.index h.0 (Group k a) is refl h.2))
+    ended_is (Star a first) is takes nulls ends = let part = ends a.index refl in search (rules, one_copy x j a first le is, last_copy)
+    ended_is (Opt a first) is takes nulls ends =
+        let part = ends a.index refl in
+        let whole = up_with x j a.index (Opt a first) le is refl (λ i f. f) (λ i at. close_at nodes w x (Opt a first) arena is i j (inr at)) in
+        (λ h. search rules, λ h. search (rules, h.1, open_at nodes w x (Opt a first) arena is h.0 j h.3, with_whole x a.index h.0 (Opt a first) is refl h.2))
     ended_is other is takes nulls ends = not_true _ (λ h. let at = open_at nodes w x other arena is h.0 j h.3 in omega arith)
 
   -- downwards: the mark of a part that is entered, by that of its node
@@ -86,16 +84,14 @@ module _ (nodes : List Node) (w : List ℕ) (r : ℕ) (s : Starts) (arena : IsAr
     right_part a b is null ended nulls ends =
         let truth = either-iff _ _ _ _ ends (both-iff _ _ _ _ enters nulls) in (
           λ h. elim (truth.0 h) [ inl end ↦ after_left x b.index end.0 p a b is refl (with_seq x end.0 a b le is end.2) end.3 | inr none ↦ after_left x b.index p p a b is refl none.0 none.1 ],
-          λ h. let from = after_seq x p a b le is h in let same = cases_eq from.0 p in
-              search (rules, truth.1, with_whole x a.index from.0 (Seq a b) is refl from.1, Matches-forward (tree_at nodes a.index) w from.0 p from.2),
+          λ h. let from = after_seq x p a b le is h in search (rules, cases_eq from.0 p, truth.1, with_whole x a.index from.0 (Seq a b) is refl from.1, Matches-forward (tree_at nodes a.index) w from.0 p from.2),
         )
 
     pub copy_part : (a : NodeId) (first : Bool) → slice_get nodes x ≡ Some (Star a first) → (ended : Bool) → (IsTrue ended ↔ CanEnd nodes w r s a.index p) → IsTrue (here || ended) ↔ Enters nodes w r s a.index p
-    copy_part a first is ended ends =
-        let truth = either-iff _ _ _ _ enters ends in (
-          λ h. elim (truth.0 h) [ inl begins ↦ with_whole x a.index p (Star a first) is refl begins | inr end ↦ let more = one_copy x p a first le is end in again x a.index more.0 p a first is refl more.2 more.3 ],
-          λ h. let from = Enters-part nodes w r s arena x le a.index p (Star a first) is refl h in let end = last_copy x from.0 p a first is from.1 from.2 in search (rules, truth.1),
-        )
+    copy_part a first is ended ends = (
+      λ h. let begin = λ (e : IsTrue here). with_whole x a.index p (Star a first) is refl (enters.0 e) in let copy = λ (e : IsTrue ended). one_copy x p a first le is (ends.0 e) in search (rules, again),
+      λ h. let from = Enters-part nodes w r s arena x le a.index p (Star a first) is refl h in search (rules, last_copy x from.0 p a first is from.1 from.2, enters, ends),
+    )
 
 -- where no leaf is entered no match goes on
 pub dead : (nodes : List Node) (w : List ℕ) (r p i k : ℕ) (s : Starts) → IsArena nodes → r < length nodes → NoneEntered nodes w r s p → IsStart s i → i ≤ p → p < k → HasSpan nodes w r i k → ⊥
@@ -128,8 +124,8 @@ row_empty nodes w r p s keeps entered ended row none c m is h = true≢false (sy
 -- The least index in a node.
 
 in_part : (nodes : List Node) (x a : ℕ) (node : Node) → slice_get nodes x ≡ Some node → IsPart node a → (c : ℕ) → InTree nodes a c → InTree nodes x c
-in_part nodes x a node is part c (is_tree _ e) = part_of x c node is (rw e part) (is_tree x refl)
-in_part nodes x a node is part c (part_of y _ other is' part' up) = part_of y c other is' part' (in_part nodes x a node is part y up)
+in_part nodes x a node is part c (is_tree _ e) = search (rules, part_of, is_tree)
+in_part nodes x a node is part c (part_of y _ other is' part' up) = search (rules, part_of, in_part nodes x a node is part y up)
 
 -- a node in x is x, or in a part of it
 by_part : (nodes : List Node) (x : ℕ) (node : Node) → slice_get nodes x ≡ Some node → (c : ℕ) → InTree nodes x c → (c ≡ x) ⊎ ((a : ℕ) × IsPart node a × InTree nodes a c)
@@ -139,10 +135,7 @@ by_part nodes x node is c (part_of y _ other is' part up) = search (rules, by_pa
 -- the nodes in x are those from low on, if it is so of each part
 pub range_of : (nodes : List Node) (x low : ℕ) (node : Node) → slice_get nodes x ≡ Some node → low ≤ x → ((c : ℕ) → low ≤ c → c < x → (a : ℕ) × IsPart node a × InTree nodes a c) →
     ((a c : ℕ) → IsPart node a → InTree nodes a c → (low ≤ c) × (c < x)) → IsNodeRange nodes low x
-range_of nodes x low node is small down up c = (
-  λ h. elim (cases_eq c x) [ inl e ↦ is_tree c e | inr ne ↦ let part = down c h.0 (omega (arith, h.1)) in in_part nodes x part.0 node is part.1 c part.2 ],
-  λ h. elim (by_part nodes x node is c h) [ inl e ↦ (omega arith, omega arith) | inr f ↦ let within = up f.0 c f.1 f.2 in (within.0, omega (arith, within.1)) ],
-)
+range_of nodes x low node is small down up c = (λ h. search (rules, cases_eq c x, is_tree, in_part, down c), λ h. grind (arith, by_part nodes x node is c h, up))
 
 -- The same of a mirrored expression.
 
@@ -151,20 +144,19 @@ part_mirror node c = search rules
 
 in_mirror : (e : WrittenExpression) (r c : ℕ) → InTree e.nodes r c → InTree (seen true e).nodes r c
 in_mirror e r c (is_tree _ at) = is_tree c at
-in_mirror e r c (part_of y _ node is part up) = part_of y c (mirror_node node) (seen-node true e y node is) ((part_mirror node c).0 part) (in_mirror e r y up)
+in_mirror e r c (part_of y _ node is part up) = search (rules, part_of, seen-node true e y node is, part_mirror, in_mirror e r y up)
 
 out_of_mirror : (e : WrittenExpression) (r c : ℕ) → InTree (seen true e).nodes r c → InTree e.nodes r c
 out_of_mirror e r c (is_tree _ at) = is_tree c at
 out_of_mirror e r c (part_of y _ node is part up) = search (rules, part_of, old_node e.nodes y node is, part_mirror, out_of_mirror e r y up)
 
 pub mirror_range : (e : WrittenExpression) (low r : ℕ) → IsNodeRange e.nodes low r → IsNodeRange (seen true e).nodes low r
-mirror_range e low r range c = (λ h. in_mirror e r c ((range c).0 h), λ h. (range c).1 (out_of_mirror e r c h))
+mirror_range e low r range c = search (rules, range c, in_mirror e r c, out_of_mirror e r c)
 
 -- what the row of a kept pass backwards shows
 pub behind_reaches : (e : WrittenExpression) (w : List ℕ) (r x p d : ℕ) (u t : Starts) (entered ended : ℕ → Bool) → IsArena e.nodes → Opposite (length w) u t → t.last ≤ length w → p + d ≡ length w →
     RowOfPlace (seen true e).nodes (reverse w) r u true d entered ended → IsTrue (ended x) ↔ ReachesEnd e.nodes w r t x p
-behind_reaches e w r x p d u t entered ended arena opposite inside sum row =
-    let law = reaches_mirror e w r u t arena opposite inside x p d sum in search rules
+behind_reaches e w r x p d u t entered ended arena opposite inside sum row = search (rules, reaches_mirror e w r u t arena opposite inside x p d sum)
 
 pub meet_rows : (e : WrittenExpression) (w : List ℕ) (r a p d : ℕ) (s u t : Starts) (keeps : Bool) (front front_ended entered behind : ℕ → Bool) → IsArena e.nodes → Opposite (length w) u t → t.last ≤ length w → p + d ≡ length w →
     RowOfPlace e.nodes w a s keeps p front front_ended → RowOfPlace (seen true e).nodes (reverse w) r u true d entered behind →

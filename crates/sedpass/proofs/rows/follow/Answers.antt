@@ -1,21 +1,12 @@
-use Rattle.sedpass.proofs.Words.{rules, arith, eq-eqb, eqb, refl, ◌∙◌, ◌<◌, ◌≡◌, ap, inr, length, null_in, row_of, slice_set, sym, AddsMarks, Bool, EndsAfter, IsPart, List, NodeId, StartsAfter, false, true, Seq, Star, ℕ}
-use Rattle.sedpass.proofs.ActLemmas.{adds_none, adds_one, none_begins, other_ends, second_alone, second_begins, seq_ends, seq_stays}
+use Rattle.sedpass.proofs.Words.{Act, AddsMarks, EndsAfter, IsPart, IsTrue, ◌↔◌, List, Bool, NodeId, Seq, Star, StartsAfter, ap, arith, eq-eqb, inr, length, null_in, refl, row_of, slice_set, sym, true, true≢false, ℕ, ◌<◌, ◌∙◌, ◌≡◌}
+use Rattle.sedpass.proofs.ActLemmas.{adds_none, adds_one, none_begins, other_ends, second_begins, seq_ends}
 use Rattle.sedpass.proofs.rows.follow.Goals as goal
-use Rattle.sedpass.proofs.rows.follow.Goals.{After-look, in_default-via-in-Seq+else-index-y, in_default-via-in_default}
+use Rattle.sedpass.proofs.rows.follow.Goals.{After-look, After-null_at, in_default-via-in-Seq+else-index-y, in_default-via-in_default}
 
-star_seq : {a b d : NodeId} {first : Bool} → Star d first ≡ Seq a b → ⊥
-star_seq e = search rules
-
-same_first : {a b d f : NodeId} → Seq a b ≡ Seq d f → a.index ≡ d.index
-same_first e = search rules
+abbrev null : Act → ℕ → Bool
+null act = null_in act.prepared.now.nodes act.kind
 
 module _ (c : After-look) where
-  abbrev null : ℕ → Bool
-  null = null_in c.args.act.prepared.now.nodes c.args.act.kind
-
-  abbrev p : ℕ
-  p = c.parent-parent.result
-
   part : IsPart c.look.result c.args.y
   part = c.parent-parent.ensures.part c.args.act.way.mirrored c.look.result c.look.ensures.node
 
@@ -23,68 +14,60 @@ module _ (c : After-look) where
   room q x first lt = omega (arith, lt, c.requires.wide.2 q (omega (arith, first, c.requires.wide.1)))
 
   -- the node ends with its part
-  ends : (after : List Bool) → after ≡ slice_set (row_of c.args.rows.now 1) p true → EndsAfter null c.look.result c.args.y → AddsMarks (row_of c.args.rows.now 1) after (λ n. (n ≡ p) × EndsAfter null c.look.result c.args.y)
-  ends after is end = adds_one (row_of c.args.rows.now 1) after p _ is (room 1 p (omega arith) c.parent-parent.ensures.inside) (refl, end) (λ n h. h.0)
+  ends : (after : List Bool) → after ≡ slice_set (row_of c.args.rows.now 1) c.parent-parent.result true → EndsAfter (null c.args.act) c.look.result c.args.y →
+      AddsMarks (row_of c.args.rows.now 1) after (λ n. (n ≡ c.parent-parent.result) × EndsAfter (null c.args.act) c.look.result c.args.y)
+  ends after is end = adds_one _ after c.parent-parent.result _ is (room 1 c.parent-parent.result (omega arith) c.parent-parent.ensures.inside) (refl, end) (λ n h. h.0)
 
-  -- its second part begins where the first ends
-  begins : (after : List Bool) (a b : NodeId) → c.look.result ≡ Seq a b → a.index ≡ c.args.y → after ≡ slice_set (row_of c.args.rows.now 0) b.index true → AddsMarks (row_of c.args.rows.now 0) after (StartsAfter null c.look.result c.args.y)
-  begins after a b is at is_after =
-      let arena = c.look.ensures.arena in
-      let ne = rw is at (arena.distinct p c.look.result c.look.ensures.node) in
-      let low : b.index < p = arena.below p b.index c.look.result c.look.ensures.node (rw is (inr refl)) in
-      rw is (adds_one (row_of c.args.rows.now 0) after b.index _ is_after (room 0 b.index (omega arith) (omega (arith, low, c.parent-parent.ensures.inside))) (inr refl, second_begins null a b c.args.y ne at)
-      (λ n told. second_alone null a b c.args.y n told.0 told.1))
+module _ (c : After-null_at) where
+  at : c.in-Seq.a.index ≡ c.args.y
+  at = sym c.index.ensures ∙ c.if-index-y.true
+
+  apart : c.in-Seq.a.index ≡ c.in-Seq.b.index → ⊥
+  apart = rw c.in-Seq.is at (c.look.ensures.arena.distinct c.parent-parent.result c.look.result c.look.ensures.node)
+
+  ends_null : EndsAfter (null c.args.act) c.look.result c.args.y ↔ IsTrue c.null_at.result
+  ends_null = rw (c.in-Seq.is, c.null_at.ensures.null, c.index-b.ensures) (seq_ends (null c.args.act) c.in-Seq.a c.in-Seq.b c.args.y apart at)
+
+  begins : (after : List Bool) → after ≡ row_of c.set.new.self 0 → AddsMarks (row_of c.args.rows.now 0) after (StartsAfter (null c.args.act) c.look.result c.args.y)
+  begins after is =
+      let low = c.look.ensures.arena.below c.parent-parent.result c.in-Seq.b.index c.look.result c.look.ensures.node (rw c.in-Seq.is (inr refl)) in
+      rw c.in-Seq.is (second_begins (null c.args.act) c.in-Seq.a c.in-Seq.b c.args.y apart at _ after (is ∙ c.set.ensures.marks ∙ ap (λ x. slice_set (row_of c.args.rows.now 0) x true) c.index-b.ensures)
+      (omega (arith, low, c.parent-parent.ensures.inside, c.requires.wide.2 0 (omega (arith, c.requires.wide.1)))))
 
 pub returns-then-null_at-clause-followed : goal.returns-then-null_at-clause-followed
 returns-then-null_at-clause-followed c =
     let f = (goal.at.returns-then-null_at-clause-followed c).After-look in
-    let at : c.in-Seq.a.index ≡ c.args.y = sym c.index.ensures ∙ c.if-index-y.true in
-    let kept = c.set.ensures.keeps.same 1 (λ e. omega (arith, e)) in
-    let is_ended = c.set-then-null_at.ensures.marks ∙ ap (λ l. slice_set l c.parent-parent.result true) kept in
-    let is_after = c.set-then-null_at.ensures.keeps.same 0 (λ e. omega (arith, e)) ∙ c.set.ensures.marks ∙ ap (λ x. slice_set (row_of c.args.rows.now 0) x true) c.index-b.ensures in
-    let end = seq_ends (λ members. false) (null f) (λ n. eqb n c.args.y) c.in-Seq.a c.in-Seq.b (eq-eqb c.in-Seq.a.index c.args.y at) (rw (← c.index-b.ensures) (sym c.null_at.ensures.null ∙ c.if-null_at.true)) in
-    (c.parent-parent.result, c.look.result, c.look.ensures.node, part f, ends f _ is_ended (rw c.in-Seq.is end), begins f _ c.in-Seq.a c.in-Seq.b c.in-Seq.is at is_after)
+    let n = (goal.at.returns-then-null_at-clause-followed c).After-null_at in
+    let is_ended = c.set-then-null_at.ensures.marks ∙ ap (λ l. slice_set l c.parent-parent.result true) (c.set.ensures.keeps.same 1 (λ e. omega (arith, e))) in
+    (c.parent-parent.result, c.look.result, c.look.ensures.node, part f, ends f _ is_ended ((ends_null n).1 c.if-null_at.true), begins n _ (c.set-then-null_at.ensures.keeps.same 0 (λ e. omega (arith, e))))
 
 pub returns-else-null_at-clause-followed : goal.returns-else-null_at-clause-followed
 returns-else-null_at-clause-followed c =
-    let f = (goal.at.returns-else-null_at-clause-followed c).After-look in
-    let at : c.in-Seq.a.index ≡ c.args.y = sym c.index.ensures ∙ c.if-index-y.true in
+    let n = (goal.at.returns-else-null_at-clause-followed c).After-null_at in
     let kept : row_of c.set.new.self 1 ≡ row_of c.args.rows.now 1 = c.set.ensures.keeps.same 1 (λ e. omega (arith, e)) in
-    let is_after = c.set.ensures.marks ∙ ap (λ x. slice_set (row_of c.args.rows.now 0) x true) c.index-b.ensures in
-    let ne = rw c.in-Seq.is at (c.look.ensures.arena.distinct c.parent-parent.result c.look.result c.look.ensures.node) in
-    let stays = λ (h : EndsAfter (null f) c.look.result c.args.y). seq_stays (null f) c.in-Seq.a c.in-Seq.b c.args.y ne at (rw (← c.index-b.ensures) (sym c.null_at.ensures.null ∙ c.if-null_at.false)) (rw c.in-Seq.is at h) in
-    (c.parent-parent.result, c.look.result, c.look.ensures.node, part f, rw kept (adds_none _ _ (λ n h. stays h.1)), begins f _ c.in-Seq.a c.in-Seq.b c.in-Seq.is at is_after)
+    let stays = λ (k : ℕ) (h : (k ≡ c.parent-parent.result) × EndsAfter (null c.args.act) c.look.result c.args.y). true≢false (sym ((ends_null n).0 h.1) ∙ c.if-null_at.false) in
+    (c.parent-parent.result, c.look.result, c.look.ensures.node, part (goal.at.returns-else-null_at-clause-followed c).After-look, rw kept (adds_none _ _ stays), begins n _ refl)
 
 pub returns-in-Star-clause-followed : goal.returns-in-Star-clause-followed
 returns-in-Star-clause-followed c =
     let f = (goal.at.returns-in-Star-clause-followed c).After-look in
-    let y = c.args.y in
-    let kept = c.set-in-Star.ensures.keeps.same 1 (λ e. omega (arith, e)) in
-    let is_ended = c.set-in-Star-2.ensures.marks ∙ ap (λ l. slice_set l c.parent-parent.result true) kept in
+    let is_ended = c.set-in-Star-2.ensures.marks ∙ ap (λ l. slice_set l c.parent-parent.result true) (c.set-in-Star.ensures.keeps.same 1 (λ e. omega (arith, e))) in
     let is_after = c.set-in-Star-2.ensures.keeps.same 0 (λ e. omega (arith, e)) ∙ c.set-in-Star.ensures.marks in
-    let end = other_ends (λ members. false) (null f) (λ n. eqb n y) y c.look.result (part f) (eq-eqb y y refl) (λ a b e at. absurd (star_seq (sym c.in-Star.is ∙ e))) in
-    let own = rw c.in-Star.is at (part f) in
-    let begin : StartsAfter (null f) c.look.result y y = (part f, rw c.in-Star.is (eq-eqb c.in-Star.field-0.index y own)) in (
+    let own = rw c.in-Star.is at (part f) in (
       c.parent-parent.result,
       c.look.result,
       c.look.ensures.node,
       part f,
-      ends f _ is_ended end,
-      adds_one (row_of c.args.rows.now 0) _ y _ is_after (room f 0 y (omega arith) (omega (arith, c.requires.there, c.requires.root))) begin (λ n told. sym (rw c.in-Star.is at told.0) ∙ own),
+      ends f _ is_ended (rw c.in-Star.is (eq-eqb c.in-Star.field-0.index c.args.y own)),
+      adds_one _ _ c.args.y _ is_after (room f 0 c.args.y (omega arith) (omega (arith, c.requires.there, c.requires.root))) (rw c.in-Star.is (own, eq-eqb c.in-Star.field-0.index c.args.y own)) (λ n told. sym (rw c.in-Star.is at told.0) ∙ own),
     )
 
 pub returns-in_default-clause-followed : goal.returns-in_default-clause-followed
 returns-in_default-clause-followed c =
     let f = (goal.at.returns-in_default-clause-followed c).After-look in
-    let y = c.args.y in
     let kept : row_of c.set-in_default.new.self 0 ≡ row_of c.args.rows.now 0 = c.set-in_default.ensures.keeps.same 0 (λ e. omega (arith, e)) in
-    let not_first : (a b : NodeId) → c.look.result ≡ Seq a b → a.index ≡ y → ⊥ = λ a b e at.
-    elim c.in_default.branch [ in_default-via-in-Seq+else-index-y w ↦ w.if-index-y.false (w.index.ensures ∙ same_first (sym w.in-Seq.is ∙ e) ∙ at) | in_default-via-in_default w ↦ w.in_default.not-Seq a b e ] in
-    let no_star : (a : NodeId) (first : Bool) → c.look.result ≡ Star a first → ⊥ = λ a first e. elim c.in_default.branch [ in_default-via-in-Seq+else-index-y w ↦ star_seq (sym e ∙ w.in-Seq.is) | in_default-via-in_default w ↦ w.in_default.not-Star a first e ] in (
-      c.parent-parent.result,
-      c.look.result,
-      c.look.ensures.node,
-      part f,
-      ends f _ c.set-in_default.ensures.marks (other_ends (λ members. false) (null f) (λ n. eqb n y) y c.look.result (part f) (eq-eqb y y refl) not_first),
-      rw kept (adds_none _ _ (λ n told. none_begins (null f) y n c.look.result not_first no_star told.1)),
-    )
+    let not_first : (a b : NodeId) → c.look.result ≡ Seq a b → a.index ≡ c.args.y → ⊥ = λ a b e at.
+    elim c.in_default.branch [ in_default-via-in-Seq+else-index-y w ↦ w.if-index-y.false (cc) | in_default-via-in_default w ↦ w.in_default.not-Seq a b e ] in
+    let no_star : (a : NodeId) (first : Bool) → c.look.result ≡ Star a first → ⊥ = λ a first e. elim c.in_default.branch [ in_default-via-in-Seq+else-index-y w ↦ cc | in_default-via-in_default w ↦ w.in_default.not-Star a first e ] in
+    let end = other_ends (null c.args.act) c.args.y _ (part f) not_first in
+    (c.parent-parent.result, c.look.result, c.look.ensures.node, part f, ends f _ c.set-in_default.ensures.marks end, rw kept (adds_none _ _ (λ n. none_begins (null c.args.act) c.args.y n _ not_first no_star)))
