@@ -1,5 +1,5 @@
-use Rattle.sedpass.proofs.Words.{◌<◌, ap, arith, length, mul-le-mul_left, refl, rules, ◌*◌, ◌+◌, ◌-◌, ◌/◌, ◌∙◌, ◌≡◌, ◌≢◌, ◌≤◌, mul-sub, Takes, TakesAtLeast, div-mul-le_self, row_of, EdgesFrom, PassesDownTo, SameKept, bits, ends_row, leaves_row}
-use Rattle.sedpass.proofs.KeptLemmas.{block_right, edges_more, edges_none, edges_same, kept_passed, region_kept, same_kept}
+use Rattle.sedpass.proofs.Words.{ap, arith, length, mul-le-mul_left, refl, rules, ◌*◌, ◌+◌, ◌-◌, ◌/◌, ◌∙◌, ◌≡◌, ◌≢◌, ◌≤◌, mul-sub, Takes, TakesAtLeast, row_of, EdgesFrom, PassesDownTo, SameKept, bits, ends_row, leaves_row}
+use Rattle.sedpass.proofs.KeptLemmas.{block_right, edge_room, edges_more, edges_none, edges_same, kept_passed, region_kept, same_kept}
 use Rattle.sedpass.proofs.RowLemmas.{copied_rows, keeps_then}
 use Rattle.sedpass.proofs.kept.Kept.make.Goals.{After-max-least, then-place-end, else-place-end}
 use Rattle.sedpass.proofs.kept.Kept.make.Goals as goal
@@ -48,13 +48,6 @@ edge_kept c =
       | else-place-end v ↦ rw (v.self-is, v.steps-is) (old.passes, edges_none p w t k block (omega (arith, v.if-place-end.false, old.end_is)), search rules, omega arith)
     ]
 
-pub copy-requires-then-place-end-clause-inside : goal.copy-requires-then-place-end-clause-inside
-copy-requires-then-place-end-clause-inside c =
-    let passes = c.loop-place.invariant.passes in
-    let block = (c.loop-place.place - 1) / (c.loop-place.table.room - 1) in
-    let low = passes.region.room.blocks block (omega (arith, div-mul-le_self (c.loop-place.place - 1) (c.loop-place.table.room - 1), passes.within, passes.region.inside)) in
-    omega (arith, c.nodes-nodes.ensures.value, c.copy.ensures.keeps.lens (2 * block + 1), passes.region.room.marks (2 * block + 1) low)
-
 pub pass-offset-requires-clause-passes : goal.pass-offset-requires-clause-passes
 pass-offset-requires-clause-passes c = (edge_kept (goal.at.pass-offset-requires-clause-passes c).After-max-least).0
 
@@ -100,43 +93,12 @@ returns-clause-cost c =
     let at : c.loop-place.place ≡ c.args.low = omega arith in
     omega (arith, first.cost, last.cost, ap (λ v. m * v) at, mul-sub m c.args.self.now.region.end c.args.low, mul-le-mul_left m c.requires.low)
 
-pub copy-requires-clause-row : goal.copy-requires-clause-row
-copy-requires-clause-row c =
-    let width = c.loop-place.table.room - 1 in
-    let block = (c.loop-place.place - 1) / width in
-    let region = c.loop-place.invariant.passes.region in
-    let inside : block * width ≤ length c.args.subject.text.now = omega (arith, div-mul-le_self (c.loop-place.place - 1) width, c.loop-place.invariant.order, c.loop-place.invariant.end_is, region.within) in
-    omega (arith, region.room.blocks block inside)
-
-pub copy-requires-then-place-end-clause-row : goal.copy-requires-then-place-end-clause-row
-copy-requires-then-place-end-clause-row c =
-    let width = c.loop-place.table.room - 1 in
-    let block = (c.loop-place.place - 1) / width in
-    let region = c.loop-place.invariant.passes.region in
-    let inside : block * width ≤ length c.args.subject.text.now = omega (arith, div-mul-le_self (c.loop-place.place - 1) width, c.loop-place.invariant.order, c.loop-place.invariant.end_is, region.within) in
-    omega (arith, c.copy.ensures.keeps.len, region.room.blocks block inside)
-
-pub copy-requires-then-place-end-clause-there : goal.copy-requires-then-place-end-clause-there
-copy-requires-then-place-end-clause-there c =
+pub copy-requires : goal.copy-requires
+copy-requires c =
     let passes = c.loop-place.invariant.passes in
-    let room = passes.region.table.room in
-    let q = c.ends_row.result in
-    let low = passes.there.0 in
-    let inside : q < length c.loop-place.table.rows = omega (arith, c.ends_row.ensures, c.state_at-state.ensures, low, room.count, room.rows.rows) in
-    omega (arith, room.rows.long q inside, room.marks, c.nodes-nodes.ensures.value)
+    search (rules, edge_room _ _ c.loop-place.table c.loop-place.self c.loop-place.place passes.region passes.within, passes.there, passes.region.table.room, c.nodes-nodes.ensures.value, c.leaves_row.ensures, c.state_at-state.ensures)
 
-pub copy-requires-clause-inside : goal.copy-requires-clause-inside
-copy-requires-clause-inside c =
+pub copy-requires-then-place-end : goal.copy-requires-then-place-end
+copy-requires-then-place-end c =
     let passes = c.loop-place.invariant.passes in
-    let block = (c.loop-place.place - 1) / (c.loop-place.table.room - 1) in
-    let low = passes.region.room.blocks block (omega (arith, div-mul-le_self (c.loop-place.place - 1) (c.loop-place.table.room - 1), passes.within, passes.region.inside)) in
-    omega (arith, c.nodes-nodes.ensures.value, passes.region.room.marks (2 * block) (omega (arith, low)))
-
-pub copy-requires-clause-there : goal.copy-requires-clause-there
-copy-requires-clause-there c =
-    let passes = c.loop-place.invariant.passes in
-    let room = passes.region.table.room in
-    let q = c.leaves_row.result in
-    let low = passes.there.0 in
-    let inside : q < length c.loop-place.table.rows = omega (arith, c.leaves_row.ensures, c.state_at-state.ensures, low, room.count, room.rows.rows) in
-    omega (arith, room.rows.long q inside, room.marks, c.nodes-nodes.ensures.value)
+    search (rules, edge_room _ _ c.loop-place.table c.loop-place.self c.loop-place.place passes.region passes.within, passes.there, passes.region.table.room, c.nodes-nodes.ensures.value, c.ends_row.ensures, c.state_at-state.ensures, c.copy.ensures.keeps)

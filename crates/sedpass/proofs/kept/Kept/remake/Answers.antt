@@ -1,11 +1,11 @@
 use Rattle.sedpass.proofs.Words.{arith, length, refl, rules, ◌*◌, ◌+◌, ◌-◌, ◌/◌, ◌<◌, ◌≡◌, TakesAtLeast, div-mul-le_self, lt-div-mul-add, SameShape}
-use Rattle.sedpass.proofs.KeptLemmas.{added_few, edges_same, kept_passed}
+use Rattle.sedpass.proofs.KeptLemmas.{edges_same, kept_passed}
 use Rattle.sedpass.proofs.OwedLemmas.{again_cost}
 use Rattle.sedpass.proofs.kept.Kept.remake.Goals as goal
 
 -- the states are made again up to the end of the block
 to_end : (c : goal.After-pass) → c.pass.new.self.region.to ≡ c.min-to.result
-to_end c = c.pass.ensures.steady (omega (arith, div-mul-le_self c.args.place (c.args.table.now.room - 1), added_few _ _ _ c.edge_state-offset.ensures.adds c.empty.ensures.none, c.empty.ensures.shape.1, c.edge_state-offset.ensures.adds.shape.1))
+to_end c = c.pass.ensures.steady (grind (arith, div-mul-le_self c.args.place (c.args.table.now.room - 1), c.edge_state-offset.ensures.adds, c.empty.ensures))
 
 pub returns-clause-keeps : goal.returns-clause-keeps
 returns-clause-keeps c =
