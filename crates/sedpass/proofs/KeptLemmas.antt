@@ -1,5 +1,5 @@
 -- What is kept of a pass backwards, and how it comes down by a place.
-use Rattle.sedpass.proofs.Words.{IsExpr, inl, inr, ◌≡◌, ◌≢◌, ℕ, ◌+◌, ◌-◌, ◌*◌, ◌/◌, ◌^◌, ◌<◌, ◌≤◌, ◌↔◌, Bool, true, false, List, length, Some, sym, ◌∙◌, subst, arith, IsTrue, not, reverse, slice_get, slice_index_or, slice_set, rules, with_item, StateFlags, div-mul-le_self, lt-div-mul-add, beq, length-reverse, get_or_default, get_or-set_same, get_or-set_other, Starts, IsStart, one_start, get-reverse, KeepsRows, row_of, Kept, cases_lt, WrittenExpression, Way, Table, PlaceKind, ReachesEnd, MeetsAt, AreWide, leaves_row, ends_row, bits, nodes_of, starts_shown, ends_shown, ComesDown, RowKept, KeptAt, IsLive, IsRegion, PassesDownTo, IsEdge, SameKept, SameSpace, EdgesFrom, IsKept, KeepsRegion, Follows, code_of, Codes, IsNext, PassState, state_of, LeadsOn, BeginsIn, IsTable, SameShape, IsOffset, length-set, mul-le-mul_right}
+use Rattle.sedpass.proofs.Words.{IsExpr, inl, inr, ◌≡◌, ◌≢◌, ℕ, ◌+◌, ◌-◌, ◌*◌, ◌/◌, ◌^◌, ◌<◌, ◌≤◌, ◌↔◌, Bool, true, false, List, length, Some, sym, ◌∙◌, subst, arith, IsTrue, not, reverse, slice_get, slice_index_or, slice_set, rules, with_item, StateFlags, div-mul-le_self, lt-div-mul-add, beq, length-reverse, get_or_default, get_or-set_same, get_or-set_other, Starts, IsStart, one_start, get-reverse, KeepsRows, row_of, Kept, cases_lt, WrittenExpression, Way, Table, PlaceKind, ReachesEnd, MeetsAt, leaves_row, ends_row, bits, nodes_of, starts_shown, ends_shown, ComesDown, RowKept, KeptAt, IsLive, IsRegion, PassesDownTo, IsEdge, SameKept, SameSpace, EdgesFrom, IsKept, KeepsRegion, Follows, code_of, Codes, IsNext, PassState, state_of, LeadsOn, BeginsIn, IsTable, SameShape, IsOffset, length-set, mul-le-mul_right}
 use Rattle.sedpass.proofs.TableLemmas.{leads_place, names_offset, names_state}
 use Rattle.sedpass.proofs.RowLemmas.{behind_reaches, meet_rows, bits_here}
 use Rattle.sedpass.proofs.MeetingLemmas.{set_early}
@@ -146,10 +146,6 @@ kept_mark p w t k x q s row mark kept inside above before read at_row is =
     rw (is, at_row, ← bits_here (length p.nodes) (row_of t.rows (ends_row s)) x inside)
     (behind_reaches p w k.region.root x q (length w - q) (starts_shown t.way.all_starts (length w) k.region.end) (ends_shown t.way.all_starts k.region.end) _ _
     kept.region.table.expr.arena (shown_opposite t.way.all_starts (length w) k.region.end kept.region.inside) kept.region.inside (omega (arith, kept.region.within, kept.region.inside)) row_at.1)
-
--- and its rows are there
-pub kept_rows : (p : WrittenExpression) (w : List ℕ) (t : Table) (k : Kept) (q s : ℕ) → IsKept p w t k → k.region.from ≤ q → q < k.region.to → s ≡ slice_index_or k.states.items q s → AreWide (length p.nodes) s t.rows
-kept_rows p w t k q s kept above before read = grind (arith, kept_read)
 
 -- a mark that is as asked, and one that isn't
 pub as_asked : (A : Type 0) (mark asked : Bool) → beq mark asked ≡ true → (IsTrue mark ↔ A) → IsTrue asked ↔ A

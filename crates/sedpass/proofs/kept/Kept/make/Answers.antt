@@ -1,4 +1,4 @@
-use Rattle.sedpass.proofs.Words.{ap, arith, length, mul-le-mul_left, refl, rules, ◌*◌, ◌+◌, ◌-◌, ◌/◌, ◌∙◌, ◌≡◌, ◌≢◌, ◌≤◌, mul-sub, Takes, TakesAtLeast, row_of, EdgesFrom, PassesDownTo, SameKept, bits, ends_row, leaves_row}
+use Rattle.sedpass.proofs.Words.{ap, arith, length, mul-le-mul_left, refl, rules, ◌*◌, ◌+◌, ◌-◌, ◌/◌, ◌∙◌, ◌≡◌, ◌≢◌, ◌≤◌, ℕ, ◌<◌, mul-sub, Takes, TakesAtLeast, row_of, EdgesFrom, PassesDownTo, SameKept, bits, ends_row, leaves_row}
 use Rattle.sedpass.proofs.KeptLemmas.{block_right, edge_room, edges_more, edges_none, edges_same, kept_passed, region_kept, same_kept}
 use Rattle.sedpass.proofs.RowLemmas.{copied_rows, keeps_then}
 use Rattle.sedpass.proofs.kept.Kept.make.Goals.{After-max-least, then-place-end, else-place-end}
@@ -29,17 +29,9 @@ edge_kept c =
           let copied = copied_rows m c.nodes-nodes.result (2 * block) (2 * block + 1) v.copy.new.self v.copy-then-place-end.new.self _ _ c.nodes-nodes.ensures.value (λ e. omega arith) one.same two.keeps two.same in
           let leaves = v.leaves_row.ensures ∙ ap leaves_row v.state_at-state.ensures in
           let ends = v.ends_row.ensures ∙ ap ends_row v.state_at-state.ensures in
-          let same : SameKept k (record k { edges = v.copy-then-place-end.new.self }) = record { root = refl; end = refl; space = record { places = refl; edges = keeps.len; marks = keeps.lens } } in
+          let same : SameKept k (record k { edges = v.copy-then-place-end.new.self }) = search (rules, keeps) in
           rw (v.self-is, v.steps-is) (
-            record {
-              region = region_kept p w t t k _ (search rules) old.passes.region.table same refl old.passes.region.within old.passes.region;
-              within = old.passes.within;
-              above = old.passes.above;
-              long = old.passes.long;
-              there = old.passes.there;
-              at = old.passes.at;
-              live = old.passes.live;
-            },
+            search (rules, region_kept p w t t k _ (search rules) old.passes.region.table same refl old.passes.region.within old.passes.region, old.passes),
             edges_more p w t.way.all_starts k.region.root k.region.end width block k.edges v.copy-then-place-end.new.self _ _ (omega (arith, some)) keeps
                 (copied.0 ∙ ap (λ r. bits m (row_of t.rows r)) leaves, copied.1 ∙ ap (λ r. bits m (row_of t.rows r)) ends) (rw (← at) old.passes.at.1) (rw (← at) old.edges),
             same,
@@ -58,18 +50,10 @@ loop-place-preserved c =
     let edge = edge_kept (goal.at.loop-place-preserved c).After-max-least in
     let now = c.pass-offset.ensures in
     let less : c.max-least.result + 1 ≤ c.loop-place.place = omega arith in
-    record {
-      order = omega (arith, old.order);
-      end_is = now.down.same.end ∙ edge.2.end ∙ old.end_is;
-      passes = now.down.passes;
-      edges = edges_same c.args.subject.prepared.now c.args.subject.text.now c.loop-place.table c.pass-offset.new.table c.if-place-end.self c.pass-offset.new.self _ c.max-least.result now.down.shape now.down.edges now.down.same.root now.down.same.end (omega arith) edge.1;
-      right = λ some below. ((c.loop-place.place - 1) / (c.loop-place.table.room - 1), rw now.down.shape.1 (omega (arith, some)));
-      shape = search (rules, old.shape, now.down.shape);
-      same = same_kept _ _ _ (same_kept _ _ _ old.same edge.2) now.down.same;
-      to = λ below. now.to;
-      cost = omega (arith, old.cost, edge.3, now.cost, mul-le-mul_left (4 * length c.args.subject.prepared.now.nodes) less);
-      counts = omega (arith, old.counts, edge.3.0, now.counts, old.order.1);
-    }
+    let edges = edges_same c.args.subject.prepared.now c.args.subject.text.now c.loop-place.table c.pass-offset.new.table c.if-place-end.self c.pass-offset.new.self _ c.max-least.result now.down.shape now.down.edges now.down.same.root now.down.same.end (omega arith) edge.1 in
+    let right : c.args.low < c.max-least.result → (b : ℕ) × (c.max-least.result ≡ b * (c.pass-offset.new.table.room - 1)) = λ some. ((c.loop-place.place - 1) / (c.loop-place.table.room - 1), rw now.down.shape.1 (omega (arith, some))) in
+    let same = same_kept _ _ _ (same_kept _ _ _ old.same edge.2) now.down.same in
+    search (rules, old, edge, now, less, right, edges, same, mul-le-mul_left (4 * length c.args.subject.prepared.now.nodes) less)
 
 pub returns-clause-keeps : goal.returns-clause-keeps
 returns-clause-keeps c =

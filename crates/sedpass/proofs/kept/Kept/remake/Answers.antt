@@ -12,11 +12,7 @@ returns-clause-keeps c =
     let down = c.pass.ensures.down in
     let shape : SameShape c.args.table.now c.pass.new.table = search (rules, c.empty.ensures.shape, c.edge_state-offset.ensures.adds.shape, down.shape) in
     let edges = edges_same c.args.subject.prepared.now c.args.subject.text.now c.args.table.now c.pass.new.table c.args.self.now c.pass.new.self c.args.self.now.region.low c.pass.new.self.region.low shape down.edges down.same.root down.same.end (omega (arith, down.low)) c.requires.kept.edges in
-    record {
-      kept = kept_passed _ _ c.pass.new.table c.pass.new.self c.pass.new.self c.args.place c.pass.result down.passes edges (omega (arith, down.low, c.requires.low)) down.from refl refl refl refl refl;
-      shape = shape;
-      same = search (rules, down.same);
-    }
+    search (rules, kept_passed _ _ c.pass.new.table c.pass.new.self c.pass.new.self c.args.place c.pass.result down.passes edges (omega (arith, down.low, c.requires.low)) down.from refl refl refl refl refl, shape, down)
 
 pub returns-clause-cost : goal.returns-clause-cost
 returns-clause-cost c =
