@@ -1,5 +1,5 @@
 -- What is kept of a pass backwards, and how it comes down by a place.
-use Rattle.sedpass.proofs.Words.{IsExpr, inl, inr, ◌≡◌, ◌≢◌, ℕ, ◌+◌, ◌-◌, ◌*◌, ◌/◌, ◌^◌, ◌<◌, ◌≤◌, ◌↔◌, Bool, true, false, List, length, Some, sym, ◌∙◌, subst, arith, IsTrue, not, reverse, slice_get, slice_index_or, slice_set, rules, with_item, StateFlags, div-mul-le_self, lt-div-mul-add, beq, length-reverse, get_or_default, get_or-set_same, get_or-set_other, Starts, IsStart, one_start, get-reverse, KeepsRows, row_of, Kept, cases_lt, WrittenExpression, Way, Table, PlaceKind, ReachesEnd, MeetsAt, leaves_row, ends_row, bits, nodes_of, starts_shown, ends_shown, ComesDown, RowKept, KeptAt, IsLive, IsRegion, PassesDownTo, IsEdge, SameKept, SameSpace, EdgesFrom, IsKept, KeepsRegion, Follows, code_of, Codes, IsNext, PassState, state_of, LeadsOn, BeginsIn, IsTable, SameShape, IsOffset, length-set, mul-le-mul_right}
+use Rattle.sedpass.proofs.Words.{IsExpr, inl, inr, ◌≡◌, ◌≢◌, ℕ, ◌+◌, ◌-◌, ◌*◌, ◌/◌, ◌^◌, ◌<◌, ◌≤◌, ◌↔◌, Bool, true, false, List, length, Some, sym, ◌∙◌, subst, arith, IsTrue, not, reverse, slice_get, slice_index_or, slice_set, rules, with_item, StateFlags, div-mul-le_self, lt-div-mul-add, beq, length-reverse, get_or_default, get_or-set_same, get_or-set_other, Starts, one_start, get-reverse, KeepsRows, row_of, Kept, cases_lt, WrittenExpression, Way, Table, PlaceKind, ReachesEnd, MeetsAt, leaves_row, ends_row, bits, nodes_of, starts_shown, ends_shown, ComesDown, RowKept, KeptAt, IsLive, IsRegion, PassesDownTo, IsEdge, SameKept, SameSpace, EdgesFrom, IsKept, KeepsRegion, Follows, code_of, Codes, IsNext, PassState, state_of, LeadsOn, BeginsIn, IsTable, SameShape, IsOffset, length-set, mul-le-mul_right}
 use Rattle.sedpass.proofs.TableLemmas.{leads_place, names_offset, names_state}
 use Rattle.sedpass.proofs.RowLemmas.{behind_reaches, meet_rows, bits_here}
 use Rattle.sedpass.proofs.MeetingLemmas.{set_early}
@@ -8,10 +8,6 @@ use Rattle.sedpass.proofs.LeaveLemmas.{Opposite}
 -- the starts of the mirrored pass are the places where its matches end
 pub shown_opposite : (all_starts : Bool) (n end : ℕ) → end ≤ n → Opposite n (starts_shown all_starts n end) (ends_shown all_starts end)
 shown_opposite all_starts n end within i d sum = grind arith
-
--- whether a place after the first of the pass is one of its starts
-shown_start : (all_starts : Bool) (n end d : ℕ) → n < d + 1 + end → d < n → IsTrue all_starts ↔ IsStart (starts_shown all_starts n end) (d + 1)
-shown_start all_starts n end d after within = grind arith
 
 -- A state of a table and of what became of it.
 
@@ -22,7 +18,7 @@ kept_down p w way root end q byte edge a b expr inside mirrored before within go
     let d = length w - (q + 1) in
     let next : d + 1 ≡ length w - q = omega arith in
     let read = get-reverse w q d byte (omega arith) got in
-    let row = leads_place p way (reverse w) (starts_shown way.all_starts (length w) end) d byte edge a b expr (rw at.0 inside) read (search (rules, length-reverse w)) (shown_start way.all_starts (length w) end d (omega arith) (omega arith)) (rw (mirrored, at.0) at.1) leads in
+    let row = leads_place p way (reverse w) (starts_shown way.all_starts (length w) end) d byte edge a b expr (rw at.0 inside) read (search (rules, length-reverse w)) (grind arith) (rw (mirrored, at.0) at.1) leads in
     (leads.0 ∙ at.0, rw (mirrored, leads.0, at.0, next) at row)
 
 -- Going back by one byte.
@@ -148,11 +144,8 @@ kept_mark p w t k x q s row mark kept inside above before read at_row is =
     kept.region.table.expr.arena (shown_opposite t.way.all_starts (length w) k.region.end kept.region.inside) kept.region.inside (omega (arith, kept.region.within, kept.region.inside)) row_at.1)
 
 -- a mark that is as asked, and one that isn't
-pub as_asked : (A : Type 0) (mark asked : Bool) → beq mark asked ≡ true → (IsTrue mark ↔ A) → IsTrue asked ↔ A
-as_asked A mark asked same shows = grind arith
-
-pub not_asked : (A : Type 0) (mark asked : Bool) → beq mark asked ≡ false → (IsTrue mark ↔ A) → IsTrue (not asked) ↔ A
-not_asked A mark asked other shows = grind arith
+pub mark_tells : (A : Type 0) (mark asked : Bool) → (IsTrue mark ↔ A) → (beq mark asked ≡ true → IsTrue asked ↔ A) × (beq mark asked ≡ false → IsTrue (not asked) ↔ A)
+mark_tells A mark asked shows = grind arith
 
 -- what holds of each place passed holds of a place more, and of further ones
 pub holds_on : (P : ℕ → Type 0) (from place : ℕ) → ((q : ℕ) → from ≤ q → q < place → P q) → P place → (q : ℕ) → from ≤ q → q < place + 1 → P q
@@ -194,7 +187,7 @@ pub follows_next : (p : WrittenExpression) (w : List ℕ) (t after : Table) (a i
     LeadsOn p t.way (state_of (length p.nodes) t (offset / 2 ^ t.layout.shift)) byte edge (state_of (length p.nodes) after (next / 2 ^ after.layout.shift)) →
     Follows p w t a i place offset → Follows p w after a i (place + 1) next
 follows_next p w t after a i place byte offset next edge expr inside front one shape from got last leads follows =
-    let row = leads_place p t.way w (one_start i) place byte edge (state_of (length p.nodes) t (offset / 2 ^ t.layout.shift)) (state_of (length p.nodes) after (next / 2 ^ after.layout.shift)) expr inside got last (grind arith) (rw front (rw front at follows.1)) leads in
+    let row = leads_place p t.way w (one_start i) place byte edge (state_of (length p.nodes) t (offset / 2 ^ t.layout.shift)) _ expr inside got last (grind arith) (rw front (rw front at follows.1)) leads in
     (leads.0 ∙ follows.0, rw (shape.0, front) (rw front at row))
 
 pub follows_first : (p : WrittenExpression) (w : List ℕ) (t after : Table) (a i offset : ℕ) (kind : PlaceKind) → t.way.mirrored ≡ false → after.way ≡ t.way → (IsTrue kind.begin ↔ (i ≡ 0)) → (IsTrue kind.end ↔ (i ≡ length w)) →

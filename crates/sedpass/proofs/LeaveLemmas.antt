@@ -40,9 +40,6 @@ module _ (nodes : List Node) (w : List ℕ) (r : ℕ) (t : Starts) (arena : IsAr
   CanLeave-all x i (before_right z _ _ k a b is' left l at) = grind (arith, CanLeave-all z k l, arena.below z x (Seq a b), Matches-forward (tree_at nodes b.index) w i k)
   CanLeave-all x i (before_copies z _ _ k a first is' inner l at) = grind (arith, CanLeave-all z k l, arena.below z x (Star a first), Matches-forward (tree_at nodes z) w i k)
 
-  pub CanLeave-to : (x i : ℕ) → CanLeave nodes w r t x i → i ≤ t.last
-  CanLeave-to x i l = (CanLeave-all x i l).2
-
   -- a part that ends wherever its node does is left where the node is
   OutOf-last : (y c i : ℕ) (node : Node) → HasTwoParts node → IsLastPart node c → OutOf nodes w r t y c i node → CanLeave nodes w r t y i
   OutOf-last y c i node two last out = grind arith
@@ -91,9 +88,9 @@ module _ (e : WrittenExpression) (w : List ℕ) (r : ℕ) (s t : Starts) (arena 
   CanLeave-mirror x i (at_end _ _ last stop) d sum = at_root x d last ((opposite i d sum).1 stop)
   CanLeave-mirror x i (with_end y _ _ node is ends l) d sum = search (rules, with_whole, seen-node true e y node is, sides node x, CanLeave-mirror y i l)
   CanLeave-mirror x i (before_right y _ _ k a b is left l at) d sum =
-      search (rules, after_left, seen-node true e y (Seq a b) is, CanLeave-mirror y k l (length w - k), CanLeave-to e.nodes w r t arena y k l, span_in b.index i k d (length w - k))
+      search (rules, after_left, seen-node true e y (Seq a b) is, CanLeave-mirror y k l (length w - k), CanLeave-all e.nodes w r t arena y k l, span_in b.index i k d (length w - k))
   CanLeave-mirror x i (before_copies y _ _ k a first is inner l at) d sum =
-      search (rules, again, seen-node true e y (Star a first) is, CanLeave-mirror y k l (length w - k), CanLeave-to e.nodes w r t arena y k l, span_in y i k d (length w - k))
+      search (rules, again, seen-node true e y (Star a first) is, CanLeave-mirror y k l (length w - k), CanLeave-all e.nodes w r t arena y k l, span_in y i k d (length w - k))
 
   pub CanLeave-unmirror : (x d : ℕ) → Enters (seen true e).nodes (reverse w) r s x d → (i : ℕ) → i + d ≡ length w → CanLeave e.nodes w r t x i
   CanLeave-unmirror x d (at_root _ _ last start) i sum = at_end x i last ((opposite i d sum).0 start)
@@ -106,6 +103,6 @@ module _ (e : WrittenExpression) (w : List ℕ) (r : ℕ) (s t : Starts) (arena 
   -- so a mark is one of a pass of the mirrored expression over the text read from its end
   pub reaches_mirror : (x p d : ℕ) → p + d ≡ length w → ReachesEnd e.nodes w r t x p ↔ EndsPastIn (seen true e).nodes (reverse w) r s x d
   reaches_mirror x p d sum = (
-    λ h. search (rules, CanLeave-mirror x h.0 h.2 (length w - h.0), CanLeave-to e.nodes w r t arena x h.0 h.2, span_in x p h.0 d (length w - h.0), h),
+    λ h. search (rules, CanLeave-mirror x h.0 h.2 (length w - h.0), CanLeave-all e.nodes w r t arena x h.0 h.2, span_in x p h.0 d (length w - h.0), h),
     λ h. search (rules, CanLeave-unmirror x h.0 h.1 (length w - h.0), Matches-forward (tree_at (seen true e).nodes x) (reverse w) h.0 d h.2, span_in x p (length w - h.0) d h.0, h),
   )

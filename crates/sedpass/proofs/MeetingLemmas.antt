@@ -1,7 +1,7 @@
 -- Where a pass forwards over a part and a pass backwards over what holds the part meet, a match of the part goes on and
 -- the end is reached.
 use Rattle.sedpass.proofs.Words.{◌≡◌, ℕ, zero, suc, ◌+◌, ◌-◌, ◌<◌, ◌≤◌, ◌⊎◌, ◌↔◌, Bool, List, length, Some, refl, inl, inr, arith, slice_get, rules, cases_lt, slice_get_within, IsArena, IsPart, tree_at, Node, NodeId, Set, Seq, Alt, Group, Star, Opt, Starts, CopiesLead, no_copy, one_more, LastCut, LastCopy, only, then_copy, IsRepetitionOf, HasSpan, BeginsWith, IsStart, one_start, Enters, at_root, with_whole, after_left, again, Matches-forward, CopiesLead-forward, CopiesLead-append, open_at, close_at, Enters-inside, star_copies, BeginsWith-part, node_at, CanLeave, with_end, before_right, before_copies, ReachesEnd, IsLastIn, all_of, MeetsAt, CeasesAt, IsRunOf, repeated, in_group, CopiesLead-join}
-use Rattle.sedpass.proofs.LeaveLemmas.{OutOf, CanLeave-part, CanLeave-to, last_inside, last-leaves, CanLeave-last}
+use Rattle.sedpass.proofs.LeaveLemmas.{OutOf, CanLeave-part, CanLeave-all, last_inside, last-leaves, CanLeave-last}
 
 -- k is the greatest place to which one copy of R that is not empty leads from i, and from which copies lead on to j
 pub record NextCopy (R : ℕ → ℕ → Type 0) (i j k : ℕ) : Type 0 where
@@ -101,7 +101,7 @@ meets_whole nodes w r p s t arena inside =
 
 -- no set is marked at the last end or after it
 pub set_early : (nodes : List Node) (w : List ℕ) (r c p : ℕ) (t : Starts) (members : List Bool) → IsArena nodes → slice_get nodes c ≡ Some (Set members) → ReachesEnd nodes w r t c p → p < t.last
-set_early nodes w r c p t members arena is h = omega (arith, (open_at nodes w c (Set members) arena is p h.0 h.1).3, CanLeave-to nodes w r t arena c h.0 h.2)
+set_early nodes w r c p t members arena is h = omega (arith, (open_at nodes w c (Set members) arena is p h.0 h.1).3, CanLeave-all nodes w r t arena c h.0 h.2)
 
 -- the first place from i on after which A and B hold of none is the greatest of which they do
 first_stop : (A B M : ℕ → Type 0) (i p k : ℕ) → i ≤ k → A k → B k → i ≤ p → ((q : ℕ) → i ≤ q → q ≤ p → M q ↔ ((l : ℕ) × (q < l) × A l × B l)) →
@@ -139,11 +139,10 @@ module _ (nodes : List Node) (w : List ℕ) (r j x : ℕ) (a b : NodeId) (arena 
     λ at. before_right x a.index k j a b is refl (CanLeave-last nodes w r (one_start j) arena x j last (omega arith, omega arith)) at,
   )
 
-  inside : (a.index < length nodes) × (a.index ≤ r)
-  inside = part_within nodes w r x a.index (Seq a b) arena last is (inl refl)
-
   pub meets-cut : (i p : ℕ) → i ≤ p → MeetsAt nodes w r (one_start j) a.index (one_start i) p ↔ ((k : ℕ) × (p < k) × HasSpan nodes w a.index i k × HasSpan nodes w b.index k j)
-  meets-cut = meets_from nodes w r a.index (one_start j) arena inside.0 inside.1 (λ k. HasSpan nodes w b.index k j) left_leaves
+  meets-cut =
+      let inside = part_within nodes w r x a.index (Seq a b) arena last is (inl refl) in
+      meets_from nodes w r a.index (one_start j) arena inside.0 inside.1 (λ k. HasSpan nodes w b.index k j) left_leaves
 
   -- what is decided of the places up to p where a cut is
   cut_at : (i p : ℕ) (M : ℕ → Type 0) → HasSpan nodes w x i j → i ≤ p → ((q : ℕ) → i ≤ q → q ≤ p → M q ↔ ((l : ℕ) × (q < l) × HasSpan nodes w a.index i l × HasSpan nodes w b.index l j)) →

@@ -48,7 +48,7 @@ loop-place-preserved c =
     let here = (goal.at.loop-place-preserved c).After-meet-reached in
     let at : stop ≡ c.ready-to.new.self.region.to = omega (arith, meet.order.1, c.if-place-to.false, ready.to.0) in
     let up : c.loop-place.place < stop = omega (arith, ready.to, at) in
-    search (rules, old, ready, meet, meet.whole at, at, up, keeps here, reached here, meets here, owed_falls (length c.args.subject.prepared.now.nodes) c.ready-to.new.self.region c.loop-place.place stop (omega (arith, up)), ready.cost, old.cost, old.counts, meet.counts)
+    search (rules, old, ready, meet, meet.whole at, at, up, keeps here, reached here, meets here, owed_falls (length c.args.subject.prepared.now.nodes) c.ready-to.new.self.region c.loop-place.place stop (omega (arith, up)), ready.cost)
 
 pub returns-then-place-to-clause-keeps : goal.returns-then-place-to-clause-keeps
 returns-then-place-to-clause-keeps c = keeps (goal.at.returns-then-place-to-clause-keeps c).After-meet-reached

@@ -50,7 +50,8 @@ loop-place-preserved c =
     let edge = edge_kept (goal.at.loop-place-preserved c).After-max-least in
     let now = c.pass-offset.ensures in
     let less : c.max-least.result + 1 ≤ c.loop-place.place = omega arith in
-    let edges = edges_same c.args.subject.prepared.now c.args.subject.text.now c.loop-place.table c.pass-offset.new.table c.if-place-end.self c.pass-offset.new.self _ c.max-least.result now.down.shape now.down.edges now.down.same.root now.down.same.end (omega arith) edge.1 in
+    let edges = edges_same c.args.subject.prepared.now c.args.subject.text.now c.loop-place.table c.pass-offset.new.table c.if-place-end.self c.pass-offset.new.self _ c.max-least.result now.down.shape now.down.edges now.down.same.root now.down.same.end
+    (omega arith) edge.1 in
     let right : c.args.low < c.max-least.result → (b : ℕ) × (c.max-least.result ≡ b * (c.pass-offset.new.table.room - 1)) = λ some. ((c.loop-place.place - 1) / (c.loop-place.table.room - 1), rw now.down.shape.1 (omega (arith, some))) in
     let same = same_kept _ _ _ (same_kept _ _ _ old.same edge.2) now.down.same in
     search (rules, old, edge, now, less, right, edges, same, mul-le-mul_left (4 * length c.args.subject.prepared.now.nodes) less)
@@ -58,15 +59,10 @@ loop-place-preserved c =
 pub returns-clause-keeps : goal.returns-clause-keeps
 returns-clause-keeps c =
     let last = c.loop-place.invariant in
-    let grown = c.grow.ensures in
     record {
       kept = kept_passed _ _ c.loop-place.table c.loop-place.self _ c.loop-place.place c.loop-place.offset last.passes (λ b above before. last.edges b (omega arith) before) (omega arith) (omega arith) refl refl refl refl refl;
       shape = search (rules, c.edge_state-offset.ensures.adds.shape, last.shape);
-      same = record {
-        root = last.same.root ∙ ap (λ r. r.root) grown.same.0;
-        end = last.same.end ∙ ap (λ r. r.end) grown.same.0;
-        space = record { places = last.same.space.places ∙ grown.capacity; edges = last.same.space.edges ∙ ap length grown.same.1; marks = λ q. last.same.space.marks q ∙ ap (λ rows. length (row_of rows q)) grown.same.1 };
-      };
+      same = search (rules, c.grow.ensures, last.same);
     }
 
 pub returns-clause-cost : goal.returns-clause-cost

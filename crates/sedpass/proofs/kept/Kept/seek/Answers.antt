@@ -22,7 +22,7 @@ loop-place-preserved c =
     let seek = c.seek_in-found.ensures in
     let at : c.seek_in-found.result ≡ c.ready-to.result = omega (arith, seek.order.1, c.if-found-to.false, ready.to.0) in
     let here = (goal.at.loop-place-preserved c).After-seek_in-found in
-    search (rules, old, ready, seek, at, keeps here, passed here, owed_falls (length c.args.subject.prepared.now.nodes) c.ready-to.new.self.region c.loop-place.place c.ready-to.result (omega (arith, ready.to.1)), ready.cost, seek.cost, old.cost, old.counts, seek.counts)
+    search (rules, old, ready, seek, at, keeps here, passed here, owed_falls (length c.args.subject.prepared.now.nodes) c.ready-to.new.self.region c.loop-place.place c.ready-to.result (omega (arith, ready.to.1)), ready.cost, seek.counts)
 
 pub returns-then-found-to-clause-passed : goal.returns-then-found-to-clause-passed
 returns-then-found-to-clause-passed c = passed (goal.at.returns-then-found-to-clause-passed c).After-seek_in-found
