@@ -1,5 +1,5 @@
 -- What is kept of a pass backwards, and how it comes down by a place.
-use Rattle.sedpass.proofs.Words.{IsExpr, true≢false, inl, inr, ◌≡◌, ◌≢◌, ℕ, ◌+◌, ◌-◌, ◌*◌, ◌/◌, ◌^◌, ◌<◌, ◌≤◌, ◌↔◌, Bool, true, false, List, length, Some, sym, ◌∙◌, subst, arith, IsTrue, not, reverse, slice_get, slice_index_or, slice_set, rules, with_item, StateFlags, div-mul-le_self, lt-div-mul-add, beq, length-reverse, get_or_default, get_or-set_same, get_or-set_other, Starts, IsStart, one_start, IsPlace, get-reverse, KeepsRows, row_of, Kept, cases_lt, WrittenExpression, Way, Table, PlaceKind, ReachesEnd, MeetsAt, AreWide, leaves_row, ends_row, bits, nodes_of, starts_shown, ends_shown, ComesDown, RowKept, KeptAt, IsLive, IsRegion, PassesDownTo, IsEdge, SameKept, SameSpace, EdgesFrom, IsKept, KeepsRegion, Follows, code_of, Codes, IsNext, PassState, state_of, LeadsOn, BeginsIn, IsTable, SameShape, AddsStates, IsOffset, length-set, mul-le-mul_right}
+use Rattle.sedpass.proofs.Words.{IsExpr, inl, inr, ◌≡◌, ◌≢◌, ℕ, ◌+◌, ◌-◌, ◌*◌, ◌/◌, ◌^◌, ◌<◌, ◌≤◌, ◌↔◌, Bool, true, false, List, length, Some, sym, ◌∙◌, subst, arith, IsTrue, not, reverse, slice_get, slice_index_or, slice_set, rules, with_item, StateFlags, div-mul-le_self, lt-div-mul-add, beq, length-reverse, get_or_default, get_or-set_same, get_or-set_other, Starts, one_start, get-reverse, KeepsRows, row_of, Kept, cases_lt, WrittenExpression, Way, Table, PlaceKind, ReachesEnd, MeetsAt, leaves_row, ends_row, bits, nodes_of, starts_shown, ends_shown, ComesDown, RowKept, KeptAt, IsLive, IsRegion, PassesDownTo, IsEdge, SameKept, SameSpace, EdgesFrom, IsKept, KeepsRegion, Follows, code_of, Codes, IsNext, PassState, state_of, LeadsOn, BeginsIn, IsTable, SameShape, IsOffset, length-set, mul-le-mul_right}
 use Rattle.sedpass.proofs.TableLemmas.{leads_place, names_offset, names_state}
 use Rattle.sedpass.proofs.RowLemmas.{behind_reaches, meet_rows, bits_here}
 use Rattle.sedpass.proofs.MeetingLemmas.{set_early}
@@ -7,13 +7,7 @@ use Rattle.sedpass.proofs.LeaveLemmas.{Opposite}
 
 -- the starts of the mirrored pass are the places where its matches end
 pub shown_opposite : (all_starts : Bool) (n end : ℕ) → end ≤ n → Opposite n (starts_shown all_starts n end) (ends_shown all_starts end)
-shown_opposite true n end within i d sum = search rules
-shown_opposite false n end within i d sum = search rules
-
--- whether a place after the first of the pass is one of its starts
-shown_start : (all_starts : Bool) (n end d : ℕ) → n < d + 1 + end → d < n → IsTrue all_starts ↔ IsStart (starts_shown all_starts n end) (d + 1)
-shown_start true n end d after within = search rules
-shown_start false n end d after within = search rules
+shown_opposite all_starts n end within i d sum = grind arith
 
 -- A state of a table and of what became of it.
 
@@ -24,7 +18,7 @@ kept_down p w way root end q byte edge a b expr inside mirrored before within go
     let d = length w - (q + 1) in
     let next : d + 1 ≡ length w - q = omega arith in
     let read = get-reverse w q d byte (omega arith) got in
-    let row = leads_place p way (reverse w) (starts_shown way.all_starts (length w) end) d byte edge a b expr (rw at.0 inside) read (search (rules, length-reverse w)) (shown_start way.all_starts (length w) end d (omega arith) (omega arith)) (rw (mirrored, at.0) at.1) leads in
+    let row = leads_place p way (reverse w) (starts_shown way.all_starts (length w) end) d byte edge a b expr (rw at.0 inside) read (search (rules, length-reverse w)) (grind arith) (rw (mirrored, at.0) at.1) leads in
     (leads.0 ∙ at.0, rw (mirrored, leads.0, at.0, next) at row)
 
 -- Going back by one byte.
@@ -103,10 +97,16 @@ comes_down p w first t after start k high place offset next byte code to edge is
 pub block_right : (high w b : ℕ) → 0 < w → 0 < high → high ≡ b * w → high ≡ (high - 1) / w * w + w
 block_right high w b some above is = search (rules, div-mul-le_self, lt-div-mul-add, mul-le-mul_right)
 
--- the edges of a table, as a pass left them
+-- the rows of its right end are there, and long enough
+pub edge_room : (p : WrittenExpression) (w : List ℕ) (t : Table) (k : Kept) (place : ℕ) → IsRegion p w t k → place ≤ k.region.end → let block = (place - 1) / (t.room - 1) in
+    (2 * block + 1 < length k.edges) × (length p.nodes ≤ length (row_of k.edges (2 * block))) × (length p.nodes ≤ length (row_of k.edges (2 * block + 1)))
+edge_room p w t k place region below =
+    let low = region.room.blocks ((place - 1) / (t.room - 1)) (omega (arith, div-mul-le_self (place - 1) (t.room - 1), below, region.inside)) in
+    (low, region.room.marks _ (omega (arith, low)), region.room.marks _ low)-- the edges of a table, as a pass left them
 pub edges_same : (p : WrittenExpression) (w : List ℕ) (t after : Table) (k other : Kept) (place lower : ℕ) → SameShape t after → other.edges ≡ k.edges → other.region.root ≡ k.region.root → other.region.end ≡ k.region.end → place ≤ lower →
     EdgesFrom p w t k place → EdgesFrom p w after other lower
 edges_same p w t after k other place lower shape edges root end up old b above before = search rules
+
 
 -- no block ends between the last one's beginning and the region's end
 pub edges_none : (p : WrittenExpression) (w : List ℕ) (t : Table) (k : Kept) (block : ℕ) → k.region.end ≤ block * (t.room - 1) + (t.room - 1) → EdgesFrom p w t k (block * (t.room - 1))
@@ -125,12 +125,8 @@ pub first_at : (p : WrittenExpression) (w : List ℕ) (t : Table) (k : Kept) (wa
     KeptAt p w way.all_starts k.region.root k.region.end place a
 first_at p w t k way place kind a region same at begins ends first =
     let row = rw region.room.mirrored at first.1 in
-    let spot : IsPlace (reverse w) (length w - k.region.end) kind.end kind.begin = search (rules, region.inside, length-reverse w) in
-    rw (same, at) (first.0, row (reverse w) (starts_shown t.way.all_starts (length w) k.region.end) spot (grind arith))
+    rw (same, at) (first.0, row (reverse w) (starts_shown t.way.all_starts (length w) k.region.end) (search (rules, region.inside, length-reverse w)) (grind arith))
 
--- a table that had no states has one at most
-pub added_few : (m : ℕ) (t after : Table) → AddsStates m t after → t.count ≡ 0 → after.count ≤ 1
-added_few m t after adds none = search rules
 
 -- What the marks say.
 
@@ -147,20 +143,9 @@ kept_mark p w t k x q s row mark kept inside above before read at_row is =
     (behind_reaches p w k.region.root x q (length w - q) (starts_shown t.way.all_starts (length w) k.region.end) (ends_shown t.way.all_starts k.region.end) _ _
     kept.region.table.expr.arena (shown_opposite t.way.all_starts (length w) k.region.end kept.region.inside) kept.region.inside (omega (arith, kept.region.within, kept.region.inside)) row_at.1)
 
--- and its rows are there
-pub kept_rows : (p : WrittenExpression) (w : List ℕ) (t : Table) (k : Kept) (q s : ℕ) → IsKept p w t k → k.region.from ≤ q → q < k.region.to → s ≡ slice_index_or k.states.items q s → AreWide (length p.nodes) s t.rows
-kept_rows p w t k q s kept above before read = grind (arith, kept_read)
-
 -- a mark that is as asked, and one that isn't
-pub as_asked : (A : Type 0) (mark asked : Bool) → beq mark asked ≡ true → (IsTrue mark ↔ A) → IsTrue asked ↔ A
-as_asked A true true same shows = shows
-as_asked A false false same shows = shows
-as_asked A mark asked same shows = search rules
-
-pub not_asked : (A : Type 0) (mark asked : Bool) → beq mark asked ≡ false → (IsTrue mark ↔ A) → IsTrue (not asked) ↔ A
-not_asked A true false other shows = shows
-not_asked A false true other shows = shows
-not_asked A mark asked other shows = search rules
+pub mark_tells : (A : Type 0) (mark asked : Bool) → (IsTrue mark ↔ A) → (beq mark asked ≡ true → IsTrue asked ↔ A) × (beq mark asked ≡ false → IsTrue (not asked) ↔ A)
+mark_tells A mark asked shows = grind arith
 
 -- what holds of each place passed holds of a place more, and of further ones
 pub holds_on : (P : ℕ → Type 0) (from place : ℕ) → ((q : ℕ) → from ≤ q → q < place → P q) → P place → (q : ℕ) → from ≤ q → q < place + 1 → P q
@@ -178,22 +163,17 @@ shown_as P p w t after k other keeps shown = search rules
 
 -- Where they meet.
 
--- two rows show whether they have a mark in common
-bits_meet : (m : ℕ) (front behind : List Bool) (met : Bool) → (IsTrue met ↔ ((c : ℕ) × (c < m) × IsTrue (slice_index_or front c false) × IsTrue (slice_index_or behind c false))) →
-    IsTrue met ↔ ((c : ℕ) × IsTrue (bits m front c) × IsTrue (bits m behind c))
-bits_meet m front behind met shows = search rules
-
--- and so whether the passes meet at the place, as its state is read
+-- two rows show by a mark that they have in common whether the passes meet at the place, as its state is read
 pub meet_read : (p : WrittenExpression) (w : List ℕ) (t forward_one : Table) (k : Kept) (a i place offset n front_row s behind_row : ℕ) (met : Bool) → IsKept p w t k → k.region.from ≤ place → place < k.region.to → Follows p w forward_one a i place offset →
     n ≡ length p.nodes → front_row ≡ leaves_row (offset / 2 ^ forward_one.layout.shift) → s ≡ slice_index_or k.states.items place s → behind_row ≡ ends_row s →
     (IsTrue met ↔ ((c : ℕ) × (c < n) × IsTrue (slice_index_or (row_of forward_one.rows front_row) c false) × IsTrue (slice_index_or (row_of t.rows behind_row) c false))) →
     IsTrue met ↔ MeetsAt p.nodes w k.region.root (ends_shown t.way.all_starts k.region.end) a (one_start i) place
 meet_read p w t forward_one k a i place offset n front_row s behind_row met kept above before follows count front_is read behind_is shows =
     let row_at = rw (← kept_read p w t k place s kept above before read) at (kept.live place above before).1 in
-    let one = bits_meet (length p.nodes) (row_of forward_one.rows (leaves_row (offset / 2 ^ forward_one.layout.shift))) (row_of t.rows (ends_row s)) met (rw (count, front_is, behind_is) at shows) in
+    let read = rw (count, front_is, behind_is) at shows in
     let two = meet_rows p w k.region.root a place (length w - place) (one_start i) (starts_shown t.way.all_starts (length w) k.region.end) (ends_shown t.way.all_starts k.region.end) forward_one.way.mirrored _ _ _ _
     kept.region.table.expr.arena (shown_opposite t.way.all_starts (length w) k.region.end kept.region.inside) kept.region.inside (omega (arith, kept.region.within, kept.region.inside)) (rw follows.0 at follows.1) row_at.1 in
-    search (rules, one, two)
+    (λ m. two.0 (search (rules, read.0 m)), λ h. read.1 (search (rules, two.1 h)))
 
 -- nowhere at the region's end
 pub meet_end : (p : WrittenExpression) (w : List ℕ) (t : Table) (k : Kept) (a i : ℕ) → IsKept p w t k → MeetsAt p.nodes w k.region.root (ends_shown t.way.all_starts k.region.end) a (one_start i) k.region.end → ⊥
@@ -207,7 +187,7 @@ pub follows_next : (p : WrittenExpression) (w : List ℕ) (t after : Table) (a i
     LeadsOn p t.way (state_of (length p.nodes) t (offset / 2 ^ t.layout.shift)) byte edge (state_of (length p.nodes) after (next / 2 ^ after.layout.shift)) →
     Follows p w t a i place offset → Follows p w after a i (place + 1) next
 follows_next p w t after a i place byte offset next edge expr inside front one shape from got last leads follows =
-    let row = leads_place p t.way w (one_start i) place byte edge (state_of (length p.nodes) t (offset / 2 ^ t.layout.shift)) (state_of (length p.nodes) after (next / 2 ^ after.layout.shift)) expr inside got last (rw one ((λ h. absurd (true≢false (sym h))), (λ start. absurd (omega (arith, start, from))))) (rw front (rw front at follows.1)) leads in
+    let row = leads_place p t.way w (one_start i) place byte edge (state_of (length p.nodes) t (offset / 2 ^ t.layout.shift)) _ expr inside got last (grind arith) (rw front (rw front at follows.1)) leads in
     (leads.0 ∙ follows.0, rw (shape.0, front) (rw front at row))
 
 pub follows_first : (p : WrittenExpression) (w : List ℕ) (t after : Table) (a i offset : ℕ) (kind : PlaceKind) → t.way.mirrored ≡ false → after.way ≡ t.way → (IsTrue kind.begin ↔ (i ≡ 0)) → (IsTrue kind.end ↔ (i ≡ length w)) →

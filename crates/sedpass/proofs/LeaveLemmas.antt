@@ -24,14 +24,12 @@ IsLastPart-ends node c h = grind arith
 module _ (nodes : List Node) (w : List ℕ) (r : ℕ) (t : Starts) (arena : IsArena nodes) where
   -- a part that ends where its node does
   OutOf-with_end : (y c i : ℕ) (node : Node) → slice_get nodes y ≡ Some node → EndsWith node c → CanLeave nodes w r t y i → OutOf nodes w r t y c i node
-  OutOf-with_end y c i (Star a first) is ends l = (i, l, close_at nodes w y (Star a first) arena is i i no_copy)
-  OutOf-with_end y c i other is ends l = search rules
+  OutOf-with_end y c i node is ends l = grind (arith, close_at nodes w y node arena is i i, no_copy)
 
   -- a part is left through its node alone
   pub CanLeave-part : (y : ℕ) → y ≤ r → (c i : ℕ) (node : Node) → slice_get nodes y ≡ Some node → IsPart node c → CanLeave nodes w r t c i → OutOf nodes w r t y c i node
   CanLeave-part y le c i node is part (at_end _ _ last stop) = search rules
-  CanLeave-part y le c i node is part (with_end z _ _ other is' ends l) =
-      search (rules, same_node nodes arena z y c other node is' is, EndsWith-part other c ends, OutOf-with_end z c i other is' ends l)
+  CanLeave-part y le c i node is part (with_end z _ _ other is' ends l) = search (rules, same_node nodes arena z y c other node, EndsWith-part, OutOf-with_end)
   CanLeave-part y le c i node is part (before_right z _ _ k a b is' left l at) = search (rules, same_node nodes arena z y c (Seq a b) node is' is (inl left) part)
   CanLeave-part y le c i node is part (before_copies z _ _ k a first is' inner l at) = search (rules, same_node nodes arena z y c (Star a first) node is' is inner part)
 
@@ -39,13 +37,8 @@ module _ (nodes : List Node) (w : List ℕ) (r : ℕ) (t : Starts) (arena : IsAr
   pub CanLeave-all : (x i : ℕ) → CanLeave nodes w r t x i → (x ≤ r) × (x ≡ r → IsStart t i) × (i ≤ t.last)
   CanLeave-all x i (at_end _ _ last stop) = search rules
   CanLeave-all x i (with_end z _ _ other is' ends l) = search (rules, CanLeave-all z i l, arena.below z x other is' (EndsWith-part other x ends))
-  CanLeave-all x i (before_right z _ _ k a b is' left l at) =
-      search (rules, CanLeave-all z k l, arena.below z x (Seq a b) is' (inl left), Matches-forward (tree_at nodes b.index) w i k at)
-  CanLeave-all x i (before_copies z _ _ k a first is' inner l at) =
-      search (rules, CanLeave-all z k l, arena.below z x (Star a first) is' inner, Matches-forward (tree_at nodes z) w i k at)
-
-  pub CanLeave-to : (x i : ℕ) → CanLeave nodes w r t x i → i ≤ t.last
-  CanLeave-to x i l = (CanLeave-all x i l).2
+  CanLeave-all x i (before_right z _ _ k a b is' left l at) = grind (arith, CanLeave-all z k l, arena.below z x (Seq a b), Matches-forward (tree_at nodes b.index) w i k)
+  CanLeave-all x i (before_copies z _ _ k a first is' inner l at) = grind (arith, CanLeave-all z k l, arena.below z x (Star a first), Matches-forward (tree_at nodes z) w i k)
 
   -- a part that ends wherever its node does is left where the node is
   OutOf-last : (y c i : ℕ) (node : Node) → HasTwoParts node → IsLastPart node c → OutOf nodes w r t y c i node → CanLeave nodes w r t y i
@@ -62,9 +55,7 @@ module _ (nodes : List Node) (w : List ℕ) (r : ℕ) (t : Starts) (arena : IsAr
 
   pub last-leaves : (x i : ℕ) → IsLastIn nodes r x → CanLeave nodes w r t x i → IsStart t i
   last-leaves x i (all_of _ same) l = (CanLeave-all x i l).1 same
-  last-leaves x i (last_of y _ node is last up) l =
-      let part = EndsWith-part node x (IsLastPart-ends node x last) in
-      last-leaves y i up (OutOf-last y x i node (arena.distinct y node is) last (CanLeave-part y (last_inside y up) x i node is part l))
+  last-leaves x i (last_of y _ node is last up) l = search (rules, last-leaves y i up, OutOf-last y x i node (arena.distinct y node is) last, CanLeave-part y (last_inside y up) x i node is, EndsWith-part node x, IsLastPart-ends)
 
 -- a node that is last in r is marked exactly where it matches up to one of the ends
 pub reaches_ends : (nodes : List Node) (w : List ℕ) (r x p : ℕ) (t : Starts) → IsArena nodes → IsLastIn nodes r x →
@@ -88,41 +79,30 @@ module _ (e : WrittenExpression) (w : List ℕ) (r : ℕ) (s t : Starts) (arena 
   unmirrored : (y : ℕ) (node : Node) → slice_get (seen true e).nodes y ≡ Some node → slice_get e.nodes y ≡ Some (mirror_node node)
   unmirrored y node is = search (rules, old_node, twice)
 
-  -- how far a place is from the other end
-  far : (k : ℕ) → k ≤ length w → (g : ℕ) × (k + g ≡ length w) × (g + k ≡ length w)
-  far k low = (length w - k, omega arith, omega arith)
 
   span_in : (x i k d g : ℕ) → i + d ≡ length w → k + g ≡ length w → HasSpan e.nodes w x i k ↔ HasSpan (seen true e).nodes (reverse w) x g d
   span_in x i k d g = HasSpan-mirror e (seen true e) w (reverse w) x i k d g refl refl
 
   -- a way out is a way in from the other end
-  pub CanLeave-mirror : (x i d : ℕ) → i + d ≡ length w → CanLeave e.nodes w r t x i → Enters (seen true e).nodes (reverse w) r s x d
-  CanLeave-mirror x i d sum (at_end _ _ last stop) = at_root x d last ((opposite i d sum).1 stop)
-  CanLeave-mirror x i d sum (with_end y _ _ node is ends l) = search (rules, with_whole, seen-node true e y node is, sides node x, CanLeave-mirror y i d sum l)
-  CanLeave-mirror x i d sum (before_right y _ _ k a b is left l at) =
-      let m = far k (let top = CanLeave-to e.nodes w r t arena y k l in omega arith) in
-      after_left y x m.0 d b a (seen-node true e y (Seq a b) is) left (CanLeave-mirror y k m.0 m.1 l) ((span_in b.index i k d m.0 sum m.1).0 at)
-  CanLeave-mirror x i d sum (before_copies y _ _ k a first is inner l at) =
-      let m = far k (let top = CanLeave-to e.nodes w r t arena y k l in omega arith) in
-      again y x m.0 d a first (seen-node true e y (Star a first) is) inner (CanLeave-mirror y k m.0 m.1 l) ((span_in y i k d m.0 sum m.1).0 at)
+  pub CanLeave-mirror : (x i : ℕ) → CanLeave e.nodes w r t x i → (d : ℕ) → i + d ≡ length w → Enters (seen true e).nodes (reverse w) r s x d
+  CanLeave-mirror x i (at_end _ _ last stop) d sum = at_root x d last ((opposite i d sum).1 stop)
+  CanLeave-mirror x i (with_end y _ _ node is ends l) d sum = search (rules, with_whole, seen-node true e y node is, sides node x, CanLeave-mirror y i l)
+  CanLeave-mirror x i (before_right y _ _ k a b is left l at) d sum =
+      search (rules, after_left, seen-node true e y (Seq a b) is, CanLeave-mirror y k l (length w - k), CanLeave-all e.nodes w r t arena y k l, span_in b.index i k d (length w - k))
+  CanLeave-mirror x i (before_copies y _ _ k a first is inner l at) d sum =
+      search (rules, again, seen-node true e y (Star a first) is, CanLeave-mirror y k l (length w - k), CanLeave-all e.nodes w r t arena y k l, span_in y i k d (length w - k))
 
-  pub CanLeave-unmirror : (x d i : ℕ) → i + d ≡ length w → Enters (seen true e).nodes (reverse w) r s x d → CanLeave e.nodes w r t x i
-  CanLeave-unmirror x d i sum (at_root _ _ last start) = at_end x i last ((opposite i d sum).0 start)
-  CanLeave-unmirror x d i sum (with_whole y _ _ node is begins enters) = search (rules, with_end, unmirrored y node is, sides node x, CanLeave-unmirror y d i sum enters)
-  CanLeave-unmirror x d i sum (after_left y _ g _ a b is right enters at) =
-      let m = far g (let on = Matches-forward (tree_at (seen true e).nodes a.index) (reverse w) g d at in omega arith) in
-      before_right y x i m.0 b a (unmirrored y (Seq a b) is) right (CanLeave-unmirror y g m.0 m.2 enters) ((span_in a.index i m.0 d g sum m.2).1 at)
-  CanLeave-unmirror x d i sum (again y _ g _ a first is inner enters at) =
-      let m = far g (let on = Matches-forward (tree_at (seen true e).nodes y) (reverse w) g d at in omega arith) in
-      before_copies y x i m.0 a first (unmirrored y (Star a first) is) inner (CanLeave-unmirror y g m.0 m.2 enters) ((span_in y i m.0 d g sum m.2).1 at)
+  pub CanLeave-unmirror : (x d : ℕ) → Enters (seen true e).nodes (reverse w) r s x d → (i : ℕ) → i + d ≡ length w → CanLeave e.nodes w r t x i
+  CanLeave-unmirror x d (at_root _ _ last start) i sum = at_end x i last ((opposite i d sum).0 start)
+  CanLeave-unmirror x d (with_whole y _ _ node is begins enters) i sum = search (rules, with_end, unmirrored y node is, sides node x, CanLeave-unmirror y d enters)
+  CanLeave-unmirror x d (after_left y _ g _ a b is right enters at) i sum =
+      search (rules, before_right, unmirrored y (Seq a b) is, CanLeave-unmirror y g enters (length w - g), span_in a.index i (length w - g) d g, Matches-forward (tree_at (seen true e).nodes a.index) (reverse w) g d at)
+  CanLeave-unmirror x d (again y _ g _ a first is inner enters at) i sum =
+      search (rules, before_copies, unmirrored y (Star a first) is, CanLeave-unmirror y g enters (length w - g), span_in y i (length w - g) d g, Matches-forward (tree_at (seen true e).nodes y) (reverse w) g d at)
 
   -- so a mark is one of a pass of the mirrored expression over the text read from its end
   pub reaches_mirror : (x p d : ℕ) → p + d ≡ length w → ReachesEnd e.nodes w r t x p ↔ EndsPastIn (seen true e).nodes (reverse w) r s x d
   reaches_mirror x p d sum = (
-    λ h.
-        let m = far h.0 (let top = CanLeave-to e.nodes w r t arena x h.0 h.2 in omega arith) in
-        (m.0, CanLeave-mirror x h.0 m.0 m.1 h.2, (span_in x p h.0 d m.0 sum m.1).0 h.1, grind (arith, h.3)),
-    λ h.
-        let m = far h.0 (let on = Matches-forward (tree_at (seen true e).nodes x) (reverse w) h.0 d h.2 in omega arith) in
-        (m.0, (span_in x p m.0 d h.0 sum m.2).1 h.2, CanLeave-unmirror x h.0 m.0 m.2 h.1, grind (arith, h.3)),
+    λ h. search (rules, CanLeave-mirror x h.0 h.2 (length w - h.0), CanLeave-all e.nodes w r t arena x h.0 h.2, span_in x p h.0 d (length w - h.0), h),
+    λ h. search (rules, CanLeave-unmirror x h.0 h.1 (length w - h.0), Matches-forward (tree_at (seen true e).nodes x) (reverse w) h.0 d h.2, span_in x p (length w - h.0) d h.0, h),
   )

@@ -1,7 +1,7 @@
 -- Where a pass forwards over a part and a pass backwards over what holds the part meet, a match of the part goes on and
 -- the end is reached.
-use Rattle.sedpass.proofs.Words.{◌≡◌, ℕ, zero, suc, ◌+◌, ◌-◌, ◌<◌, ◌≤◌, ◌⊎◌, ◌↔◌, Bool, List, length, Some, refl, sym, ◌∙◌, inl, inr, ⊎_elim, arith, slice_get, rules, cases_lt, slice_get_within, IsArena, IsPart, tree_at, Node, NodeId, Empty, Set, Begin, End, Seq, Alt, Group, Star, Opt, Starts, CopiesLead, no_copy, one_more, LastCut, LastCopy, only, then_copy, IsRepetitionOf, HasSpan, BeginsWith, IsStart, one_start, Enters, at_root, with_whole, after_left, again, Matches-forward, CopiesLead-forward, CopiesLead-append, open_at, close_at, Enters-inside, star_copies, BeginsWith-part, node_at, CanLeave, with_end, before_right, before_copies, ReachesEnd, IsLastIn, all_of, MeetsAt, CeasesAt, IsRunOf, repeated, in_group, CopiesLead-join}
-use Rattle.sedpass.proofs.LeaveLemmas.{OutOf, CanLeave-part, CanLeave-to, last_inside, last-leaves, CanLeave-last}
+use Rattle.sedpass.proofs.Words.{◌≡◌, ℕ, zero, suc, ◌+◌, ◌-◌, ◌<◌, ◌≤◌, ◌⊎◌, ◌↔◌, Bool, List, length, Some, refl, inl, inr, arith, slice_get, rules, cases_lt, slice_get_within, IsArena, IsPart, tree_at, Node, NodeId, Set, Seq, Alt, Group, Star, Opt, Starts, CopiesLead, no_copy, one_more, LastCut, LastCopy, only, then_copy, IsRepetitionOf, HasSpan, BeginsWith, IsStart, one_start, Enters, at_root, with_whole, after_left, again, Matches-forward, CopiesLead-forward, CopiesLead-append, open_at, close_at, Enters-inside, star_copies, BeginsWith-part, node_at, CanLeave, with_end, before_right, before_copies, ReachesEnd, IsLastIn, all_of, MeetsAt, CeasesAt, IsRunOf, repeated, in_group, CopiesLead-join}
+use Rattle.sedpass.proofs.LeaveLemmas.{OutOf, CanLeave-part, CanLeave-all, last_inside, last-leaves, CanLeave-last}
 
 -- k is the greatest place to which one copy of R that is not empty leads from i, and from which copies lead on to j
 pub record NextCopy (R : ℕ → ℕ → Type 0) (i j k : ℕ) : Type 0 where
@@ -28,53 +28,30 @@ first_copy R j i no_copy some = absurd (omega arith)
 first_copy R j i (one_more _ l lt r rest) some = (l, lt, r, rest)
 
 module _ (nodes : List Node) (w : List ℕ) (r : ℕ) (t : Starts) (a : ℕ) (s : Starts) (arena : IsArena nodes) (within : a ≤ r) where
-  -- the node with this part spans p to k, and is left there
-  abbrev Wider : ℕ → ℕ → ℕ → Type 0
-  Wider y p q = (k : ℕ) × (q ≤ k) × HasSpan nodes w y p k × CanLeave nodes w r t y k
-
-  -- from a part that begins where its node does
-  wider : (y x : ℕ) (node : Node) → slice_get nodes y ≡ Some node → BeginsWith node x → (p q : ℕ) → HasSpan nodes w x p q → OutOf nodes w r t y x q node → Wider y p q
-  wider y x (Seq b c) is begins p q at (inl out) = absurd (arena.distinct y (Seq b c) is (begins ∙ sym out.0))
-  wider y x (Seq b c) is begins p q at (inr out) =
-      let on = Matches-forward (tree_at nodes c.index) w q out.1.0 out.1.2 in
-      (out.1.0, on, close_at nodes w y (Seq b c) arena is p out.1.0 (q, rw begins at, out.1.2), out.1.1)
-  wider y x (Alt b c) is begins p q at out = (q, omega arith, close_at nodes w y (Alt b c) arena is p q (search (rules, begins)), out)
-  wider y x (Group g b) is begins p q at out = (q, omega arith, close_at nodes w y (Group g b) arena is p q (rw begins at), out)
+  -- the node with a part that begins where it does spans p to k, and is left there
+  wider : (y x : ℕ) (node : Node) → slice_get nodes y ≡ Some node → BeginsWith node x → (p q : ℕ) → HasSpan nodes w x p q → OutOf nodes w r t y x q node → (k : ℕ) × (q ≤ k) × HasSpan nodes w y p k × CanLeave nodes w r t y k
   wider y x (Star b first) is begins p q at out =
-      let on = Matches-forward (tree_at nodes y) w q out.0 out.2 in
-      let copies = CopiesLead-before (HasSpan nodes w b.index) out.0 q p (Matches-forward (tree_at nodes x) w p q at) (rw begins at) (open_at nodes w y (Star b first) arena is q out.0 out.2) in
-      (out.0, on, close_at nodes w y (Star b first) arena is p out.0 copies, out.1)
-  wider y x (Opt b first) is begins p q at out = (q, omega arith, close_at nodes w y (Opt b first) arena is p q (inr (rw begins at)), out)
-  wider y x other is begins p q at out = absurd begins
+      search (rules, out, CopiesLead-before (HasSpan nodes w b.index) out.0 q p, Matches-forward (tree_at nodes x) w p q, Matches-forward (tree_at nodes y) w q, open_at nodes w y (Star b first) arena is q, close_at nodes w y (Star b first) arena is p)
+  wider y x node is begins p q at out = grind (arith, arena.distinct y node is, close_at nodes w y node arena is p, Matches-forward)
 
   -- a match of a from a start up to p ends at q or later, where a is left
   abbrev Onwards : ℕ → ℕ → Type 0
   Onwards p q = (i : ℕ) × (k : ℕ) × IsStart s i × (i ≤ p) × (q ≤ k) × HasSpan nodes w a i k × CanLeave nodes w r t a k
-
-  onto : (p p' q q' : ℕ) → p' ≤ p → q ≤ q' → Onwards p' q' → Onwards p q
-  onto p p' q q' low high all = search rules
-
   -- sound: a node in a that is entered at p, spans p to q and is left at q is in a match of a, at whose end a is left
   pub meets_on : (x p : ℕ) → Enters nodes w a s x p → (q : ℕ) → HasSpan nodes w x p q → CanLeave nodes w r t x q → Onwards p q
   meets_on x p (at_root _ _ last begin) q at leaves = search (rules, at, leaves, begin)
   meets_on x p (with_whole y _ _ node is begins enters) q at leaves =
-      let up = Enters-inside nodes w a s arena y p enters in
-      let wide = wider y x node is begins p q at (CanLeave-part nodes w r t arena y (omega arith) x q node is (BeginsWith-part node x begins) leaves) in
-      onto p p q wide.0 (omega arith) wide.1 (meets_on y p enters wide.0 wide.2 wide.3)
+      let wide = wider y x node is begins p q at (CanLeave-part nodes w r t arena y (omega (arith, Enters-inside nodes w a s arena y p enters)) x q node is (BeginsWith-part node x begins) leaves) in
+      search (rules, wide, meets_on y p enters wide.0 wide.2 wide.3)
   meets_on x p (after_left y _ i _ b c is right enters left) q at leaves =
       let up = Enters-inside nodes w a s arena y i enters in
-      let before = Matches-forward (tree_at nodes b.index) w i p left in
-      ⊎_elim
-      (λ (last : (c.index ≡ x) × CanLeave nodes w r t y q).
-      onto p i q q before (omega arith) (meets_on y i enters q (close_at nodes w y (Seq b c) arena is i q (p, left, rw right at)) last.1))
-      (λ (first : (b.index ≡ x) × ((k : ℕ) × CanLeave nodes w r t y k × HasSpan nodes w c.index q k)). absurd (arena.distinct y (Seq b c) is (first.0 ∙ sym right)))
-      (CanLeave-part nodes w r t arena y (omega arith) x q (Seq b c) is (inr right) leaves)
+      let out : CanLeave nodes w r t y q = search (rules, arena.distinct y (Seq b c) is, CanLeave-part nodes w r t arena y (omega arith) x q (Seq b c) is (inr right) leaves) in
+      search (rules, meets_on y i enters q (close_at nodes w y (Seq b c) arena is i q (p, left, rw right at)), Matches-forward (tree_at nodes b.index) w i p left)
   meets_on x p (again y _ i _ b first is inner enters copied) q at leaves =
       let up = Enters-inside nodes w a s arena y i enters in
       let out = CanLeave-part nodes w r t arena y (omega arith) x q (Star b first) is inner leaves in
       let tail = CopiesLead-before (HasSpan nodes w b.index) out.0 q p (Matches-forward (tree_at nodes x) w p q at) (rw inner at) (open_at nodes w y (Star b first) arena is q out.0 out.2) in
-      let whole = close_at nodes w y (Star b first) arena is i out.0 (CopiesLead-join (HasSpan nodes w b.index) out.0 p i (open_at nodes w y (Star b first) arena is i p copied) tail) in
-      onto p i q out.0 (Matches-forward (tree_at nodes y) w i p copied) (Matches-forward (tree_at nodes y) w q out.0 out.2) (meets_on y i enters out.0 whole out.1)
+      search (rules, meets_on y i enters out.0, close_at nodes w y (Star b first) arena is i out.0, CopiesLead-join (HasSpan nodes w b.index) out.0 p i, open_at nodes w y (Star b first) arena is i p copied, Matches-forward (tree_at nodes y), out)
 
   -- complete: a span that passes p, at whose end its node is left, has a set at p that is marked
   module _ (p : ℕ) where
@@ -86,92 +63,69 @@ module _ (nodes : List Node) (w : List ℕ) (r : ℕ) (t : Starts) (a : ℕ) (s 
     passes (suc n) x less inside = let there = node_at nodes x inside in by (λ c below. passes n c (omega arith) (omega arith)) there.0 there.1
       where
         by : ((c : ℕ) → c < x → Passed c) → (node : Node) → slice_get nodes x ≡ Some node → Passed x
-        by on Empty is i k enters leaves at low high = absurd (omega (arith, open_at nodes w x Empty arena is i k at))
         by on (Set members) is i k enters leaves at low high =
             let same : i ≡ p = omega (arith, (open_at nodes w x (Set members) arena is i k at).3) in
             (x, members, is, rw (← same) enters, (k, rw (← same) at, leaves, inl high))
-        by on Begin is i k enters leaves at low high = absurd (omega (arith, open_at nodes w x Begin arena is i k at))
-        by on End is i k enters leaves at low high = absurd (omega (arith, open_at nodes w x End arena is i k at))
         by on (Seq b c) is i k enters leaves at low high =
             let f = open_at nodes w x (Seq b c) arena is i k at in
-            elim (cases_lt p f.0) [
-              | inl here ↦ on b.index (arena.below x b.index (Seq b c) is (inl refl)) i f.0 (with_whole x b.index i (Seq b c) is refl enters) (before_right x b.index f.0 k b c is refl leaves f.2) f.1 low here
-              | inr later ↦ on c.index (arena.below x c.index (Seq b c) is (inr refl)) f.0 k (after_left x c.index i f.0 b c is refl enters f.1) (with_end x c.index k (Seq b c) is refl leaves) f.2 later high
-            ]
-        by on (Alt b c) is i k enters leaves at low high = elim (open_at nodes w x (Alt b c) arena is i k at) [
-          | inl l ↦ on b.index (arena.below x b.index (Alt b c) is (inl refl)) i k (with_whole x b.index i (Alt b c) is (inl refl) enters) (with_end x b.index k (Alt b c) is (inl refl) leaves) l low high
-          | inr m ↦ on c.index (arena.below x c.index (Alt b c) is (inr refl)) i k (with_whole x c.index i (Alt b c) is (inr refl) enters) (with_end x c.index k (Alt b c) is (inr refl) leaves) m low high
-        ]
+            search (rules, cases_lt p f.0, on b.index (arena.below x b.index (Seq b c) is (inl refl)) i f.0 (with_whole x b.index i (Seq b c) is refl enters) (before_right x b.index f.0 k b c is refl leaves f.2) f.1,
+            on c.index (arena.below x c.index (Seq b c) is (inr refl)) f.0 k (after_left x c.index i f.0 b c is refl enters f.1) (with_end x c.index k (Seq b c) is refl leaves) f.2)
+        by on (Alt b c) is i k enters leaves at low high =
+            search (rules, open_at nodes w x (Alt b c) arena is i k at, on b.index (arena.below x b.index (Alt b c) is (inl refl)) i k (with_whole x b.index i (Alt b c) is (inl refl) enters) (with_end x b.index k (Alt b c) is (inl refl) leaves),
+            on c.index (arena.below x c.index (Alt b c) is (inr refl)) i k (with_whole x c.index i (Alt b c) is (inr refl) enters) (with_end x c.index k (Alt b c) is (inr refl) leaves))
         by on (Group g b) is i k enters leaves at low high =
-            on b.index (arena.below x b.index (Group g b) is refl) i k (with_whole x b.index i (Group g b) is refl enters) (with_end x b.index k (Group g b) is refl leaves) (open_at nodes w x (Group g b) arena is i k at) low high
+            search (rules, on b.index, arena.below x b.index (Group g b) is, with_whole, with_end, open_at nodes w x (Group g b) arena is i k at)
         by on (Star b first) is i k enters leaves at low high =
             CopiesLead-cross (HasSpan nodes w b.index) (λ u. Enters nodes w a s b.index u × CopiesLead (HasSpan nodes w b.index) u i) (MeetsAt nodes w r t a s p) p k
-            (λ u v from copy rest up later. on b.index (arena.below x b.index (Star b first) is refl) u v from.0
-            (before_copies x b.index v k b first is refl leaves (close_at nodes w x (Star b first) arena is v k rest)) copy up later)
-            (λ u v lt from copy.
-            let copies = CopiesLead-append (HasSpan nodes w b.index) u i v from.1 lt copy in
-            (again x b.index i v b first is refl enters (close_at nodes w x (Star b first) arena is i v copies), copies))
+            (λ u v from copy rest. on b.index (arena.below x b.index (Star b first) is refl) u v from.0 (before_copies x b.index v k b first is refl leaves (close_at nodes w x (Star b first) arena is v k rest)) copy)
+            (λ u v lt from copy. search (rules, again, enters, close_at nodes w x (Star b first) arena is i v, CopiesLead-append (HasSpan nodes w b.index) u i v from.1 lt copy))
             i (open_at nodes w x (Star b first) arena is i k at) (with_whole x b.index i (Star b first) is refl enters, no_copy) low high
-        by on (Opt b first) is i k enters leaves at low high = elim (open_at nodes w x (Opt b first) arena is i k at) [
-          | inl same ↦ absurd (omega arith)
-          | inr m ↦ on b.index (arena.below x b.index (Opt b first) is refl) i k (with_whole x b.index i (Opt b first) is refl enters) (with_end x b.index k (Opt b first) is refl leaves) m low high
-        ]
+        by on (Opt b first) is i k enters leaves at low high =
+            search (rules, open_at nodes w x (Opt b first) arena is i k at, on b.index (arena.below x b.index (Opt b first) is refl) i k (with_whole x b.index i (Opt b first) is refl enters) (with_end x b.index k (Opt b first) is refl leaves))
+        by on node is i k enters leaves at low high = absurd (omega (arith, open_at nodes w x node arena is i k at))
 
 -- the two passes meet exactly where a match of a goes on from which the end is reached
 pub meets-goes_on : (nodes : List Node) (w : List ℕ) (r a p : ℕ) (s t : Starts) → IsArena nodes → a < length nodes → a ≤ r → MeetsAt nodes w r t a s p
     ↔ ((i : ℕ) × (k : ℕ) × IsStart s i × (i ≤ p) × (p < k) × HasSpan nodes w a i k × CanLeave nodes w r t a k)
 meets-goes_on nodes w r a p s t arena inside within = (
-  λ h.
-      let all = meets_on nodes w r t a s arena within h.0 p h.3 h.4.0 h.4.1 h.4.2 in
-      (all.0, all.1, all.2, all.3, omega (arith, all.4, (open_at nodes w h.0 (Set h.1) arena h.2 p h.4.0 h.4.1).3), all.5, all.6),
-  λ h. passes nodes w r t a s arena within p (suc a) a (omega arith) inside h.0 h.1 (at_root a h.0 refl h.2) h.6 h.5 h.3 h.4,
+  λ h. search (rules, meets_on nodes w r t a s arena within h.0 p h.3 h.4.0 h.4.1 h.4.2, open_at nodes w h.0 (Set h.1) arena h.2 p h.4.0 h.4.1),
+  λ h. search (rules, passes nodes w r t a s arena within p (suc a) a, at_root, h),
 )
-
--- at the start of a pass over a part of r: exactly where the part is marked
-pub marked_meets : (nodes : List Node) (w : List ℕ) (r a p : ℕ) (t : Starts) → IsArena nodes → a < length nodes → a < r → MeetsAt nodes w r t a (one_start p) p ↔ ReachesEnd nodes w r t a p
-marked_meets nodes w r a p t arena inside within =
-    let both = meets-goes_on nodes w r a p (one_start p) t arena inside (omega arith) in (
-      λ h. let g = both.0 h in let same : g.0 ≡ p = omega (arith, g.2) in (g.1, rw same at g.5, g.6, inl g.4),
-      λ h. both.1 (p, h.0, (omega arith, omega arith), omega arith, grind (arith, h.3), h.1, h.2),
-    )
 
 -- of the whole node r: exactly where a match of it goes on
 pub meets_whole : (nodes : List Node) (w : List ℕ) (r p : ℕ) (s t : Starts) → IsArena nodes → r < length nodes →
     MeetsAt nodes w r t r s p ↔ ((i : ℕ) × (k : ℕ) × IsStart s i × (i ≤ p) × (p < k) × HasSpan nodes w r i k × IsStart t k)
 meets_whole nodes w r p s t arena inside =
     let both = meets-goes_on nodes w r r p s t arena inside (omega arith) in
-    let root = all_of r refl in
-    (λ h. search (rules, both.0 h, last-leaves nodes w r t arena r (both.0 h).1 root), λ h. search (rules, both.1, h, CanLeave-last nodes w r t arena r h.1 root))
+    (λ h. search (rules, both.0 h, last-leaves nodes w r t arena r (both.0 h).1, all_of), λ h. search (rules, both.1, h, CanLeave-last nodes w r t arena r h.1, all_of))
 
 -- no set is marked at the last end or after it
 pub set_early : (nodes : List Node) (w : List ℕ) (r c p : ℕ) (t : Starts) (members : List Bool) → IsArena nodes → slice_get nodes c ≡ Some (Set members) → ReachesEnd nodes w r t c p → p < t.last
-set_early nodes w r c p t members arena is h = omega (arith, (open_at nodes w c (Set members) arena is p h.0 h.1).3, CanLeave-to nodes w r t arena c h.0 h.2)
+set_early nodes w r c p t members arena is h = omega (arith, (open_at nodes w c (Set members) arena is p h.0 h.1).3, CanLeave-all nodes w r t arena c h.0 h.2)
 
 -- the first place from i on after which A and B hold of none is the greatest of which they do
 first_stop : (A B M : ℕ → Type 0) (i p k : ℕ) → i ≤ k → A k → B k → i ≤ p → ((q : ℕ) → i ≤ q → q ≤ p → M q ↔ ((l : ℕ) × (q < l) × A l × B l)) →
     ((q : ℕ) → i ≤ q → q < p → M q) → (M p → ⊥) → A p × B p × ((l : ℕ) → A l → B l → l ≤ p)
-first_stop A B M i p k low left right on shows more over =
-    let most : (l : ℕ) → A l → B l → l ≤ p = λ l first second. elim (cases_lt p l) [ inl lt ↦ absurd (over ((shows p on (omega arith)).1 (l, lt, first, second))) | inr ge ↦ ge ] in
-    elim (cases_lt i p) [
-      | inl later ↦
-          let g = (shows (p - 1) (omega arith) (omega arith)).0 (more (p - 1) (omega arith) (omega arith)) in
-          let same : g.0 ≡ p = omega (arith, most g.0 g.2 g.3, g.1) in
-          (rw same at g.2, rw same at g.3, most)
-      | inr ge ↦ let same : k ≡ p = omega (arith, most k left right) in (rw same at left, rw same at right, most)
-    ]
+first_stop A B M i p k low left right on shows more over = grind (arith, shows p, shows (p - 1), more (p - 1))
 
 -- a pass over the node c, which is left exactly where Q, that goes on while the passes meet
 module _ (nodes : List Node) (w : List ℕ) (r c : ℕ) (t : Starts) (arena : IsArena nodes) (inside : c < length nodes) (within : c ≤ r) (Q : ℕ → Type 0) (leaves : (k : ℕ) → CanLeave nodes w r t c k ↔ Q k) where
   pub meets_from : (i p : ℕ) → i ≤ p → MeetsAt nodes w r t c (one_start i) p ↔ ((k : ℕ) × (p < k) × HasSpan nodes w c i k × Q k)
   meets_from i p low =
       let both = meets-goes_on nodes w r c p (one_start i) t arena inside within in (
-        λ h. let g = both.0 h in let same : g.0 ≡ i = omega (arith, g.2) in (g.1, g.4, rw same at g.5, (leaves g.1).0 g.6),
-        λ h. both.1 (i, h.0, (omega arith, omega arith), low, h.1, h.2, (leaves h.0).1 h.3),
+        λ h. let g = both.0 h in let same : g.0 ≡ i = omega (arith, g.2) in search (rules, rw same at g.5, g, leaves),
+        λ h. search (rules, both.1, h, leaves),
       )
 
   -- it stops at the greatest end of a match from there
   pub stops_at : (i p k : ℕ) → i ≤ k → HasSpan nodes w c i k → Q k → CeasesAt nodes w r t c i p → HasSpan nodes w c i p × Q p × ((l : ℕ) → HasSpan nodes w c i l → Q l → l ≤ p)
   stops_at i p k low at left stops = first_stop (HasSpan nodes w c i) Q (MeetsAt nodes w r t c (one_start i)) i p k low at left stops.0 (λ q on up. meets_from i q on) stops.1 stops.2
+
+-- at the start of a pass over a part of r: exactly where the part is marked
+pub marked_meets : (nodes : List Node) (w : List ℕ) (r a p : ℕ) (t : Starts) → IsArena nodes → a < length nodes → a < r → MeetsAt nodes w r t a (one_start p) p ↔ ReachesEnd nodes w r t a p
+marked_meets nodes w r a p t arena inside within =
+    let both = meets_from nodes w r a t arena inside (omega arith) (CanLeave nodes w r t a) (λ k. (λ l. l, λ l. l)) p p (omega arith) in
+    (λ h. search (rules, both.0 h), λ h. search (rules, both.1, h))
 
 -- a part of a node that nothing follows is in the arena, and no later than r
 pub part_within : (nodes : List Node) (w : List ℕ) (r x c : ℕ) (node : Node) → IsArena nodes → IsLastIn nodes r x → slice_get nodes x ≡ Some node → IsPart node c → (c < length nodes) × (c ≤ r)
@@ -181,27 +135,21 @@ module _ (nodes : List Node) (w : List ℕ) (r j x : ℕ) (a b : NodeId) (arena 
   -- the left part is left exactly where the right one leads on to the end
   pub left_leaves : (k : ℕ) → CanLeave nodes w r (one_start j) a.index k ↔ HasSpan nodes w b.index k j
   left_leaves k = (
-    λ l. ⊎_elim
-        (λ (out : (b.index ≡ a.index) × CanLeave nodes w r (one_start j) x k). absurd (arena.distinct x (Seq a b) is (sym out.0)))
-        (λ (out : (a.index ≡ a.index) × ((q : ℕ) × CanLeave nodes w r (one_start j) x q × HasSpan nodes w b.index k q)).
-        let same : out.1.0 ≡ j = omega (arith, last-leaves nodes w r (one_start j) arena x out.1.0 last out.1.1) in rw same at out.1.2)
-        (CanLeave-part nodes w r (one_start j) arena x (last_inside nodes w r (one_start j) arena x last) a.index k (Seq a b) is (inl refl) l),
+    λ l. grind (arith, arena.distinct x (Seq a b) is, last-leaves nodes w r (one_start j) arena x, CanLeave-part nodes w r (one_start j) arena x (last_inside nodes w r (one_start j) arena x last) a.index k (Seq a b) is (inl refl) l),
     λ at. before_right x a.index k j a b is refl (CanLeave-last nodes w r (one_start j) arena x j last (omega arith, omega arith)) at,
   )
 
-  inside : (a.index < length nodes) × (a.index ≤ r)
-  inside = part_within nodes w r x a.index (Seq a b) arena last is (inl refl)
-
   pub meets-cut : (i p : ℕ) → i ≤ p → MeetsAt nodes w r (one_start j) a.index (one_start i) p ↔ ((k : ℕ) × (p < k) × HasSpan nodes w a.index i k × HasSpan nodes w b.index k j)
-  meets-cut = meets_from nodes w r a.index (one_start j) arena inside.0 inside.1 (λ k. HasSpan nodes w b.index k j) left_leaves
+  meets-cut =
+      let inside = part_within nodes w r x a.index (Seq a b) arena last is (inl refl) in
+      meets_from nodes w r a.index (one_start j) arena inside.0 inside.1 (λ k. HasSpan nodes w b.index k j) left_leaves
 
   -- what is decided of the places up to p where a cut is
   cut_at : (i p : ℕ) (M : ℕ → Type 0) → HasSpan nodes w x i j → i ≤ p → ((q : ℕ) → i ≤ q → q ≤ p → M q ↔ ((l : ℕ) × (q < l) × HasSpan nodes w a.index i l × HasSpan nodes w b.index l j)) →
       ((q : ℕ) → i ≤ q → q < p → M q) → (M p → ⊥) → LastCut (HasSpan nodes w a.index) (HasSpan nodes w b.index) i j p
   cut_at i p M at low shows more over =
       let f = open_at nodes w x (Seq a b) arena is i j at in
-      let stop = first_stop (HasSpan nodes w a.index i) (λ k. HasSpan nodes w b.index k j) M i p f.0 (Matches-forward (tree_at nodes a.index) w i f.0 f.1) f.1 f.2 low shows more over in
-      record { left = stop.0; right = stop.1; greatest = stop.2 }
+      search (rules, first_stop (HasSpan nodes w a.index i) (λ k. HasSpan nodes w b.index k j) M i p f.0 (Matches-forward (tree_at nodes a.index) w i f.0 f.1) f.1 f.2 low shows more over)
 
   -- so a pass over a that goes on while they meet stops at the greatest cut
   pub stops_at_cut : (i p : ℕ) → HasSpan nodes w x i j → CeasesAt nodes w r (one_start j) a.index i p → LastCut (HasSpan nodes w a.index) (HasSpan nodes w b.index) i j p
@@ -211,10 +159,7 @@ module _ (nodes : List Node) (w : List ℕ) (r j x : ℕ) (a : NodeId) (first : 
   -- a copy is left exactly where copies lead on to the end
   pub copy_leaves : (k : ℕ) → CanLeave nodes w r (one_start j) a.index k ↔ CopiesLead (HasSpan nodes w a.index) j k
   copy_leaves k = (
-    λ l.
-        let out = CanLeave-part nodes w r (one_start j) arena x (last_inside nodes w r (one_start j) arena x last) a.index k (Star a first) is refl l in
-        let same : out.0 ≡ j = omega (arith, last-leaves nodes w r (one_start j) arena x out.0 last out.1) in
-        open_at nodes w x (Star a first) arena is k j (rw same at out.2),
+    λ l. grind (arith, last-leaves nodes w r (one_start j) arena x, CanLeave-part nodes w r (one_start j) arena x (last_inside nodes w r (one_start j) arena x last) a.index k (Star a first) is refl l, open_at nodes w x (Star a first) arena is k j),
     λ copies. before_copies x a.index k j a first is refl (CanLeave-last nodes w r (one_start j) arena x j last (omega arith, omega arith)) (close_at nodes w x (Star a first) arena is k j copies),
   )
 
@@ -225,22 +170,20 @@ module _ (nodes : List Node) (w : List ℕ) (r j x : ℕ) (a : NodeId) (first : 
       let one = first_copy R j i (open_at nodes w x (Star a first) arena is i j at) some in
       let inside = part_within nodes w r x a.index (Star a first) arena last is refl in
       let stop = stops_at nodes w r a.index (one_start j) arena inside.0 inside.1 (CopiesLead R j) copy_leaves i p one.0 (omega (arith, one.1)) one.2 one.3 stops in
-      record { after = omega (arith, one.1, stop.2 one.0 one.2 one.3); within = CopiesLead-forward R j p stop.1; copy = stop.0; rest = stop.1; greatest = stop.2 }
+      search (rules, stop, one.1, stop.2 one.0 one.2 one.3, CopiesLead-forward R j p)
 
 -- the last copy begins where the walk from copy to copy comes to the end
 pub copy_walk : (R : ℕ → ℕ → Type 0) (i j k c : ℕ) → NextCopy R i j k → ((k < j) × LastCopy R j k c) ⊎ ((k ≡ j) × (c ≡ i)) → LastCopy R j i c
-copy_walk R i j k c next (inl more) = then_copy i k c next.after more.0 next.copy next.rest (λ l up copy rest. next.greatest l copy rest) more.1
-copy_walk R i j k c next (inr done) = rw done.1 (only i (omega (arith, next.after)) (rw done.0 at next.copy))
+copy_walk R i j k c next out = grind (arith, then_copy, only)
 
 -- a node that is marked at each place from i up to p, and takes a byte, spans that part copy after copy
 run_copies : (nodes : List Node) (w : List ℕ) (r c : ℕ) (t : Starts) (members : List Bool) → IsArena nodes → slice_get nodes c ≡ Some (Set members) →
     (n i q : ℕ) → q ≡ i + n → ((l : ℕ) → i ≤ l → l < q → ReachesEnd nodes w r t c l) → CopiesLead (HasSpan nodes w c) q i
-run_copies nodes w r c t members arena is zero i q sum marked = let same : i ≡ q = omega arith in rw same no_copy
+run_copies nodes w r c t members arena is zero i q sum marked = search (rules, no_copy)
 run_copies nodes w r c t members arena is (suc n) i q sum marked =
     let here = marked (i + n) (omega arith) (omega arith) in
     let same : here.0 ≡ q = omega (arith, (open_at nodes w c (Set members) arena is (i + n) here.0 here.1).3) in
-    CopiesLead-append (HasSpan nodes w c) (i + n) i q (run_copies nodes w r c t members arena is n i (i + n) refl (λ l low up. marked l low (omega arith)))
-    (omega arith) (rw (← same) here.1)
+    search (rules, CopiesLead-append (HasSpan nodes w c) (i + n) i q, run_copies nodes w r c t members arena is n i (i + n), marked, same, here)
 
 -- the repetition in a run: it is entered, left and spanned as the run is
 module _ (nodes : List Node) (w : List ℕ) (r : ℕ) (t : Starts) (root : ℕ) (s : Starts) (c : ℕ) (arena : IsArena nodes) where
@@ -252,13 +195,8 @@ module _ (nodes : List Node) (w : List ℕ) (r : ℕ) (t : Starts) (root : ℕ) 
   run_within : (a : ℕ) → IsRunOf nodes c a → Within a
   run_within a (repeated _ repeats) = (a, repeats, λ i e. e, λ k l. l, λ i k at. at)
   run_within a (in_group _ g b is inner) =
-      let deep = run_within b.index inner in (
-        deep.0,
-        deep.1,
-        λ i e. deep.2 i (with_whole a b.index i (Group g b) is refl e),
-        λ k l. deep.3 k (with_end a b.index k (Group g b) is refl l),
-        λ i k at. deep.4 i k (open_at nodes w a (Group g b) arena is i k at),
-      )
+      let deep = run_within b.index inner in
+      (deep.0, deep.1, search (rules, deep.2, with_whole), search (rules, deep.3, with_end), search (rules, deep.4, open_at nodes w a (Group g b) arena is))
 
 module _ (nodes : List Node) (w : List ℕ) (r j x : ℕ) (a b : NodeId) (arena : IsArena nodes) (last : IsLastIn nodes r x) (is : slice_get nodes x ≡ Some (Seq a b))
     (c : ℕ) (members : List Bool) (run : IsRunOf nodes c a.index) (is_set : slice_get nodes c ≡ Some (Set members)) where
@@ -271,8 +209,7 @@ module _ (nodes : List Node) (w : List ℕ) (r j x : ℕ) (a b : NodeId) (arena 
       let of = star.1 in (
         λ h.
             let at = (star_copies nodes w y c i q arena of).1 (run_copies nodes w r c (one_start j) members arena is_set (q - i) i q (omega arith) marked) in
-            let enters = again y c i q of.0 of.1 of.2 of.3 (star.2 i (at_root a.index i refl (omega arith, omega arith))) at in
-            (meets-cut nodes w r j x a b arena last is i q low).0 (c, members, is_set, enters, h),
+            (meets-cut nodes w r j x a b arena last is i q low).0 (search (rules, is_set, again, of.2, of.3, star.2 i, at_root, at, h)),
         λ g.
             let l = g.0 in
             let leaves = star.3 l ((left_leaves nodes w r j x a b arena last is l).1 g.3) in
@@ -281,8 +218,7 @@ module _ (nodes : List Node) (w : List ℕ) (r j x : ℕ) (a b : NodeId) (arena 
             (λ u v _ copy rest up on.
             let same : u ≡ q = omega (arith, (open_at nodes w c (Set members) arena is_set u v copy).3) in
             (v, rw (← same) copy, before_copies y c v l of.0 of.1 of.2 of.3 leaves ((star_copies nodes w y c v l arena of).1 rest), inl on))
-            (λ u v lt _ copy. tt)
-            i copies tt low g.1,
+            (search rules) i copies tt low g.1,
       )
 
   -- the greatest cut after a repetition of one set is the first place at which the set isn't marked

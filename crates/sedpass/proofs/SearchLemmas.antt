@@ -19,9 +19,7 @@ module _ (p : WrittenExpression) (w : List ℕ) (arena : IsArena p.nodes) where
 
   -- the root is marked exactly where a match begins
   pub begins_at : (q : ℕ) → q ≤ length w → ReachesEnd p.nodes w (root_of p) all (root_of p) q ↔ ((k : ℕ) × Matches (expression_tree p) w q k)
-  begins_at q low =
-      let both = reaches_ends p.nodes w (root_of p) (root_of p) q all arena (all_of (root_of p) refl) in
-      (λ h. search (rules, both.0 h), λ h. search (rules, both.1, root_spans, h.1, Matches-within (expression_tree p) w q h.0 low h.1))
+  begins_at q low = grind (arith, reaches_ends p.nodes w (root_of p) (root_of p) q all arena, all_of, root_spans p w q, Matches-within (expression_tree p) w q)
 
   -- so none begins where it isn't marked
   pub none_marked : (from start : ℕ) → start ≤ length w → AllMarked p.nodes w (root_of p) all (root_of p) false from start → NoneIn (expression_tree p) w from start
@@ -40,12 +38,10 @@ module _ (p : WrittenExpression) (w : List ℕ) (arena : IsArena p.nodes) where
   -- a pass from where one begins ceases to meet the kept one at its longest end
   pub longest_kept : (start stop k : ℕ) → start ≤ length w → Matches (expression_tree p) w start k → CeasesAt p.nodes w (root_of p) all (root_of p) start stop → IsLongestFrom (expression_tree p) w start (Some stop)
   longest_kept start stop k low span ceases =
-      let nodes = p.nodes in
       let e = expression_tree p in
-      let root = all_of (root_of p) refl in
-      let stop_is = stops_at nodes w (root_of p) (root_of p) all arena (omega (arith, arena.nonempty)) (omega arith) (IsStart all) (λ q. (last-leaves nodes w (root_of p) all arena (root_of p) q root, CanLeave-last nodes w (root_of p) all arena (root_of p) q root))
-      start stop k (Matches-forward e w start k span) ((root_spans p w start k).1 span) (omega (arith, Matches-within e w start k low span)) ceases in
-      ((root_spans p w start stop).0 stop_is.0, λ l more. stop_is.2 l ((root_spans p w start l).1 more) (omega (arith, Matches-within e w start l low more)))
+      let stop_is = stops_at p.nodes w (root_of p) (root_of p) all arena (omega (arith, arena.nonempty)) (omega arith) (IsStart all)
+      (λ q. (last-leaves p.nodes w (root_of p) all arena (root_of p) q (all_of _ refl), CanLeave-last p.nodes w (root_of p) all arena (root_of p) q (all_of _ refl))) start stop k (Matches-forward e w start k span) ((root_spans p w start k).1 span) (omega (arith, Matches-within e w start k low span)) ceases in
+      search (rules, stop_is, root_spans, Matches-within e w start)
 
 -- what a kept pass over all places says
 pub shown_whole : (P : ℕ → Starts → Type 0) (p : WrittenExpression) (w : List ℕ) (t : Table) (k : Kept) → IsKept p w t k → IsTrue t.way.all_starts → P k.region.root (ends_shown t.way.all_starts k.region.end) → P (root_of p) (starts_to 0 (length w))
@@ -71,8 +67,7 @@ pub owed_either : (m n place : ℕ) (s : Seeking) → s.kept.region.end ≤ n �
 owed_either m n place s inside = grind (arith, owed_trying m n place s, owed_given_up m n place s, owed_kept_few m n s.kept.region place inside)
 
 pub owed_later : (m n : ℕ) (s : Seeking) (r : Option (ℕ × ℕ)) → n < s.tried → owed_after_search (owed_seeking m n s) r ≡ owed_after_search (λ q. owed_kept m n s.kept.region q) r
-owed_later m n s None many = refl
-owed_later m n s (Some f) many = owed_given_up m n f.1 s many
+owed_later m n s r many = grind (arith, owed_given_up)
 
 -- the places that trials went over, as those that are left for them
 pub tried_left : (m n tried tried' s t a b : ℕ) → tried ≤ n → tried' ≤ 2 * n + 1 → t + (40 * m * tried + a) ≤ s + (40 * m * tried' + b) → t + (40 * m * (2 * n + 1 - tried') + a) ≤ s + (40 * m * (2 * n + 1 - tried) + b)
@@ -94,17 +89,13 @@ pub trials_each : (m n from room to tried s t : ℕ) → 1 ≤ m → from ≤ n 
 trials_each m n from room to tried s t some low within few pays =
     omega (arith, few_tried m n (n + 1 - from) tried room few, mul-sub m n from, mul-sub m (n + 1) from, mul-le-mul_right (n - from) some, mul-le-mul_left m low)
 
-kept_search : (m n from : ℕ) → 142 * m * (n - from) + 42 * m ≤ search_cost m n from
-kept_search m n from = search rules
-
 pub tired_each : (m n from k tried tried' s t1 t2 : ℕ) → 1 ≤ m → from ≤ k → (k ≡ from → tried' ≡ tried) → k ≤ n → tried' ≤ max tried (n / 8) + (n + 1 - from) → t1 + (40 * m * tried + 3 * from) ≤ s + (40 * m * tried' + 3 * k) →
     t2 ≤ t1 + (142 * m * (n - k) + 42 * m) → t2 ≤ s + search_cost m n from
 tired_each m n from k tried tried' s t1 t2 some low none within few pays more = elim (cases_lt from k) [
   | inl on ↦ omega (arith, few_tried m n (n + 1 - from) tried tried' few, mul-sub m n from, mul-sub m (n - from) 1, mul-sub m (n + 1) from, mul-sub m n k, mul-le-mul_right (k - from) some, mul-sub m k from, mul-le-mul_left m on, mul-le-mul_left m within)
   | inr same ↦
       let at : k ≡ from = omega arith in
-      let first : t1 ≤ s = omega (arith, ap (λ v. 40 * m * v) (none at)) in
-      omega (arith, first, ap (λ v. 142 * m * (n - v)) at, kept_search m n from)
+      search (rules, rw (none at) at pays, rw at at more)
 ]
 
 -- trials over the places up to k, and the pass from the text's end from there on
@@ -114,7 +105,7 @@ tired_cost m n from k tried' s t u after r old some low within inside enough non
   | inl over ↦
       let at : k ≡ from = enough over in
       let first : t ≤ s = omega (arith, pays, ap (λ v. 40 * m * v) (none at)) in
-      rw (owed_given_up m n from old over) (omega (arith, first, ap (λ v. owed_kept m n old.kept.region v) at, more))
+      rw (owed_given_up m n from old over) (omega (arith, first, rw at at more))
   | inr le ↦
       let left = tried_left m n old.tried tried' s t (3 * from) (3 * k) le (few le) pays in
       rw (owed_trying m n from old le)
@@ -135,8 +126,7 @@ some_from e w from start narrowed = search rules
 
 -- the match from a place on, where none begins before another
 pub later_answer : (e : Tree) (w : List ℕ) (from k : ℕ) (r : Option (ℕ × ℕ)) → from ≤ k → NoneIn e w from k → SpanAnswer e w k r → SpanAnswer e w from r
-later_answer e w from k None low none is = search rules
-later_answer e w from k (Some f) low none is = search rules
+later_answer e w from k r low none is = grind arith
 
 -- one search after another
 pub searched_then : (p : WrittenExpression) (w : List ℕ) (a1 a2 a3 b1 b2 b3 : Table) (s1 s2 s3 : Seeking) → Searched p w a1 a2 b1 b2 s1 s2 → Searched p w a2 a3 b2 b3 s2 s3 → Searched p w a1 a3 b1 b3 s1 s3
@@ -144,13 +134,11 @@ searched_then p w a1 a2 a3 b1 b2 b3 s1 s2 s3 one two = search rules
 
 -- looks up to a later place count too
 pub looks_later : (from k s a b : ℕ) (r : Option (ℕ × ℕ)) → TakesAtLeast s a (k - from) → LooksFrom k a b r → LooksFrom from s b r
-looks_later from k s a b None before after = tt
-looks_later from k s a b (Some f) before after = search (rules, least_both)
+looks_later from k s a b r before after = grind (arith, least_both)
 
 -- those up to the end alone
 pub looks_to_end : (from s a : ℕ) (r : Option (ℕ × ℕ)) → LooksFrom from s a r → IfSome r (λ f. TakesAtLeast s a (f.1 - from))
-looks_to_end from s a None looks = tt
-looks_to_end from s a (Some f) looks = search (rules, least_less)
+looks_to_end from s a r looks = grind (arith, least_less)
 
 -- and those of a search that went on one byte further
 pub looks_past : (at s a b : ℕ) (r : Option (ℕ × ℕ)) → s ≤ a → LooksFrom (at + 1) a b r → IfSome r (λ f. TakesAtLeast s b (f.1 - at))

@@ -16,12 +16,7 @@ returns-then-not-is_null c =
     let cost : c.is_null.new.steps + 0 ≤ c.args.steps.now + (owed_kept (length p.nodes) (length w) c.args.kept.now.region c.args.from + 42 * length p.nodes) =
     omega (arith, mul-le-mul_left (length w - c.args.from) region.table.expr.arena.nonempty, seek.order, region.inside, seek.cost.1, null.cost.0.1) in
     let grows : c.args.steps.now ≤ c.is_null.new.steps = omega (arith, seek.cost.0, null.cost.0.0) in
-    record {
-      tables = search (rules, c.requires.forward_one, seek.keeps);
-      next = record { kept = seek.keeps.kept; answer = (tt, none, tt); counts = tt };
-      cost = (grows, cost);
-      each = (grows, kept_each _ _ c.args.kept.now.region c.args.from c.args.steps.now c.is_null.new.steps _ region.inside cost);
-    }
+    search (rules, c.requires.forward_one, seek.keeps, none, grows, cost, kept_each _ _ c.args.kept.now.region c.args.from c.args.steps.now c.is_null.new.steps _ region.inside cost)
 
 -- at the text's end it is null there
 null_there : (c : After-cut-end) → (c.seek-start.result ≡ length c.args.subject.text.now → HasSpan c.args.subject.prepared.now.nodes c.args.subject.text.now (root_of c.args.subject.prepared.now) c.seek-start.result c.seek-start.result)

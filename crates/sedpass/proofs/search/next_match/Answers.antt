@@ -1,4 +1,4 @@
-use Rattle.sedpass.proofs.Words.{ap, arith, length, mul-le-mul_left, rules, ◌-◌, ◌≤◌, Matches-forward, expression_tree}
+use Rattle.sedpass.proofs.Words.{ap, arith, length, mul-le-mul_left, ◌-◌, ◌≤◌, Matches-forward, expression_tree}
 use Rattle.sedpass.proofs.SearchLemmas.{hit_cost, later_answer, owed_either, owed_later, owed_trying, tired_cost, tired_each, trials_each, tried_left}
 use Rattle.sedpass.specs.declared.search.Trials.TheVariants.{Tired}
 use Rattle.sedpass.proofs.search.next_match.Goals as goal
@@ -35,9 +35,6 @@ pub returns-in-Nothing-clause-each : goal.returns-in-Nothing-clause-each
 returns-in-Nothing-clause-each c =
     let made = c.in-Nothing.ensures.made in
     (made.cost.0, trials_each _ _ _ _ _ _ _ _ c.requires.ready.forward_one.table.expr.arena.nonempty c.requires.from (omega arith) made.few made.cost.1)
-
-pub returns-in-Tired-clause-searched : goal.returns-in-Tired-clause-searched
-returns-in-Tired-clause-searched c = search (rules, c.next_kept.ensures, c.requires.ready)
 
 pub returns-in-Tired-clause-answer : goal.returns-in-Tired-clause-answer
 returns-in-Tired-clause-answer c =

@@ -48,17 +48,7 @@ loop-place-preserved c =
     let here = (goal.at.loop-place-preserved c).After-meet-reached in
     let at : stop ≡ c.ready-to.new.self.region.to = omega (arith, meet.order.1, c.if-place-to.false, ready.to.0) in
     let up : c.loop-place.place < stop = omega (arith, ready.to, at) in
-    record {
-      order = omega (arith, old.order.0, up, ready.keeps.kept.region.within, at);
-      keeps = keeps here;
-      forward_one = meet.forward_one;
-      forward_one_shape = search (rules, old.forward_one_shape, meet.shape);
-      offset = meet.offset;
-      follows = (reached here).0;
-      meets = meets here;
-      cost = omega (arith, old.cost, ready.cost, meet.whole at, owed_falls (length c.args.subject.prepared.now.nodes) c.ready-to.new.self.region c.loop-place.place stop (omega (arith, up)));
-      counts = omega (arith, old.counts, ready.cost.0, meet.counts, old.order.0, meet.order.0);
-    }
+    search (rules, old, ready, meet, meet.whole at, at, up, keeps here, reached here, meets here, owed_falls (length c.args.subject.prepared.now.nodes) c.ready-to.new.self.region c.loop-place.place stop (omega (arith, up)), ready.cost)
 
 pub returns-then-place-to-clause-keeps : goal.returns-then-place-to-clause-keeps
 returns-then-place-to-clause-keeps c = keeps (goal.at.returns-then-place-to-clause-keeps c).After-meet-reached

@@ -1,5 +1,5 @@
-use Rattle.sedpass.proofs.Words.{◌<◌, ap, arith, length, mul-le-mul_left, refl, rules, ◌*◌, ◌+◌, ◌-◌, ◌/◌, ◌∙◌, ◌≡◌, ◌≢◌, ◌≤◌, mul-sub, Takes, TakesAtLeast, div-mul-le_self, row_of, EdgesFrom, PassesDownTo, SameKept, bits, ends_row, leaves_row}
-use Rattle.sedpass.proofs.KeptLemmas.{block_right, edges_more, edges_none, edges_same, kept_passed, region_kept, same_kept}
+use Rattle.sedpass.proofs.Words.{ap, arith, length, mul-le-mul_left, refl, rules, ◌*◌, ◌+◌, ◌-◌, ◌/◌, ◌∙◌, ◌≡◌, ◌≢◌, ◌≤◌, ℕ, ◌<◌, mul-sub, Takes, TakesAtLeast, row_of, EdgesFrom, PassesDownTo, SameKept, bits, ends_row, leaves_row}
+use Rattle.sedpass.proofs.KeptLemmas.{block_right, edge_room, edges_more, edges_none, edges_same, kept_passed, region_kept, same_kept}
 use Rattle.sedpass.proofs.RowLemmas.{copied_rows, keeps_then}
 use Rattle.sedpass.proofs.kept.Kept.make.Goals.{After-max-least, then-place-end, else-place-end}
 use Rattle.sedpass.proofs.kept.Kept.make.Goals as goal
@@ -29,17 +29,9 @@ edge_kept c =
           let copied = copied_rows m c.nodes-nodes.result (2 * block) (2 * block + 1) v.copy.new.self v.copy-then-place-end.new.self _ _ c.nodes-nodes.ensures.value (λ e. omega arith) one.same two.keeps two.same in
           let leaves = v.leaves_row.ensures ∙ ap leaves_row v.state_at-state.ensures in
           let ends = v.ends_row.ensures ∙ ap ends_row v.state_at-state.ensures in
-          let same : SameKept k (record k { edges = v.copy-then-place-end.new.self }) = record { root = refl; end = refl; space = record { places = refl; edges = keeps.len; marks = keeps.lens } } in
+          let same : SameKept k (record k { edges = v.copy-then-place-end.new.self }) = search (rules, keeps) in
           rw (v.self-is, v.steps-is) (
-            record {
-              region = region_kept p w t t k _ (search rules) old.passes.region.table same refl old.passes.region.within old.passes.region;
-              within = old.passes.within;
-              above = old.passes.above;
-              long = old.passes.long;
-              there = old.passes.there;
-              at = old.passes.at;
-              live = old.passes.live;
-            },
+            search (rules, region_kept p w t t k _ (search rules) old.passes.region.table same refl old.passes.region.within old.passes.region, old.passes),
             edges_more p w t.way.all_starts k.region.root k.region.end width block k.edges v.copy-then-place-end.new.self _ _ (omega (arith, some)) keeps
                 (copied.0 ∙ ap (λ r. bits m (row_of t.rows r)) leaves, copied.1 ∙ ap (λ r. bits m (row_of t.rows r)) ends) (rw (← at) old.passes.at.1) (rw (← at) old.edges),
             same,
@@ -47,13 +39,6 @@ edge_kept c =
           )
       | else-place-end v ↦ rw (v.self-is, v.steps-is) (old.passes, edges_none p w t k block (omega (arith, v.if-place-end.false, old.end_is)), search rules, omega arith)
     ]
-
-pub copy-requires-then-place-end-clause-inside : goal.copy-requires-then-place-end-clause-inside
-copy-requires-then-place-end-clause-inside c =
-    let passes = c.loop-place.invariant.passes in
-    let block = (c.loop-place.place - 1) / (c.loop-place.table.room - 1) in
-    let low = passes.region.room.blocks block (omega (arith, div-mul-le_self (c.loop-place.place - 1) (c.loop-place.table.room - 1), passes.within, passes.region.inside)) in
-    omega (arith, c.nodes-nodes.ensures.value, c.copy.ensures.keeps.lens (2 * block + 1), passes.region.room.marks (2 * block + 1) low)
 
 pub pass-offset-requires-clause-passes : goal.pass-offset-requires-clause-passes
 pass-offset-requires-clause-passes c = (edge_kept (goal.at.pass-offset-requires-clause-passes c).After-max-least).0
@@ -65,31 +50,19 @@ loop-place-preserved c =
     let edge = edge_kept (goal.at.loop-place-preserved c).After-max-least in
     let now = c.pass-offset.ensures in
     let less : c.max-least.result + 1 ≤ c.loop-place.place = omega arith in
-    record {
-      order = omega (arith, old.order);
-      end_is = now.down.same.end ∙ edge.2.end ∙ old.end_is;
-      passes = now.down.passes;
-      edges = edges_same c.args.subject.prepared.now c.args.subject.text.now c.loop-place.table c.pass-offset.new.table c.if-place-end.self c.pass-offset.new.self _ c.max-least.result now.down.shape now.down.edges now.down.same.root now.down.same.end (omega arith) edge.1;
-      right = λ some below. ((c.loop-place.place - 1) / (c.loop-place.table.room - 1), rw now.down.shape.1 (omega (arith, some)));
-      shape = search (rules, old.shape, now.down.shape);
-      same = same_kept _ _ _ (same_kept _ _ _ old.same edge.2) now.down.same;
-      to = λ below. now.to;
-      cost = omega (arith, old.cost, edge.3, now.cost, mul-le-mul_left (4 * length c.args.subject.prepared.now.nodes) less);
-      counts = omega (arith, old.counts, edge.3.0, now.counts, old.order.1);
-    }
+    let edges = edges_same c.args.subject.prepared.now c.args.subject.text.now c.loop-place.table c.pass-offset.new.table c.if-place-end.self c.pass-offset.new.self _ c.max-least.result now.down.shape now.down.edges now.down.same.root now.down.same.end
+    (omega arith) edge.1 in
+    let right : c.args.low < c.max-least.result → (b : ℕ) × (c.max-least.result ≡ b * (c.pass-offset.new.table.room - 1)) = λ some. ((c.loop-place.place - 1) / (c.loop-place.table.room - 1), rw now.down.shape.1 (omega (arith, some))) in
+    let same = same_kept _ _ _ (same_kept _ _ _ old.same edge.2) now.down.same in
+    search (rules, old, edge, now, less, right, edges, same, mul-le-mul_left (4 * length c.args.subject.prepared.now.nodes) less)
 
 pub returns-clause-keeps : goal.returns-clause-keeps
 returns-clause-keeps c =
     let last = c.loop-place.invariant in
-    let grown = c.grow.ensures in
     record {
       kept = kept_passed _ _ c.loop-place.table c.loop-place.self _ c.loop-place.place c.loop-place.offset last.passes (λ b above before. last.edges b (omega arith) before) (omega arith) (omega arith) refl refl refl refl refl;
       shape = search (rules, c.edge_state-offset.ensures.adds.shape, last.shape);
-      same = record {
-        root = last.same.root ∙ ap (λ r. r.root) grown.same.0;
-        end = last.same.end ∙ ap (λ r. r.end) grown.same.0;
-        space = record { places = last.same.space.places ∙ grown.capacity; edges = last.same.space.edges ∙ ap length grown.same.1; marks = λ q. last.same.space.marks q ∙ ap (λ rows. length (row_of rows q)) grown.same.1 };
-      };
+      same = search (rules, c.grow.ensures, last.same);
     }
 
 pub returns-clause-cost : goal.returns-clause-cost
@@ -100,43 +73,12 @@ returns-clause-cost c =
     let at : c.loop-place.place ≡ c.args.low = omega arith in
     omega (arith, first.cost, last.cost, ap (λ v. m * v) at, mul-sub m c.args.self.now.region.end c.args.low, mul-le-mul_left m c.requires.low)
 
-pub copy-requires-clause-row : goal.copy-requires-clause-row
-copy-requires-clause-row c =
-    let width = c.loop-place.table.room - 1 in
-    let block = (c.loop-place.place - 1) / width in
-    let region = c.loop-place.invariant.passes.region in
-    let inside : block * width ≤ length c.args.subject.text.now = omega (arith, div-mul-le_self (c.loop-place.place - 1) width, c.loop-place.invariant.order, c.loop-place.invariant.end_is, region.within) in
-    omega (arith, region.room.blocks block inside)
-
-pub copy-requires-then-place-end-clause-row : goal.copy-requires-then-place-end-clause-row
-copy-requires-then-place-end-clause-row c =
-    let width = c.loop-place.table.room - 1 in
-    let block = (c.loop-place.place - 1) / width in
-    let region = c.loop-place.invariant.passes.region in
-    let inside : block * width ≤ length c.args.subject.text.now = omega (arith, div-mul-le_self (c.loop-place.place - 1) width, c.loop-place.invariant.order, c.loop-place.invariant.end_is, region.within) in
-    omega (arith, c.copy.ensures.keeps.len, region.room.blocks block inside)
-
-pub copy-requires-then-place-end-clause-there : goal.copy-requires-then-place-end-clause-there
-copy-requires-then-place-end-clause-there c =
+pub copy-requires : goal.copy-requires
+copy-requires c =
     let passes = c.loop-place.invariant.passes in
-    let room = passes.region.table.room in
-    let q = c.ends_row.result in
-    let low = passes.there.0 in
-    let inside : q < length c.loop-place.table.rows = omega (arith, c.ends_row.ensures, c.state_at-state.ensures, low, room.count, room.rows.rows) in
-    omega (arith, room.rows.long q inside, room.marks, c.nodes-nodes.ensures.value)
+    search (rules, edge_room _ _ c.loop-place.table c.loop-place.self c.loop-place.place passes.region passes.within, passes.there, passes.region.table.room, c.nodes-nodes.ensures.value, c.leaves_row.ensures, c.state_at-state.ensures)
 
-pub copy-requires-clause-inside : goal.copy-requires-clause-inside
-copy-requires-clause-inside c =
+pub copy-requires-then-place-end : goal.copy-requires-then-place-end
+copy-requires-then-place-end c =
     let passes = c.loop-place.invariant.passes in
-    let block = (c.loop-place.place - 1) / (c.loop-place.table.room - 1) in
-    let low = passes.region.room.blocks block (omega (arith, div-mul-le_self (c.loop-place.place - 1) (c.loop-place.table.room - 1), passes.within, passes.region.inside)) in
-    omega (arith, c.nodes-nodes.ensures.value, passes.region.room.marks (2 * block) (omega (arith, low)))
-
-pub copy-requires-clause-there : goal.copy-requires-clause-there
-copy-requires-clause-there c =
-    let passes = c.loop-place.invariant.passes in
-    let room = passes.region.table.room in
-    let q = c.leaves_row.result in
-    let low = passes.there.0 in
-    let inside : q < length c.loop-place.table.rows = omega (arith, c.leaves_row.ensures, c.state_at-state.ensures, low, room.count, room.rows.rows) in
-    omega (arith, room.rows.long q inside, room.marks, c.nodes-nodes.ensures.value)
+    search (rules, edge_room _ _ c.loop-place.table c.loop-place.self c.loop-place.place passes.region passes.within, passes.there, passes.region.table.room, c.nodes-nodes.ensures.value, c.ends_row.ensures, c.state_at-state.ensures, c.copy.ensures.keeps)

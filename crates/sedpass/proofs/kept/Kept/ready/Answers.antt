@@ -1,4 +1,4 @@
-use Rattle.sedpass.proofs.Words.{arith, inl, inr, length, ◌*◌, ◌+◌, ◌-◌, ◌/◌, ◌<◌, ◌≤◌, ◌⊎◌, lt-div-mul-add}
+use Rattle.sedpass.proofs.Words.{arith, length, ◌*◌, ◌+◌, ◌-◌, ◌/◌, ◌<◌, ◌≤◌, ◌⊎◌, lt-div-mul-add}
 use Rattle.sedpass.proofs.OwedLemmas.{owed_again, owed_made}
 use Rattle.sedpass.proofs.kept.Kept.ready.Goals.{then-at-self, else-at-self+then-at-self-2, then-at-self-2-via-then-at-self-2, then-at-self-2-via-else-at-self-2+then-self-at, else-at-self+else-at-self-2+else-self-at}
 use Rattle.sedpass.proofs.kept.Kept.ready.Goals as goal
@@ -15,10 +15,7 @@ returns-clause-cost c =
           let now = w.make.ensures in
           rw (w.self-is, w.steps-is) (owed_made m old w.make.new.self.region place s w.make.new.steps w.if-at-self.true c.requires.place now.low now.from now.to now.keeps.same.end now.cost.0 now.cost.1)
       | else-at-self+then-at-self-2 w ↦
-          let out : (place < old.from) ⊎ (old.to ≤ place) = elim w.then-at-self-2.branch [
-            | then-at-self-2-via-then-at-self-2 v ↦ inl v.if-at-self-2.true
-            | then-at-self-2-via-else-at-self-2+then-self-at v ↦ inr v.if-self-at.true
-          ] in
+          let out : (place < old.from) ⊎ (old.to ≤ place) = grind (arith, w.then-at-self-2.branch) in
           let now = w.remake.ensures in
           let after : place < place / width * width + width = lt-div-mul-add (omega (arith, c.requires.kept.region.table.room.rows.some)) in
           rw (w.self-is, w.steps-is) (owed_again m old w.remake.new.self.region place s w.remake.new.steps w.if-at-self.false out now.low now.keeps.same.end now.from (omega (arith, c.requires.place, now.to, after)) now.cost)

@@ -1,4 +1,4 @@
-use Rattle.sedpass.proofs.Words.{arith, length, not, ◌≡◌, TakesAtLeast, AllMarked, KeepsRegion, ends_shown}
+use Rattle.sedpass.proofs.Words.{arith, length, rules, not, ◌≡◌, TakesAtLeast, AllMarked, KeepsRegion, ends_shown}
 use Rattle.sedpass.proofs.KeptLemmas.{holds_then, keeps_then, shown_as}
 use Rattle.sedpass.proofs.OwedLemmas.{owed_falls}
 use Rattle.sedpass.proofs.kept.Kept.seek.Goals.{After-seek_in-found}
@@ -22,13 +22,7 @@ loop-place-preserved c =
     let seek = c.seek_in-found.ensures in
     let at : c.seek_in-found.result ≡ c.ready-to.result = omega (arith, seek.order.1, c.if-found-to.false, ready.to.0) in
     let here = (goal.at.loop-place-preserved c).After-seek_in-found in
-    record {
-      order = omega (arith, old.order.0, ready.to, ready.keeps.kept.region.within);
-      keeps = keeps here;
-      passed = rw at at (passed here);
-      cost = omega (arith, old.cost, ready.cost, seek.cost, at, owed_falls (length c.args.subject.prepared.now.nodes) c.ready-to.new.self.region c.loop-place.place c.ready-to.result (omega (arith, ready.to.1)), ready.to.1);
-      counts = omega (arith, old.counts, ready.cost.0, seek.counts, old.order.0, seek.order.0, at);
-    }
+    search (rules, old, ready, seek, at, keeps here, passed here, owed_falls (length c.args.subject.prepared.now.nodes) c.ready-to.new.self.region c.loop-place.place c.ready-to.result (omega (arith, ready.to.1)), ready.cost, seek.counts)
 
 pub returns-then-found-to-clause-passed : goal.returns-then-found-to-clause-passed
 returns-then-found-to-clause-passed c = passed (goal.at.returns-then-found-to-clause-passed c).After-seek_in-found
