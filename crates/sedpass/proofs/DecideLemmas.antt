@@ -1,7 +1,7 @@
 -- The groups that are given as due, as the state of a decision; what nodes and regions cost.
-use Rattle.sedpass.proofs.Words.{rules, ◌≡◌, ℕ, zero, suc, ◌+◌, ◌-◌, ◌*◌, ◌<◌, ◌≤◌, ◌&&◌, not, Bool, true, false, List, [], ◌∷◌, length, Option, None, Some, IsTrue, refl, sym, ◌∙◌, true≢false, arith, IfSome, eqb, inl, inr, replicate, slice_get, slice_set, slice_index_or, vec_capacity, cases_Bool, cases_lt, and_parts, or_cases, expression_tree, size, group_depth, sequence, either_of, grouped, any_copies, one_or_none, ext_get_or, length-set, mul-le-mul_right, Tree, WrittenExpression, tree_at, IsArena, IsExpr, AreRanges, Node, NodeId, Seq, Group, Star, tree_at-node, LastCut, LastCopy, SpansOfGroups, HasSpan, one_start, node_at, Matches-forward, Decided, GroupSet, Matched, Kept, Subject, Facts, spans_in, flags_of, known_groups, HasBlank, IsAtEnd, HasDesk, AreTables, HasSpace, nodes_in, subject_text, NoneSettled, NodeMatches, SameSpace, ends_shown, IsFacts, is_one_set, repeated_set, reported, holds, IsRunOf, repeated, in_group, IsSetAt, root_of, has_group, settle, drop_groups, NoneDue, IsFirstState, GroupRoom, Tables}
+use Rattle.sedpass.proofs.Words.{rules, ◌≡◌, ℕ, zero, suc, ◌+◌, ◌-◌, ◌*◌, ◌<◌, ◌≤◌, ◌&&◌, not, Bool, true, false, List, [], ◌∷◌, length, Option, None, Some, IsTrue, refl, sym, ◌∙◌, true≢false, arith, IfSome, eqb, inl, inr, replicate, slice_get, slice_set, slice_index_or, vec_capacity, cases_Bool, cases_eq, cases_lt, and_parts, or_cases, expression_tree, size, group_depth, sequence, either_of, grouped, any_copies, one_or_none, ext_get_or, length-set, mul-le-mul_right, Tree, WrittenExpression, tree_at, IsArena, IsExpr, AreRanges, Node, NodeId, Seq, Group, Star, tree_at-node, LastCut, LastCopy, SpansOfGroups, HasSpan, one_start, node_at, Matches-forward, Decided, GroupSet, Matched, Kept, Subject, Facts, spans_in, flags_of, known_groups, HasBlank, IsAtEnd, HasDesk, AreTables, HasSpace, nodes_in, subject_text, NoneSettled, NodeMatches, SameSpace, ends_shown, IsFacts, is_one_set, repeated_set, reported, holds, IsRunOf, repeated, in_group, IsSetAt, root_of, has_group, settle, drop_groups, NoneDue, IsFirstState, GroupRoom, Tables}
 use Rattle.sedpass.proofs.LengthLemmas.{all_long, copies_long, AllLong}
-use Rattle.sedpass.proofs.OneGroupLemmas.{copy_spans, deed, drop_as, left, set_due, settle-due}
+use Rattle.sedpass.proofs.OneGroupLemmas.{copy_spans, deed, drop_spans, drop_takes, left, set_due, settle-due}
 use Rattle.sedpass.proofs.TurnLemmas.{opened}
 use Rattle.sedpass.proofs.TableLemmas.{same_all}
 
@@ -10,14 +10,10 @@ pub flags_at : (s : GroupSet) (k : ℕ) → slice_index_or (flags_of s) k false 
 flags_at s (suc (suc (suc (suc (suc (suc (suc (suc (suc (suc k)))))))))) = search rules
 flags_at s other = refl
 
--- a group that is due is one of those that are reported
-due_reported : (due : GroupSet) (k : ℕ) → holds due 0 ≡ false → holds due k ≡ true → reported k ≡ true
-due_reported due k whole is = search rules
-
 -- a node of which no group is due
 pub none_due : (nodes : List Node) (x : ℕ) (facts : Facts) (t : Decided) → IsFacts (tree_at nodes x) x facts → holds t.due 0 ≡ false →
     ((k : ℕ) → IsTrue (holds facts.groups k) → IsTrue (holds t.due k) → ⊥) → NoneDue (tree_at nodes x) (known_groups t)
-none_due nodes x facts t is whole apart k has = search (rules, cases_Bool (holds t.due k), due_reported t.due k, flags_at t.due k, is.groups k)
+none_due nodes x facts t is whole apart k has = grind (arith, cases_eq k 0, cases_Bool (holds t.due k), flags_at t.due k, is.groups k)
 
 -- a node with a group is decided in a region at least
 group_deep : (e : Tree) (k : ℕ) → has_group e k ≡ true → 1 ≤ group_depth e
@@ -46,7 +42,7 @@ facts_deep e x facts k is has = search (rules, group_deep e k, is.groups k, and_
 -- what is due and is not taken is due still
 flags_left : (old other new : GroupSet) (n : ℕ) (x : Bool) (v : Option (ℕ × ℕ)) → holds old 0 ≡ false → holds other n ≡ (reported n && x) → holds new n ≡ (holds old n && not (holds other n)) →
     slice_index_or (flags_of new) n false ≡ left (slice_index_or (flags_of old) n false) (deed x v)
-flags_left old other new n x v whole is without = search (rules, flags_at old n, flags_at new n, due_reported old n whole)
+flags_left old other new n x v whole is without = grind (arith, cases_eq n 0, flags_at old n, flags_at new n)
 
 -- a group that is due is settled
 pub settled : (t : Decided) (one new : GroupSet) (k : ℕ) (v : Option (ℕ × ℕ)) → holds t.due 0 ≡ false → holds t.due k ≡ true →
@@ -65,7 +61,10 @@ settled t one new k v whole due alone without =
 pub dropped : (nodes : List Node) (x : ℕ) (facts : Facts) (t : Decided) (new : GroupSet) → IsFacts (tree_at nodes x) x facts → HasBlank t →
     ((n : ℕ) → holds new n ≡ (holds t.due n && not (holds facts.groups n))) → known_groups (record t { due = new }) ≡ drop_groups (tree_at nodes x) (known_groups t)
 dropped nodes x facts t new is before without =
-    drop_as (tree_at nodes x) (known_groups t) (known_groups (record t { due = new })) before.blank refl refl (λ k. search (rules, flags_left t.due facts.groups new k, is.groups k, without k))
+    let e = tree_at nodes x in
+    let s = known_groups t in
+    let due = ext_get_or false (flags_of new) (drop_groups e s).due (sym (drop_takes e 0 s).long) (λ k _. flags_left t.due facts.groups new k _ _ before.whole (is.groups k) (without k) ∙ sym (drop_takes e k s).due) in
+    search (rules, drop_spans e s before.blank)
 
 -- to begin with, the groups of the whole expression are due
 abbrev pub undecided : Facts → ℕ → ℕ → Decided
@@ -75,11 +74,7 @@ pub starts_due : (e : Tree) (x i j : ℕ) (facts : Facts) → IsFacts e x facts 
 starts_due e x i j facts is = record { whole = is.groups 0; each = λ k low high has. search (rules, flags_at facts.groups k, is.groups k); none = refl }
 
 pub starts_blank : (e : Tree) (x i j : ℕ) (facts : Facts) → IsFacts e x facts → HasBlank (undecided facts i j)
-starts_blank e x i j facts is = record { blank = unsettled; whole = is.groups 0 }
-  where
-    unsettled : NoneSettled (known_groups (undecided facts i j))
-    unsettled zero due = absurd (true≢false (sym due ∙ is.groups 0))
-    unsettled (suc k) due = same_all None 9 k
+starts_blank e x i j facts is = record { blank = λ k due. grind (arith, is.groups 0, cases_eq k 0, same_all {A = Option (ℕ × ℕ)} None 9 (k - 1)); whole = is.groups 0 }
 
 -- a span more
 pub found_set : (g : SpansOfGroups) (k : ℕ) (v : Option (ℕ × ℕ)) → spans_in (slice_set g k v) ≤ spans_in g + 1
