@@ -1,7 +1,7 @@
 -- The groups that are given as due, as the state of a decision; what nodes and regions cost.
-use Rattle.sedpass.proofs.Words.{rules, ◌≡◌, ℕ, zero, suc, ◌+◌, ◌-◌, ◌*◌, ◌<◌, ◌≤◌, ◌&&◌, not, Bool, true, false, List, [], ◌∷◌, length, Option, None, Some, IsTrue, refl, sym, ◌∙◌, true≢false, arith, IfSome, eqb, inl, inr, replicate, slice_get, slice_set, slice_index_or, vec_capacity, cases_Bool, cases_eq, cases_lt, and_parts, or_cases, expression_tree, size, group_depth, sequence, either_of, grouped, any_copies, one_or_none, ext_get_or, length-set, mul-le-mul_right, Tree, WrittenExpression, tree_at, IsArena, IsExpr, AreRanges, Node, NodeId, Seq, Group, Star, tree_at-node, LastCut, LastCopy, SpansOfGroups, HasSpan, one_start, node_at, Matches-forward, Decided, GroupSet, Matched, Kept, Subject, Facts, spans_in, flags_of, known_groups, HasBlank, IsAtEnd, HasDesk, AreTables, HasSpace, nodes_in, subject_text, NoneSettled, NodeMatches, SameSpace, ends_shown, IsFacts, is_one_set, repeated_set, reported, holds, IsRunOf, repeated, in_group, IsSetAt, root_of, has_group, settle, drop_groups, NoneDue, IsFirstState, GroupRoom, Tables}
+use Rattle.sedpass.proofs.Words.{rules, ◌≡◌, ℕ, zero, suc, ◌+◌, ◌-◌, ◌*◌, ◌<◌, ◌≤◌, ◌&&◌, not, Bool, true, false, List, [], ◌∷◌, length, Option, None, Some, IsTrue, refl, sym, ◌∙◌, true≢false, arith, IfSome, eqb, inl, inr, replicate, slice_get, slice_set, slice_index_or, vec_capacity, cases_Bool, cases_eq, eqb_tells, get_or-set_other, cases_lt, and_parts, or_cases, expression_tree, size, group_depth, sequence, either_of, grouped, any_copies, one_or_none, ext_get_or, length-set, mul-le-mul_right, Tree, WrittenExpression, tree_at, IsArena, IsExpr, AreRanges, Node, NodeId, Seq, Group, Star, tree_at-node, LastCut, LastCopy, SpansOfGroups, HasSpan, one_start, node_at, Matches-forward, Decided, GroupSet, Matched, Kept, Subject, Facts, spans_in, flags_of, known_groups, HasBlank, IsAtEnd, HasDesk, AreTables, HasSpace, nodes_in, subject_text, NoneSettled, NodeMatches, SameSpace, ends_shown, IsFacts, is_one_set, repeated_set, reported, holds, IsRunOf, repeated, in_group, IsSetAt, root_of, has_group, settle, drop_groups, NoneDue, IsFirstState, GroupRoom, Tables}
 use Rattle.sedpass.proofs.LengthLemmas.{all_long, copies_long, AllLong}
-use Rattle.sedpass.proofs.OneGroupLemmas.{copy_spans, deed, drop_spans, drop_takes, left, set_due, settle-due}
+use Rattle.sedpass.proofs.OneGroupLemmas.{copy_spans, deed, drop_spans, drop_takes, left, set_due}
 use Rattle.sedpass.proofs.TurnLemmas.{opened}
 use Rattle.sedpass.proofs.TableLemmas.{same_all}
 
@@ -44,17 +44,20 @@ flags_left : (old other new : GroupSet) (n : ℕ) (x : Bool) (v : Option (ℕ ×
     slice_index_or (flags_of new) n false ≡ left (slice_index_or (flags_of old) n false) (deed x v)
 flags_left old other new n x v whole is without = grind (arith, cases_eq n 0, flags_at old n, flags_at new n)
 
+-- a span more
+found_set : (g : SpansOfGroups) (k : ℕ) (v : Option (ℕ × ℕ)) → spans_in (slice_set g k v) ≤ spans_in g + 1
+found_set [] k v = omega arith
+found_set (x ∷ g) (suc k) v = search (rules, found_set g k v)
+found_set (x ∷ g) k v = search rules
+
 -- a group that is due is settled
-pub settled : (t : Decided) (one new : GroupSet) (k : ℕ) (v : Option (ℕ × ℕ)) → holds t.due 0 ≡ false → holds t.due k ≡ true →
-    ((n : ℕ) → holds one n ≡ (reported n && eqb k n)) → ((n : ℕ) → holds new n ≡ (holds t.due n && not (holds one n))) →
-    known_groups (record { due = new; spans = slice_set t.spans k v }) ≡ settle k v (known_groups t)
-settled t one new k v whole due alone without =
-    search (
-      rules,
-      ext_get_or false (flags_of new) (slice_set (flags_of t.due) k false) (sym (length-set (flags_of t.due) k false)) (λ n _.
-          flags_left t.due one new n (eqb k n) v whole (alone n) (without n) ∙ sym (set_due k n v (flags_of t.due))),
-      settle-due k v (known_groups t),
-      flags_at t.due k,
+pub settled : (t : Decided) (one new : GroupSet) (k : ℕ) (v : Option (ℕ × ℕ)) → HasBlank t → holds t.due k ≡ true → ((n : ℕ) → holds one n ≡ (reported n && eqb k n)) → ((n : ℕ) → holds new n ≡ (holds t.due n && not (holds one n))) →
+    HasBlank (record { due = new; spans = slice_set t.spans k v }) × (known_groups (record { due = new; spans = slice_set t.spans k v }) ≡ settle k v (known_groups t)) × (spans_in (slice_set t.spans k v) ≤ spans_in t.spans + 1)
+settled t one new k v before due alone without =
+    let flags = ext_get_or false (flags_of new) (slice_set (flags_of t.due) k false) (sym (length-set (flags_of t.due) k false)) (λ n _. flags_left t.due one new n (eqb k n) v before.whole (alone n) (without n) ∙ sym (set_due k n v (flags_of t.due))) in (
+      record { blank = λ n. grind (arith, flags_at new n, flags_at t.due n, alone n, without n, before.blank n, eqb_tells k n, get_or-set_other); whole = search (rules, without 0, before.whole) },
+      search (rules, flags, flags_at t.due k),
+      found_set t.spans k v,
     )
 
 -- the groups of a node are taken from what is due
@@ -75,12 +78,6 @@ starts_due e x i j facts is = record { whole = is.groups 0; each = λ k low high
 
 pub starts_blank : (e : Tree) (x i j : ℕ) (facts : Facts) → IsFacts e x facts → HasBlank (undecided facts i j)
 starts_blank e x i j facts is = record { blank = λ k due. grind (arith, is.groups 0, cases_eq k 0, same_all {A = Option (ℕ × ℕ)} None 9 (k - 1)); whole = is.groups 0 }
-
--- a span more
-pub found_set : (g : SpansOfGroups) (k : ℕ) (v : Option (ℕ × ℕ)) → spans_in (slice_set g k v) ≤ spans_in g + 1
-found_set [] k v = omega arith
-found_set (x ∷ g) (suc k) v = search (rules, found_set g k v)
-found_set (x ∷ g) k v = search rules
 
 -- Places.
 

@@ -45,19 +45,8 @@ set_at n k v (x ∷ g) = search rules
 pub set_due : (n k : ℕ) (v : Span) (due : List Bool) → slice_index_or (slice_set due n false) k false ≡ left (slice_index_or due k false) (deed (eqb n k) v)
 set_due n k v due = search (rules, eqb_tells n k, cases_lt n (length due), get_or-set_same, get_or-set_other, get_or_past, length-set)
 
-pub settle-due : (k : ℕ) (v : Span) (s : GroupState) → is_due s k ≡ true → settle k v s ≡ record { due = slice_set s.due k false; spans = slice_set s.spans k v }
-settle-due k v s is = rw is refl
-
-pub settle-not : (k : ℕ) (v : Span) (s : GroupState) → is_due s k ≡ false → settle k v s ≡ s
-settle-not k v s is = rw is refl
-
 pub settle_takes : (n k : ℕ) (v : Span) (s : GroupState) → Takes k (deed (eqb n k) v) s (settle n v s)
 settle_takes n k v s = grind (arith, eqb_tells n k, cases_Bool (is_due s n), set_due, set_at, length-set)
-
--- what is due has no span: so it is after this
-pub takes_blank : (k : ℕ) (d : Option Span) (old new : GroupState) → Takes k d old new → (is_due old k ≡ true → slice_index_or old.spans k None ≡ None) → is_due new k ≡ true →
-    slice_index_or new.spans k None ≡ None
-takes_blank k d old new one blank due = search (rules, unwrap_or-slice_get new.spans k None, unwrap_or-slice_get old.spans k None, blank)
 
 -- the groups of an expression are dropped, and forgotten
 dropped : (t : Tree) (k : ℕ) (g : SpansOfGroups) → (slice_get (forget t g) k ≡ lay (slice_get g k) (deed (has_group t k) None)) × ((s : GroupState) → Takes k (deed (has_group t k) None) s (drop_groups t s))

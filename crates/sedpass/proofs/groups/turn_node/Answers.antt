@@ -1,6 +1,5 @@
 use Rattle.sedpass.proofs.Words.{rules, ◌≡◌, ℕ, ◌+◌, ◌≤◌, Option, Some, refl, sym, subst, inl, ◌∙◌, Alt, Star, Opt, HasBlank, NoneSettled, known_groups, spans_in, last_of, settle, arith, length, ◌<◌, ◌↔◌, IsTrue, IsCounted, TakesAtLeast, CostsWithin, HasSpan, one_start, KeepsGroupDesk, SameKept, nodes_in, subject_text, owed_region}
-use Rattle.sedpass.proofs.DecideLemmas.{flags_at, found_set, settled}
-use Rattle.sedpass.proofs.OneGroupLemmas.{settle-not, settle_takes, takes_blank}
+use Rattle.sedpass.proofs.DecideLemmas.{flags_at, settled}
 use Rattle.sedpass.proofs.TurnLemmas.{alt_turned, group_turned, leaf_turned, opt_done, opt_turned, part_inside, seq_turned, star_done, star_turned}
 use Rattle.sedpass.proofs.groups.turn_node.Goals as goal
 use Rattle.sedpass.proofs.groups.turn_node.Goals.{In-Alt, Joined-spans, then-has, else-has, then-here, else-here}
@@ -67,16 +66,10 @@ settled_in : (c : goal.After-index-node-in-Group) → HasBlank c.if-has.decided
     × (known_groups c.if-has.decided ≡ settle c.in-Group.k (Some (c.args.here.start, c.args.here.stop)) (known_groups c.args.decided.now))
     × (spans_in c.if-has.decided.spans ≤ spans_in c.args.decided.now.spans + 1)
 settled_in c =
-    let t = c.args.decided.now in
-    let k = c.in-Group.k in
     let span : Option (ℕ × ℕ) = Some (c.args.here.start, c.args.here.stop) in
     elim c.if-has.branch [
-      | then-has w ↦
-          let left = w.without-decided in
-          let state = settled t w.one.result left.result k span c.requires.decided.whole (search rules) w.one.ensures left.ensures in
-          let blank = λ (n : ℕ). takes_blank n _ (known_groups t) _ (settle_takes k n span (known_groups t)) (c.requires.decided.blank n) in
-          rw w.decided-is (record { blank = subst NoneSettled (sym state) blank; whole = search (rules, left.ensures 0, c.requires.decided.whole) }, state, found_set t.spans k span)
-      | else-has w ↦ search (rules, settle-not k span (known_groups t), flags_at t.due k, w.decided-is)
+      | then-has w ↦ rw w.decided-is (settled c.args.decided.now w.one.result w.without-decided.result c.in-Group.k span c.requires.decided (search rules) w.one.ensures w.without-decided.ensures)
+      | else-has w ↦ search (rules, flags_at c.args.decided.now.due c.in-Group.k, w.decided-is)
     ]
 
 pub returns-after-has-clause-turned : goal.returns-after-has-clause-turned
