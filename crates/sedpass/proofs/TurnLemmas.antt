@@ -1,6 +1,7 @@
 -- What comes in place of a node, by its kind.
-use Rattle.sedpass.proofs.Words.{rules, ◌≡◌, ℕ, ◌+◌, ◌-◌, ◌*◌, ◌<◌, ◌≤◌, ◌⊎◌, Bool, List, [], ◌∷◌, length, None, Some, IsTrue, refl, sym, ap, inl, inr, arith, tree_of, tree_at, size, IsPart, Takes, TakesAtLeast, Node, NodeId, Seq, Alt, Group, Star, Opt, tree_at-node, HasSpan, LastCut, parts_of, total_size, Matches, open_at, group_depth, CostsWithin, Matches-forward, size-parts, size-pos, Matched, Apart, Forget, Done, One, Two, Region, Subject, EndsRegion, HasNoKnownLength, IsCopyFrom, LooksAt, NodeTurned, match_cost, nodes_in, subject_text, NodeMatches, IsTurn, entered_at, owed_region, all_of, last_of, GroupState, settle, drop_groups, WalkEnters}
+use Rattle.sedpass.proofs.Words.{rules, ◌≡◌, ℕ, ◌+◌, ◌-◌, ◌*◌, ◌<◌, ◌≤◌, ◌⊎◌, Bool, List, [], ◌∷◌, length, None, Some, IsTrue, refl, sym, ap, inl, inr, arith, tree_of, tree_at, size, IsPart, Takes, TakesAtLeast, Node, NodeId, Seq, Alt, Group, Star, Opt, tree_at-node, HasSpan, LastCut, parts_of, total_size, Matches, open_at, group_depth, CostsWithin, Matches-forward, size-parts, size-pos, Matched, Apart, Forget, Done, One, Two, Region, Subject, EndsRegion, HasNoKnownLength, IsCopyFrom, LooksAt, NodeTurned, IsLastIn, match_cost, nodes_in, subject_text, NodeMatches, IsTurn, entered_at, owed_region, all_of, last_of, GroupState, settle, drop_groups, WalkEnters}
 use Rattle.sedpass.proofs.OneGroupLemmas.{copy_spans}
+use Rattle.sedpass.proofs.MeetingLemmas.{part_within}
 use Rattle.sedpass.proofs.OwedLemmas.{begun_paid, copy_paid, inner_paid, parts_paid}
 
 match_some : (nodes : List Node) (r : Region) (here : Matched) → 2 ≤ match_cost nodes r here
@@ -160,3 +161,17 @@ opt_done s here a first state r before after stands le not cost =
       cost = λ some. omega (arith, cost, match_some (nodes_in s) r here);
       looks = tt;
     }
+
+-- the parts of a node that is last in a region
+pub seq_within : (s : Subject) (here : Matched) (a b : NodeId) (r : ℕ) → NodeMatches s here (Seq a b) → IsLastIn (nodes_in s) r here.node → (a.index < length (nodes_in s)) × (b.index < length (nodes_in s)) × (a.index ≤ r)
+seq_within s here a b r stands last =
+    (part_inside s here (Seq a b) stands a.index (inl refl), part_inside s here (Seq a b) stands b.index (inr refl), (part_within (nodes_in s) (subject_text s) r here.node a.index (Seq a b) stands.arena last stands.is (inl refl)).1)
+
+pub star_within : (s : Subject) (here : Matched) (a : NodeId) (first : Bool) (r : ℕ) → NodeMatches s here (Star a first) → IsLastIn (nodes_in s) r here.node → (a.index < length (nodes_in s)) × (a.index ≤ r)
+star_within s here a first r stands last = part_within (nodes_in s) (subject_text s) r here.node a.index (Star a first) stands.arena last stands.is refl
+
+pub alt_inside : (s : Subject) (here : Matched) (a b : NodeId) → NodeMatches s here (Alt a b) → a.index < length (nodes_in s)
+alt_inside s here a b stands = part_inside s here (Alt a b) stands a.index (inl refl)
+
+pub opt_inside : (s : Subject) (here : Matched) (a : NodeId) (first : Bool) → NodeMatches s here (Opt a first) → a.index < length (nodes_in s)
+opt_inside s here a first stands = part_inside s here (Opt a first) stands a.index refl

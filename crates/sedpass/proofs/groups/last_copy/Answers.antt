@@ -6,12 +6,6 @@ use Rattle.sedpass.proofs.TurnLemmas.{opened, part_inside}
 use Rattle.sedpass.proofs.groups.last_copy.Goals.{After-cut-end}
 use Rattle.sedpass.proofs.groups.last_copy.Goals as goal
 
-pub is_null-copy-requires : goal.is_null-copy-requires
-is_null-copy-requires c = record { inside = rw c.index-part.ensures (part_inside c.args.subject c.args.here (Star c.args.a c.args.first) c.requires.stands c.args.a.index refl) }
-
-pub facts-requires : goal.facts-requires
-facts-requires c = rw c.index-part.ensures (part_inside c.args.subject c.args.here (Star c.args.a c.args.first) c.requires.stands c.args.a.index refl)
-
 pub overflow_sub-result : goal.overflow_sub-result
 overflow_sub-result c =
     omega (arith, (copy_fixed c.args.subject c.args.here c.args.a c.args.first _ c.in-Some.length _ c.requires.stands (omega (arith, c.requires.stands.there.up, c.if-here.false)) c.index-part.ensures c.facts.ensures.facts c.in-Some.is).0)
@@ -23,9 +17,6 @@ returns-in-Some-clause-copy c =
 
 pub copies-init : goal.copies-init
 copies-init c = search (rules, opened c.args.subject c.args.here (Star c.args.a c.args.first) c.requires.stands, least_none)
-
-pub cut-end-requires-clause-a : goal.cut-end-requires-clause-a
-cut-end-requires-clause-a c = rw c.index-part.ensures (part_within (nodes_in c.args.subject) (subject_text c.args.subject) c.copies.kept.region.root c.args.here.node c.args.a.index (Star c.args.a c.args.first) c.requires.stands.arena c.copies.invariant.ends.0 c.requires.stands.is refl).1
 
 -- the end of the next copy
 next : (c : After-cut-end) → NextCopy (HasSpan (nodes_in c.args.subject) (subject_text c.args.subject) c.args.a.index) c.copies.end c.args.here.stop c.cut-end.result

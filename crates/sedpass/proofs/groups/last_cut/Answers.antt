@@ -11,17 +11,11 @@ use Rattle.sedpass.proofs.groups.last_cut.Goals as goal
 pub returns-then-here-clause-cut : goal.returns-then-here-clause-cut
 returns-then-here-clause-cut c = search (rules, opened c.args.subject c.args.here (Seq c.args.a c.args.b) c.requires.stands, Matches-forward)
 
-pub facts-known-requires : goal.facts-known-requires
-facts-known-requires c = rw c.index-left.ensures (part_inside c.args.subject c.args.here (Seq c.args.a c.args.b) c.requires.stands c.args.a.index (inl refl))
-
 pub after-requires : goal.after-requires
 after-requires c = omega (arith, (left_fixed c.args.subject c.args.here c.args.a c.args.b _ c.in-Some.length _ c.requires.stands c.index-left.ensures c.facts-known.ensures.facts c.in-Some.is).0)
 
 pub returns-in-Some-clause-cut : goal.returns-in-Some-clause-cut
 returns-in-Some-clause-cut c = rw c.after.ensures (left_fixed c.args.subject c.args.here c.args.a c.args.b _ c.in-Some.length _ c.requires.stands c.index-left.ensures c.facts-known.ensures.facts c.in-Some.is).1
-
-pub facts-requires : goal.facts-requires
-facts-requires c = rw c.index.ensures (part_inside c.args.subject c.args.here (Seq c.args.a c.args.b) c.requires.stands c.args.b.index (inr refl))
 
 pub overflow_sub-result : goal.overflow_sub-result
 overflow_sub-result c =
@@ -29,9 +23,6 @@ overflow_sub-result c =
 
 pub returns-in-Some-length-clause-cut : goal.returns-in-Some-length-clause-cut
 returns-in-Some-length-clause-cut c = (right_fixed c.args.subject c.args.here c.args.a c.args.b _ c.in-Some-length.length _ c.requires.stands c.index.ensures c.facts.ensures.facts c.in-Some-length.is).1
-
-pub seek-requires-clause-x : goal.seek-requires-clause-x
-seek-requires-clause-x c = search (rules, slice_get_within, c.facts-known.ensures.run)
 
 pub returns-in-Some-run-clause-cut : goal.returns-in-Some-run-clause-cut
 returns-in-Some-run-clause-cut c =
@@ -70,18 +61,12 @@ takes_byte c =
     let marked = rw (c.index-left.ensures, there) at c.marks.ensures.marked in
     (λ h. meets.1 (marked.0 h), λ h. marked.1 (meets.0 h))
 
-pub marks-requires-clause-x : goal.marks-requires-clause-x
-marks-requires-clause-x c = rw c.index-left.ensures (part_inside c.args.subject c.args.here (Seq c.args.a c.args.b) c.requires.stands c.args.a.index (inl refl))
-
 pub returns-then-not-marks-clause-cut : goal.returns-then-not-marks-clause-cut
 returns-then-not-marks-clause-cut c =
     let at = c.requires in
     let here = (goal.at.returns-then-not-marks-clause-cut c).After-marks in
     stops_at_cut _ _ _ c.args.here.stop c.args.here.node c.args.a c.args.b at.stands.arena at.ends.0 at.stands.is c.args.here.start c.args.here.start at.stands.there.at
     (omega arith, λ q low before. absurd (omega arith), λ met. search (rules, (takes_byte here).1 met))
-
-pub cut-requires-clause-a : goal.cut-requires-clause-a
-cut-requires-clause-a c = rw (c.index-left.ensures, c.marks.ensures.keeps.same.root) (part_within (nodes_in c.args.subject) (subject_text c.args.subject) c.args.kept.now.region.root c.args.here.node c.args.a.index (Seq c.args.a c.args.b) c.requires.stands.arena c.requires.ends.0 c.requires.stands.is (inl refl)).1
 
 -- where the passes cease to meet
 ceases : (c : After-cut) → CeasesAt (nodes_in c.args.subject) (subject_text c.args.subject) c.args.kept.now.region.root (one_start c.args.here.stop) c.args.a.index c.args.here.start c.cut.result

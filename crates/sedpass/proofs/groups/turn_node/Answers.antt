@@ -12,15 +12,6 @@ returns-in-Seq-clause-turned c =
     rw (c.in-Seq.is, c.index-node.ensures, c.index-node-in-Seq.ensures)
     (seq_turned _ _ _ _ _ _ _ _ _ _ (rw c.in-Seq.is at c.requires.at).stands (search rules) cut.cut cut.cost cut.counts)
 
-left_inside : (c : In-Alt) → c.in-Alt.a.index < length (nodes_in c.args.subject)
-left_inside c = part_inside c.args.subject c.args.here (Alt c.in-Alt.a c.in-Alt.b) (rw c.in-Alt.is at c.requires.at).stands c.in-Alt.a.index (inl refl)
-
-pub is_null-spans-requires : goal.is_null-spans-requires
-is_null-spans-requires c = search (rules, c.index-left.ensures, left_inside (goal.at.is_null-spans-requires c).In-Alt)
-
-pub marks-spans-requires-clause-x : goal.marks-spans-requires-clause-x
-marks-spans-requires-clause-x c = search (rules, c.index-left.ensures, left_inside (goal.at.marks-spans-requires-clause-x c).In-Alt)
-
 -- whether it matches, in what was looked at
 looked : (c : Joined-spans) → (IsTrue c.if-here.spans ↔ HasSpan (nodes_in c.args.subject) (subject_text c.args.subject) c.in-Alt.a.index c.args.here.start c.args.here.stop)
     × KeepsGroupDesk c.args.subject c.args.tables.now c.if-here.tables c.args.kept.now c.if-here.kept × SameKept c.args.kept.now c.if-here.kept
@@ -81,11 +72,6 @@ returns-after-has-clause-decided c = (settled_in c).0
 pub returns-after-has-clause-few : goal.returns-after-has-clause-few
 returns-after-has-clause-few c = (settled_in c).2
 
-pub begin-requires-clause-root : goal.begin-requires-clause-root
-begin-requires-clause-root c =
-    let there = rw c.in-Star.is at c.requires.at in
-    search (rules, part_inside c.args.subject c.args.here (Star c.in-Star.a c.in-Star.first) there.stands c.in-Star.a.index refl, c.last_copy.ensures.desk.desk.one_end)
-
 pub returns-in-None-clause-turned : goal.returns-in-None-clause-turned
 returns-in-None-clause-turned c = rw c.in-Star.is (star_done _ _ _ _ _ _ _ _ _ (rw c.in-Star.is at c.requires.at).stands c.in-None.ensures.copy c.last_copy.ensures.cost c.last_copy.ensures.counts)
 
@@ -94,19 +80,6 @@ returns-in-Some-clause-turned c =
     let last = c.last_copy.ensures in
     rw (c.in-Star.is, c.index-node-in-Some.ensures)
     (star_turned _ _ _ _ _ _ _ _ _ _ (rw c.in-Star.is at c.requires.at).stands c.in-Some.ensures.copy (c.begin.ensures.root ∙ c.index-node-in-Some.ensures) c.begin.ensures.end last.cost last.counts)
-
-pub returns-in-Some-clause-desk : goal.returns-in-Some-clause-desk
-returns-in-Some-clause-desk c =
-    let last = c.last_copy.ensures.desk in
-    let shape = last.shape in
-    record {
-      desk = record { region = c.begin.ensures.kept; one_end = last.desk.one_end; forward_part = last.desk.forward_part };
-      shape = record { forward_any = shape.forward_any; forward_one = shape.forward_one; reverse_one = shape.reverse_one; forward_part = shape.forward_part };
-      space = space_then _ _ _ last.space c.begin.ensures.space;
-    }
-
-pub is_null-requires : goal.is_null-requires
-is_null-requires c = search (rules, part_inside c.args.subject c.args.here (Opt c.in-Opt.a c.in-Opt.first) (rw c.in-Opt.is at c.requires.at).stands c.in-Opt.a.index refl)
 
 pub returns-then-is_null-clause-turned : goal.returns-then-is_null-clause-turned
 returns-then-is_null-clause-turned c =
