@@ -10,21 +10,17 @@ live_place from to i above before = search rules
 -- What is made again.
 
 again_falls : (m c d : ℕ) → c ≤ d → again m c ≤ again m d
-again_falls m zero d up = omega arith
-again_falls m (suc c) zero up = absurd (omega arith)
-again_falls m (suc c) (suc d) up = omega (arith, mul-le-mul_left (59 * m) up)
+again_falls m c d up = grind (arith, mul-le-mul_left (59 * m) up)
 
 again_few : (m d : ℕ) → again m d ≤ 59 * m * d + 13 * m
-again_few m zero = omega arith
-again_few m (suc d) = omega arith
+again_few m d = grind arith
 
 again_small : (m d : ℕ) → again m d ≤ 100 * m * d
 again_small m zero = omega arith
 again_small m (suc d) = omega arith
 
 again_some : (m d : ℕ) → 1 ≤ d → again m d ≡ 59 * m * d + 13 * m
-again_some m zero some = absurd (omega arith)
-again_some m (suc d) some = refl
+again_some m d some = grind arith
 
 -- a block up to another one, or up to the region's end
 again_paid : (m d e s t a : ℕ) → 1 ≤ d → a ≤ s + 33 * m → (1 ≤ e → a ≤ s + 20 * m) → t ≤ a + 35 * m * d → t + again m e ≤ s + again m (d + e)
@@ -103,5 +99,4 @@ parts_paid m (suc d) a b start k stop owed less p q n s t some left right low hi
 
 -- the last copy of a repetition, in a region of its own
 pub copy_paid : (m a long short owed x p q s t : ℕ) → 1 ≤ deeper a → short ≤ long → x ≤ 172 * m * a * short + 2 * p → p + 1 ≤ q → t ≤ s + (owed + 72 * m * long + 1) → t + (x + 1) ≤ s + (region_cost m (deeper a) long owed + 2 * q)
-copy_paid m zero long short owed x p q s t some less begun fewer paid = absurd (omega arith)
-copy_paid m (suc a) long short owed x p q s t some less begun fewer paid = omega (arith, begun, fewer, paid, mul-le-mul_left (172 * m * suc a) less)
+copy_paid m a long short owed x p q s t some less begun fewer paid = grind (arith, mul-le-mul_left (172 * m * a) less)
