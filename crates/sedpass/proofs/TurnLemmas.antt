@@ -4,9 +4,6 @@ use Rattle.sedpass.proofs.OneGroupLemmas.{copy_spans}
 use Rattle.sedpass.proofs.MeetingLemmas.{part_within}
 use Rattle.sedpass.proofs.OwedLemmas.{begun_paid, copy_paid, inner_paid, parts_paid}
 
-match_some : (nodes : List Node) (r : Region) (here : Matched) → 2 ≤ match_cost nodes r here
-match_some nodes r here = omega (arith, size-pos (tree_at nodes here.node))
-
 -- nothing comes in place of the node
 pub done_turn : (s : Subject) (here : Matched) (old new : GroupState) (n : ℕ) → WalkEnters (tree_at (nodes_in s) here.node) (subject_text s) here.start here.stop old new n → IsTurn s here old new Done n
 done_turn s here old new n walk = search (rules, size-pos)
@@ -89,10 +86,8 @@ pub alt_turned : (s : Subject) (here : Matched) (a b : NodeId) (c : ℕ) (state 
 alt_turned s here a b c state r r' before after stands ends which cost looks =
     let part : IsPart (Alt a b) c = search rules in
     let at : HasSpan (nodes_in s) (subject_text s) c here.start here.stop = search (rules, opened s here (Alt a b) stands) in
-    let go : (mid : GroupState) (m : ℕ) → WalkEnters (tree_at (nodes_in s) c) (subject_text s) here.start here.stop state mid m →
-    WalkEnters (tree_of (tree_at (nodes_in s)) (Alt a b)) (subject_text s) here.start here.stop state mid (1 + m) = λ mid m go. search rules in
     let turn : IsTurn s here state state (One (record { node = c; start = here.start; stop = here.stop })) 1 = record {
-      run = λ rest f m run. (run.0, 1 + run.1, run.2, close_walk s here (Alt a b) stands state run.0 _ (go run.0 run.1 run.3), run.4, omega (arith, run.5));
+      run = λ rest f m run. (run.0, 1 + run.1, run.2, close_walk s here (Alt a b) stands state run.0 _ (search (rules, run.3)), run.4, omega (arith, run.5));
       ready = search (rules, part_inside s here (Alt a b) stands c part);
       less = search (rules, long s here (Alt a b) stands);
     } in
@@ -155,12 +150,7 @@ opt_turned s here a first state r before after stands ends which cost =
 pub opt_done : (s : Subject) (here : Matched) (a : NodeId) (first : Bool) (state : GroupState) (r : Region) (before after : ℕ) → NodeMatches s here (Opt a first) → here.stop ≤ here.start →
     ((IsTrue first × HasSpan (nodes_in s) (subject_text s) a.index here.start here.start) → ⊥) → Takes before after 1 → NodeTurned s here (Opt a first) state state r r Done before after
 opt_done s here a first state r before after stands le not cost =
-    record {
-      turn = search (rules, done_turn s here state state 1, close_walk s here (Opt a first) stands state state 1);
-      goes = tt;
-      cost = λ some. omega (arith, cost, match_some (nodes_in s) r here);
-      looks = tt;
-    }
+    search (rules, done_turn s here state state 1, close_walk s here (Opt a first) stands state state 1, size-pos (tree_at (nodes_in s) here.node))
 
 -- the parts of a node that is last in a region
 pub seq_within : (s : Subject) (here : Matched) (a b : NodeId) (r : ℕ) → NodeMatches s here (Seq a b) → IsLastIn (nodes_in s) r here.node → (a.index < length (nodes_in s)) × (b.index < length (nodes_in s)) × (a.index ≤ r)
