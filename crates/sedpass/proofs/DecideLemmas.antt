@@ -115,17 +115,13 @@ run_within (suc n) nodes arena ranges x c low inside decided =
     by (λ y less. run_within n nodes arena ranges y c (omega arith) (omega arith)) there.0 there.1 decided
   where
     by : ((y : ℕ) → y < x → repeated_set (tree_at nodes y) y ≡ Some c → IsRun nodes y c) → (m : Node) → slice_get nodes x ≡ Some m → repeated_set (tree_at nodes x) x ≡ Some c → IsRun nodes x c
-    by below (Group k a) is =
-        let next : a.index + 1 ≡ x = ranges x (Group k a) is in
-        rw (tree_at-node nodes x (Group k a) arena is) (λ h.
-        let inner = below a.index (omega arith) (search rules) in
-        (in_group x k a is inner.0, inner.1))
-    by below (Star a first) is =
-        let next : a.index + 1 ≡ x = ranges x (Star a first) is in
-        rw (tree_at-node nodes x (Star a first) arena is) (λ h.
-        let here : a.index ≡ c = search rules in
-        (repeated x (a, first, is, here), rw (← here) (is_set_at nodes arena a.index (omega arith) (search rules))))
-    by below other is = rw (tree_at-node nodes x other arena is) (λ h. cc)
+    by below (Group k a) is h =
+        let inner : IsRun nodes a.index c = search (rules, ranges x (Group k a) is, tree_at-node nodes x (Group k a) arena is, below a.index) in
+        (in_group x k a is inner.0, inner.1)
+    by below (Star a first) is h =
+        let here : (a.index ≡ c) × (is_one_set (tree_at nodes a.index) ≡ true) = search (rules, ranges x (Star a first) is, tree_at-node nodes x (Star a first) arena is) in
+        (repeated x (a, first, is, here.0), rw (← here.0) (is_set_at nodes arena a.index (omega (arith, inside, ranges x (Star a first) is)) here.1))
+    by below other is h = search (rules, tree_at-node nodes x other arena is)
 
 pub run_shown : (nodes : List Node) (groups x : ℕ) (facts : Facts) (run : Option ℕ) → IsExpr nodes groups → x < length nodes → IsFacts (tree_at nodes x) x facts → facts.run ≡ run →
     IfSome run (λ c. IsRunOf nodes c x × IsSetAt nodes c)

@@ -91,5 +91,5 @@ parts_paid m (suc d) a b start k stop owed less p q n s t some left right low hi
     rw (← all) (omega (arith, two, fewer))
 
 -- the last copy of a repetition, in a region of its own
-pub copy_paid : (m a long short owed x p q s t : ℕ) → 1 ≤ deeper a → short ≤ long → x ≤ 172 * m * a * short + 2 * p → p + 1 ≤ q → t ≤ s + (owed + 72 * m * long + 1) → t + (x + 1) ≤ s + (region_cost m (deeper a) long owed + 2 * q)
-copy_paid m a long short owed x p q s t some less begun fewer paid = grind (arith, mul-le-mul_left (172 * m * a) less)
+pub copy_paid : (m d a long short owed x p q s t : ℕ) → 1 ≤ d → d ≡ deeper a → short ≤ long → x ≤ 172 * m * a * short + 2 * p → p + 1 ≤ q → t ≤ s + (owed + 72 * m * long + 1) → t + (x + 1) ≤ s + (region_cost m d long owed + 2 * q)
+copy_paid m d a long short owed x p q s t some is less begun fewer paid = grind (arith, mul-le-mul_left (172 * m * a) less)

@@ -66,14 +66,14 @@ seq_turned s here a b k state r r' before after stands ends cut cost looks =
       less = omega (arith, long s here (Seq a b) stands);
     } in
     let nodes = nodes_in s in
+    let depth = deep s here (Seq a b) stands in
     record {
       turn = turn;
       goes = search (rules, last_of here.node b.index (Seq a b) stands.is refl ends.0);
       cost = λ some. (
         cost.0,
-        rw (deep s here (Seq a b) stands)
-            (parts_paid (length nodes) _ (group_depth (tree_at nodes a.index)) (group_depth (tree_at nodes b.index)) here.start k here.stop (owed_region (length nodes) r here.start) (owed_region (length nodes) r' k)
-            (size (tree_at nodes a.index)) (size (tree_at nodes b.index)) _ before after (rw (deep s here (Seq a b) stands) at some) (omega arith) (omega arith) up on (omega (arith, long s here (Seq a b) stands)) cost.1),
+        parts_paid (length nodes) _ (group_depth (tree_at nodes a.index)) (group_depth (tree_at nodes b.index)) here.start k here.stop (owed_region (length nodes) r here.start) (owed_region (length nodes) r' k)
+            (size (tree_at nodes a.index)) (size (tree_at nodes b.index)) _ before after some (omega (arith, depth)) (omega (arith, depth)) up on (omega (arith, long s here (Seq a b) stands)) cost.1,
       );
       looks = looks;
     }
@@ -112,17 +112,15 @@ pub star_turned : (s : Subject) (here : Matched) (a : NodeId) (first : Bool) (c 
 star_turned s here a first c state r r' before after stands copy root end cost looks =
     let R = HasSpan (nodes_in s) (subject_text s) a.index in
     let spans : (here.start ≤ c) × (c ≤ here.stop) × R c here.stop = search (rules, copy_spans R here.stop here.start c) in
-    let turn = inner_turn s here (Star a first) stands a c state state refl refl spans.0 spans.1 spans.2 (λ mid m walk. search rules) in
     let next : Matched = record { node = a.index; start = c; stop = here.stop } in
     let m = length (nodes_in s) in
     record {
-      turn = turn;
+      turn = inner_turn s here (Star a first) stands a c state state refl refl spans.0 spans.1 spans.2 (λ mid m walk. search rules);
       goes = (all_of a.index (sym root), sym end);
       cost = λ some. (
         cost.0,
-        rw (deep s here (Star a first) stands)
-            (copy_paid m (group_depth (tree_at (nodes_in s) a.index)) (here.stop - here.start) (here.stop - c) (owed_region m r here.start) (match_cost (nodes_in s) r' next) (size (tree_at (nodes_in s) a.index)) _ before after
-            (rw (deep s here (Star a first) stands) at some) (omega (arith, spans.0)) (begun_paid (nodes_in s) r' next end) (omega (arith, long s here (Star a first) stands)) cost.1),
+        copy_paid m _ (group_depth (tree_at (nodes_in s) a.index)) (here.stop - here.start) (here.stop - c) (owed_region m r here.start) (match_cost (nodes_in s) r' next) (size (tree_at (nodes_in s) a.index)) _ before after
+            some (deep s here (Star a first) stands) (omega (arith, spans.0)) (begun_paid (nodes_in s) r' next end) (omega (arith, long s here (Star a first) stands)) cost.1,
       );
       looks = looks;
     }
