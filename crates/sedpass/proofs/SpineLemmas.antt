@@ -30,16 +30,8 @@ pub works_forget : (s : Subject) (x : ℕ) (rest : List GroupTask) (facts : Fact
 unfolding IsCounted TakesAtLeast
 works_forget s x rest facts due old steps ready decided is without =
     let state = dropped (nodes_in s) x facts old due is decided without in
-    record {
-      decided = record { blank = λ k. search (rules, flags_at due k, flags_at old.due k, without k, decided.blank k); whole = search (rules, without 0, decided.whole) };
-      ready = search rules;
-      less = search rules;
-      spent = search rules;
-      n = 0;
-      run = λ f m run. search (rules, state);
-      entered = search rules;
-      counts = search rules;
-    }
+    let blank : HasBlank (record old { due = due }) = record { blank = λ k. search (rules, flags_at due k, flags_at old.due k, without k, decided.blank k); whole = search (rules, without 0, decided.whole) } in
+    search (rules, state)
 
 -- the last task of a stack comes first
 pub popped : (stack rest : List GroupTask) (task : GroupTask) → stack ≡ rest ++ (task ∷ []) → reverse stack ≡ task ∷ reverse rest
