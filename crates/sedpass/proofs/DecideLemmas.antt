@@ -1,7 +1,7 @@
 -- The groups that are given as due, as the state of a decision; what nodes and regions cost.
 use Rattle.sedpass.proofs.Words.{rules, ◌≡◌, ℕ, zero, suc, ◌+◌, ◌-◌, ◌*◌, ◌<◌, ◌≤◌, ◌&&◌, not, Bool, true, false, List, [], ◌∷◌, length, Option, None, Some, IsTrue, refl, sym, ◌∙◌, true≢false, arith, IfSome, eqb, inl, inr, replicate, slice_get, slice_set, slice_index_or, vec_capacity, cases_Bool, cases_eq, eqb_tells, get_or-set_other, cases_lt, and_parts, or_cases, expression_tree, size, group_depth, sequence, either_of, grouped, any_copies, one_or_none, ext_get_or, length-set, mul-le-mul_right, Tree, WrittenExpression, tree_at, IsArena, IsExpr, AreRanges, Node, NodeId, Seq, Group, Star, tree_at-node, LastCut, LastCopy, SpansOfGroups, HasSpan, one_start, node_at, Matches-forward, Decided, GroupSet, Matched, Kept, Subject, Facts, spans_in, flags_of, known_groups, HasBlank, IsAtEnd, HasDesk, AreTables, HasSpace, nodes_in, subject_text, NoneSettled, NodeMatches, SameSpace, ends_shown, IsFacts, is_one_set, repeated_set, reported, holds, IsRunOf, repeated, in_group, IsSetAt, root_of, has_group, settle, drop_groups, NoneDue, IsFirstState, GroupRoom, Tables}
 use Rattle.sedpass.proofs.LengthLemmas.{all_long, copies_long, AllLong}
-use Rattle.sedpass.proofs.OneGroupLemmas.{copy_spans, deed, drop_spans, drop_takes, left, set_due}
+use Rattle.sedpass.proofs.OneGroupLemmas.{copy_spans, deed, drop_spans, drops, left, set_due}
 use Rattle.sedpass.proofs.TurnLemmas.{opened}
 use Rattle.sedpass.proofs.TableLemmas.{same_all}
 
@@ -15,29 +15,20 @@ pub none_due : (nodes : List Node) (x : ℕ) (facts : Facts) (t : Decided) → I
     ((k : ℕ) → IsTrue (holds facts.groups k) → IsTrue (holds t.due k) → ⊥) → NoneDue (tree_at nodes x) (known_groups t)
 none_due nodes x facts t is whole apart k has = grind (arith, cases_eq k 0, cases_Bool (holds t.due k), flags_at t.due k, is.groups k)
 
--- a node with a group is decided in a region at least
-group_deep : (e : Tree) (k : ℕ) → has_group e k ≡ true → 1 ≤ group_depth e
-group_deep (sequence a b) k has = elim (or_cases (has_group a k) (has_group b k) has) [ inl l ↦ grind (arith, group_deep a k l) | inr m ↦ omega (arith, group_deep b k m) ]
-group_deep (either_of a b) k has = elim (or_cases (has_group a k) (has_group b k) has) [ inl l ↦ omega (arith, group_deep a k l) | inr m ↦ omega (arith, group_deep b k m) ]
-group_deep (grouped n a) k has = omega arith
-group_deep (any_copies a first) k has = grind (arith, group_deep a k has)
-group_deep (one_or_none a first) k has = group_deep a k has
-group_deep other k has = cc
-
--- and lies no deeper than there are nodes beside it
-group_small : (e : Tree) → group_depth e + 1 ≤ size e
-group_small (sequence a b) = grind (arith, group_small a, group_small b)
-group_small (either_of a b) = omega (arith, group_small a, group_small b)
-group_small (grouped n a) = omega (arith, group_small a)
-group_small (any_copies a first) = grind (arith, group_small a)
-group_small (one_or_none a first) = omega (arith, group_small a)
-group_small other = omega arith
+-- a node with a group is decided in a region at least, and any lies no deeper than there are nodes beside it
+depths : (e : Tree) (k : ℕ) → (group_depth e + 1 ≤ size e) × (has_group e k ≡ true → 1 ≤ group_depth e)
+depths (sequence a b) k = grind (arith, depths a k, depths b k, or_cases (has_group a k) (has_group b k))
+depths (either_of a b) k = grind (arith, depths a k, depths b k, or_cases (has_group a k) (has_group b k))
+depths (grouped n a) k = grind (arith, depths a k)
+depths (any_copies a first) k = grind (arith, depths a k)
+depths (one_or_none a first) k = grind (arith, depths a k)
+depths other k = search rules
 
 pub depth_few : (e : WrittenExpression) (groups : ℕ) → IsExpr e.nodes groups → group_depth (expression_tree e) + 1 ≤ length e.nodes
-depth_few e groups expr = search (rules, group_small (expression_tree e), expr.sizes (root_of e), expr.arena.nonempty)
+depth_few e groups expr = search (rules, (depths (expression_tree e) 0).0, expr.sizes (root_of e), expr.arena.nonempty)
 
 pub facts_deep : (e : Tree) (x : ℕ) (facts : Facts) (k : ℕ) → IsFacts e x facts → IsTrue (holds facts.groups k) → 1 ≤ group_depth e
-facts_deep e x facts k is has = search (rules, group_deep e k, is.groups k, and_parts)
+facts_deep e x facts k is has = search (rules, (depths e k).1, is.groups k, and_parts)
 
 -- what is due and is not taken is due still
 flags_left : (old other new : GroupSet) (n : ℕ) (x : Bool) (v : Option (ℕ × ℕ)) → holds old 0 ≡ false → holds other n ≡ (reported n && x) → holds new n ≡ (holds old n && not (holds other n)) →
@@ -66,7 +57,7 @@ pub dropped : (nodes : List Node) (x : ℕ) (facts : Facts) (t : Decided) (new :
 dropped nodes x facts t new is before without =
     let e = tree_at nodes x in
     let s = known_groups t in
-    let due = ext_get_or false (flags_of new) (drop_groups e s).due (sym (drop_takes e 0 s).long) (λ k _. flags_left t.due facts.groups new k _ _ before.whole (is.groups k) (without k) ∙ sym (drop_takes e k s).due) in
+    let due = ext_get_or false (flags_of new) (drop_groups e s).due (sym ((drops e 0 []).1 s).long) (λ k _. flags_left t.due facts.groups new k _ _ before.whole (is.groups k) (without k) ∙ sym ((drops e k []).1 s).due) in
     search (rules, drop_spans e s before.blank)
 
 -- to begin with, the groups of the whole expression are due
@@ -100,11 +91,6 @@ copy_fixed s here a first x n facts stands some same is decided =
 
 -- Runs.
 
-is_set_at : (nodes : List Node) → IsArena nodes → (x : ℕ) → x < length nodes → is_one_set (tree_at nodes x) ≡ true → IsSetAt nodes x
-is_set_at nodes arena x inside one =
-    let there = node_at nodes x inside in
-    search (rules, there.1, tree_at-node nodes x there.0 arena there.1)
-
 abbrev IsRun : List Node → ℕ → ℕ → Type 0
 IsRun nodes x c = IsRunOf nodes c x × IsSetAt nodes c
 
@@ -120,7 +106,8 @@ run_within (suc n) nodes arena ranges x c low inside decided =
         (in_group x k a is inner.0, inner.1)
     by below (Star a first) is h =
         let here : (a.index ≡ c) × (is_one_set (tree_at nodes a.index) ≡ true) = search (rules, ranges x (Star a first) is, tree_at-node nodes x (Star a first) arena is) in
-        (repeated x (a, first, is, here.0), rw (← here.0) (is_set_at nodes arena a.index (omega (arith, inside, ranges x (Star a first) is)) here.1))
+        let set = node_at nodes a.index (omega (arith, inside, ranges x (Star a first) is)) in
+        (repeated x (a, first, is, here.0), rw (← here.0) (search (rules, here.1, set.1, tree_at-node nodes a.index set.0 arena set.1)))
     by below other is h = search (rules, tree_at-node nodes x other arena is)
 
 pub run_shown : (nodes : List Node) (groups x : ℕ) (facts : Facts) (run : Option ℕ) → IsExpr nodes groups → x < length nodes → IsFacts (tree_at nodes x) x facts → facts.run ≡ run →

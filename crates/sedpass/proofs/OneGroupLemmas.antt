@@ -49,16 +49,13 @@ pub settle_takes : (n k : ℕ) (v : Span) (s : GroupState) → Takes k (deed (eq
 settle_takes n k v s = grind (arith, eqb_tells n k, cases_Bool (is_due s n), set_due, set_at, length-set)
 
 -- the groups of an expression are dropped, and forgotten
-dropped : (t : Tree) (k : ℕ) (g : SpansOfGroups) → (slice_get (forget t g) k ≡ lay (slice_get g k) (deed (has_group t k) None)) × ((s : GroupState) → Takes k (deed (has_group t k) None) s (drop_groups t s))
-dropped (sequence a b) k g = search (rules, dropped a k g, dropped b k (forget a g))
-dropped (either_of a b) k g = search (rules, dropped a k g, dropped b k (forget a g))
-dropped (grouped n a) k g = search (rules, set_at n k None g, dropped a k (slice_set g n None), settle_takes n k None)
-dropped (any_copies a first) k g = dropped a k g
-dropped (one_or_none a first) k g = dropped a k g
-dropped other k g = search rules
-
-pub drop_takes : (t : Tree) (k : ℕ) (s : GroupState) → Takes k (deed (has_group t k) None) s (drop_groups t s)
-drop_takes t k = (dropped t k []).1
+pub drops : (t : Tree) (k : ℕ) (g : SpansOfGroups) → (slice_get (forget t g) k ≡ lay (slice_get g k) (deed (has_group t k) None)) × ((s : GroupState) → Takes k (deed (has_group t k) None) s (drop_groups t s))
+drops (sequence a b) k g = search (rules, drops a k g, drops b k (forget a g))
+drops (either_of a b) k g = search (rules, drops a k g, drops b k (forget a g))
+drops (grouped n a) k g = search (rules, set_at n k None g, drops a k (slice_set g n None), settle_takes n k None)
+drops (any_copies a first) k g = drops a k g
+drops (one_or_none a first) k g = drops a k g
+drops other k g = search rules
 
 -- what becomes of it as a part is decided and the groups in it are dropped
 abbrev within : Tree → ℕ → Option Span → Option Span
@@ -69,9 +66,9 @@ module _ (k : ℕ) (w : List ℕ) where
   captured : (e : Tree) (i j : ℕ) (g h : SpansOfGroups) → Captures e w i j g h → slice_get h k ≡ lay (slice_get g k) (cond (has_group e k) (slice_get h k) None)
   captured (sequence a b) i j g h c = search (rules, captured a i c.0 g c.2.0 c.2.1, captured b c.0 j c.2.0 h c.2.2)
   captured (either_of a b) i j g h c = search (rules, captured a i j g h, captured b i j g h)
-  captured (grouped n a) i j g h c = search (rules, captured a i j (forget (grouped n a) g) c.0 c.1, dropped (grouped n a) k g, set_at n k (Some (i, j)) c.0)
-  captured (any_copies a first) i j g h c = search (rules, captured a, dropped a k g)
-  captured (one_or_none a first) i j g h c = search (rules, captured a, dropped a k g)
+  captured (grouped n a) i j g h c = search (rules, captured a i j (forget (grouped n a) g) c.0 c.1, drops (grouped n a) k g, set_at n k (Some (i, j)) c.0)
+  captured (any_copies a first) i j g h c = search (rules, captured a, drops a k g)
+  captured (one_or_none a first) i j g h c = search (rules, captured a, drops a k g)
   captured other i j g h c = search rules
 
   -- a walk over the match does the same to what is due: this becomes of entry k, and of group k
@@ -82,12 +79,12 @@ module _ (k : ℕ) (w : List ℕ) where
   both a b i j c g old mid new cut one two = (two.0, (c, cut, (one.0, one.1, two.1)), option_or two.2 one.2, search rules, search rules)
 
   inside : (a e : Tree) (i j c d : ℕ) (g : SpansOfGroups) (old mid new : GroupState) → new ≡ drop_groups a mid → ((h : SpansOfGroups) → Captures a w c d (forget a g) h → Captures e w i j g h) → Ends a c d (forget a g) old mid → Ends e i j g old new
-  inside a e i j c d g old mid new is wrap one = (one.0, wrap one.0 one.1, within a k one.2, search (rules, one.3, dropped a k g), search (rules, one.4, drop_takes a k mid))
+  inside a e i j c d g old mid new is wrap one = (one.0, wrap one.0 one.1, within a k one.2, search (rules, one.3, drops a k g), search (rules, one.4, (drops a k g).1 mid))
 
   enclosed : (n : ℕ) (a : Tree) (i j : ℕ) (g : SpansOfGroups) (old mid new : GroupState) → new ≡ drop_groups a mid → Ends a i j (forget (grouped n a) g) (settle n (Some (i, j)) old) mid → Ends (grouped n a) i j g old new
   enclosed n a i j g old mid new is one =
       let v = Some (i, j) in
-      (slice_set one.0 n v, (one.0, one.1, refl), option_or (deed (eqb n k) v) (within a k one.2), search (rules, one.3, dropped (grouped n a) k g, set_at n k v one.0), search (rules, one.4, settle_takes n k v old, drop_takes a k mid))
+      (slice_set one.0 n v, (one.0, one.1, refl), option_or (deed (eqb n k) v) (within a k one.2), search (rules, one.3, drops (grouped n a) k g, set_at n k v one.0), search (rules, one.4, settle_takes n k v old, (drops a k g).1 mid))
 
   walked : (e : Tree) (i j n : ℕ) (old new : GroupState) → Matches e w i j → WalkEnters e w i j old new n → (g : SpansOfGroups) → Ends e i j g old new
   walked null_string i j n old new spans walk g = (g, refl, None, search rules, search rules)
@@ -132,7 +129,7 @@ walk_report e w i j n old new start spans walk =
 
 -- where what is due has no span, to drop the groups of a tree changes none
 pub drop_spans : (t : Tree) (s : GroupState) → ((k : ℕ) → is_due s k ≡ true → slice_index_or s.spans k None ≡ None) → s.spans ≡ (drop_groups t s).spans
-drop_spans t s blank = same_lists s.spans (drop_groups t s).spans (λ k. search (rules, (drop_takes t k s).span, unwrap_or-slice_get s.spans k None, blank k))
+drop_spans t s blank = same_lists s.spans (drop_groups t s).spans (λ k. search (rules, ((drops t k []).1 s).span, unwrap_or-slice_get s.spans k None, blank k))
 
 -- a walk passes by what has no group that is due
 pub passes_by : (e : Tree) (w : List ℕ) (i j : ℕ) (s : GroupState) → NoneDue e s → WalkEnters e w i j s s 0

@@ -1,5 +1,5 @@
 -- What holds while a spine is followed from node to node, and while tasks wait.
-use Rattle.sedpass.proofs.Words.{rules, ◌≡◌, ℕ, ◌+◌, ◌-◌, ◌≤◌, List, [], ◌∷◌, ◌++◌, ◌&&◌, not, length, reverse, sym, ap, ◌∙◌, subst, arith, AllByRecursion, reverse-append, tree_at, Node, size-pos, GroupSet, Matched, GroupTask, Apart, Forget, Done, One, Two, Decided, Facts, Region, Subject, group_depth, CostsWithin, Takes, IsCounted, TakesAtLeast, known_groups, spans_in, HasBlank, NoneSettled, IsTurn, NodeTurned, Works, match_cost, tasks_cost, then_cost, nodes_in, subject_text, weights, tasks_after, entered_at, IsTaskReady, IsFacts, holds, NoneDue, Then}
+use Rattle.sedpass.proofs.Words.{rules, ◌≡◌, ℕ, ◌+◌, ◌-◌, ◌≤◌, List, [], ◌∷◌, ◌++◌, ◌&&◌, not, length, reverse, sym, ap, ◌∙◌, subst, arith, AllByRecursion, length-reverse, reverse-append, tree_at, Node, size-pos, GroupSet, Matched, GroupTask, Apart, Forget, Done, One, Two, Decided, Facts, Region, Subject, group_depth, CostsWithin, Takes, IsCounted, TakesAtLeast, known_groups, spans_in, HasBlank, NoneSettled, IsTurn, NodeTurned, Works, match_cost, tasks_cost, then_cost, nodes_in, subject_text, weights, tasks_after, entered_at, IsTaskReady, IsFacts, holds, NoneDue, Then}
 use Rattle.sedpass.proofs.DecideLemmas.{dropped, flags_at}
 use Rattle.sedpass.proofs.OneGroupLemmas.{passes_by}
 use Rattle.sedpass.proofs.TurnLemmas.{done_turn}
@@ -48,6 +48,9 @@ after_parts nodes w r (Two next later) rest more ready others = search rules
 pub no_more : (nodes : List Node) (tasks : List GroupTask) → length tasks ≤ weights nodes tasks
 no_more nodes [] = omega arith
 no_more nodes (x ∷ tasks) = search (rules, no_more nodes tasks, size-pos)
+
+-- so there is room for a task more
+pub ruleset waiting = (no_more, length-reverse, size-pos)
 
 -- a node of which no group is due
 pub works_left : (s : Subject) (here : Matched) (rest : List GroupTask) (old : Decided) (paid owed steps : ℕ) → owed ≤ paid → AllByRecursion (IsTaskReady (nodes_in s) (subject_text s)) (Apart here ∷ rest) →

@@ -1,6 +1,7 @@
 -- What comes in place of a node, by its kind.
-use Rattle.sedpass.proofs.Words.{rules, ◌≡◌, ℕ, ◌+◌, ◌-◌, ◌*◌, ◌<◌, ◌≤◌, ◌⊎◌, Bool, List, [], ◌∷◌, length, None, Some, IsTrue, refl, sym, ap, inl, inr, arith, tree_of, tree_at, size, IsPart, Takes, TakesAtLeast, Node, NodeId, Seq, Alt, Group, Star, Opt, tree_at-node, HasSpan, LastCut, parts_of, total_size, Matches, open_at, group_depth, CostsWithin, Matches-forward, size-parts, size-pos, Matched, Apart, Forget, Done, One, Two, Region, Subject, EndsRegion, HasNoKnownLength, IsCopyFrom, LooksAt, NodeTurned, IsLastIn, match_cost, nodes_in, subject_text, NodeMatches, IsTurn, entered_at, owed_region, all_of, last_of, GroupState, settle, drop_groups, WalkEnters}
+use Rattle.sedpass.proofs.Words.{rules, ◌≡◌, ℕ, ◌+◌, ◌-◌, ◌*◌, ◌<◌, ◌≤◌, ◌⊎◌, Bool, List, [], ◌∷◌, length, None, Some, IsTrue, refl, sym, ap, inl, inr, arith, tree_of, tree_at, size, IsPart, Takes, TakesAtLeast, Node, NodeId, Seq, Alt, Group, Star, Opt, tree_at-node, HasSpan, LastCut, parts_of, total_size, Matches, open_at, group_depth, CostsWithin, Matches-forward, size-parts, size-pos, Matched, Apart, Forget, Done, One, Two, Region, Subject, EndsRegion, HasNoKnownLength, IsCopyFrom, LooksAt, NodeTurned, IsLastIn, one_start, match_cost, nodes_in, subject_text, NodeMatches, IsTurn, entered_at, owed_region, all_of, last_of, GroupState, settle, drop_groups, WalkEnters}
 use Rattle.sedpass.proofs.OneGroupLemmas.{copy_spans}
+use Rattle.sedpass.proofs.LeaveLemmas.{last_inside}
 use Rattle.sedpass.proofs.MeetingLemmas.{part_within}
 use Rattle.sedpass.proofs.OwedLemmas.{begun_paid, copy_paid, inner_paid, parts_paid}
 
@@ -13,7 +14,7 @@ module _ (s : Subject) (here : Matched) (node : Node) (stands : NodeMatches s he
   pub opened : Matches (tree_of (tree_at (nodes_in s)) node) (subject_text s) here.start here.stop
   opened = open_at (nodes_in s) (subject_text s) here.node node stands.arena stands.is here.start here.stop stands.there.at
 
-  pub part_inside : (c : ℕ) → IsPart node c → c < length (nodes_in s)
+  part_inside : (c : ℕ) → IsPart node c → c < length (nodes_in s)
   part_inside c part = search rules
 
   long : size (tree_at (nodes_in s) here.node) ≡ 1 + total_size (nodes_in s) (parts_of node)
@@ -151,9 +152,9 @@ opt_done s here a first state r before after stands le not cost =
     search (rules, done_turn s here state state 1, close_walk s here (Opt a first) stands state state 1, size-pos (tree_at (nodes_in s) here.node))
 
 -- the parts of a node that is last in a region
-pub seq_within : (s : Subject) (here : Matched) (a b : NodeId) (r : ℕ) → NodeMatches s here (Seq a b) → IsLastIn (nodes_in s) r here.node → (a.index < length (nodes_in s)) × (b.index < length (nodes_in s)) × (a.index ≤ r)
+pub seq_within : (s : Subject) (here : Matched) (a b : NodeId) (r : ℕ) → NodeMatches s here (Seq a b) → IsLastIn (nodes_in s) r here.node → (a.index < length (nodes_in s)) × (b.index < length (nodes_in s)) × (a.index < r)
 seq_within s here a b r stands last =
-    (part_inside s here (Seq a b) stands a.index (inl refl), part_inside s here (Seq a b) stands b.index (inr refl), (part_within (nodes_in s) (subject_text s) r here.node a.index (Seq a b) stands.arena last stands.is (inl refl)).1)
+    search (rules, last_inside (nodes_in s) (subject_text s) r (one_start 0) stands.arena here.node last, stands.arena.below here.node a.index (Seq a b) stands.is, stands.arena.below here.node b.index (Seq a b) stands.is)
 
 pub star_within : (s : Subject) (here : Matched) (a : NodeId) (first : Bool) (r : ℕ) → NodeMatches s here (Star a first) → IsLastIn (nodes_in s) r here.node → (a.index < length (nodes_in s)) × (a.index ≤ r)
 star_within s here a first r stands last = part_within (nodes_in s) (subject_text s) r here.node a.index (Star a first) stands.arena last stands.is refl

@@ -26,9 +26,8 @@ all-preserved c =
 
 pub returns : goal.returns
 returns c =
-    let s = c.args.subject in
-    let e = s.prepared.now in
-    let w = subject_text s in
+    let e = c.args.subject.prepared.now in
+    let w = subject_text c.args.subject in
     let i = c.args.start in
     let j = c.args.stop in
     let last = known_groups c.all.decided in
@@ -38,12 +37,11 @@ returns c =
     let run = works.run last 0 (refl, refl) in
     let walk : WalkEnters (expression_tree e) w i j begun last run.1 = search (rules, run.3, run.4) in
     let start = starts_due (expression_tree e) (root_of e) i j c.facts.result (rw c.root-node.ensures.value at c.facts.ensures.facts) in
-    let expr = c.root-node.ensures.expr in
     record {
       report = walk_report (expression_tree e) w i j run.1 begun last start c.requires.spans walk;
       tasks = search rules;
       room = search rules;
-      cost = search (rules, works.spent, expr.sizes (root_of e), expr.arena.nonempty);
+      cost = search (rules, works.spent, c.root-node.ensures.expr.sizes (root_of e), c.root-node.ensures.expr.arena.nonempty);
       counts = search rules;
       entered = (begun, start, record { last = last; n = run.1; walk = walk; counts = search (rules, least_less c.args.steps.now c.all.steps works.n, run.5) });
     }

@@ -7,29 +7,16 @@ use Rattle.sedpass.proofs.groups.spine.Goals.{After-turn_node}
 use Rattle.sedpass.proofs.groups.spine.Goals as goal
 
 pub nodes-init : goal.nodes-init
-nodes-init c =
-    let s = c.args.subject in
-    let rest = reverse c.args.room.now.tasks.items in
-    search (
-      rules,
-      all_of,
-      begun_paid (nodes_in s) c.begin.new.self.region c.args.here,
-      works_none s (Apart c.args.here ∷ rest) c.args.decided.now (tasks_cost (nodes_in s) (Apart c.args.here ∷ rest))
-          (match_cost (nodes_in s) c.begin.new.self.region c.args.here + tasks_cost (nodes_in s) rest) c.args.steps.now,
-    )
-
-pub push_reserved-requires : goal.push_reserved-requires
-push_reserved-requires c = search (rules, length-reverse, c.nodes.invariant.works.less, no_more (nodes_in c.args.subject) (Apart c.nodes.at ∷ reverse c.nodes.room.tasks.items))
+nodes-init c = search (rules, all_of, begun_paid (nodes_in c.args.subject) c.begin.new.self.region c.args.here, works_none)
 
 -- the match is done as far as what comes in its place
 turned : (c : After-turn_node) → Works c.args.subject (Apart c.nodes.at ∷ reverse c.nodes.room.tasks.items) c.nodes.decided (tasks_after c.turn_node.result ++ reverse c.nodes.room.tasks.items) c.turn_node.new.decided 1
     (match_cost (nodes_in c.args.subject) c.nodes.room.kept.region c.nodes.at + tasks_cost (nodes_in c.args.subject) (reverse c.nodes.room.tasks.items))
     (then_cost (nodes_in c.args.subject) c.turn_node.new.kept.region c.turn_node.result (tasks_cost (nodes_in c.args.subject) (reverse c.nodes.room.tasks.items))) c.nodes.steps c.turn_node.new.steps
 turned c =
-    let done = c.turn_node.ensures in
     let both = c.meets.ensures.0 c.if-not-meets.false in
-    let some = facts_deep _ _ c.facts.result both.0 c.facts.ensures.facts both.1 in
-    works_turn _ _ _ _ _ _ _ _ _ _ _ _ _ c.nodes.invariant.works.ready c.look-node.ensures.cost.1 c.look-node.ensures.cost.0 done.turned some done.decided done.few
+    works_turn _ _ _ _ _ _ _ _ _ _ _ _ _ c.nodes.invariant.works.ready c.look-node.ensures.cost.1 c.look-node.ensures.cost.0 c.turn_node.ensures.turned
+    (facts_deep _ _ c.facts.result both.0 c.facts.ensures.facts both.1) c.turn_node.ensures.decided c.turn_node.ensures.few
 
 pub returns-then-not-meets-clause-works : goal.returns-then-not-meets-clause-works
 returns-then-not-meets-clause-works c =
@@ -64,4 +51,4 @@ nodes-preserved c =
     }
 
 pub returns-in-Done-clause-room : goal.returns-in-Done-clause-room
-returns-in-Done-clause-room c = search (rules, space_then, c.turn_node.ensures.desk, c.nodes.invariant.keeps, c.nodes.invariant.room)
+returns-in-Done-clause-room c = search (rules, space_then, c.turn_node.ensures.desk, c.nodes.invariant.keeps)
