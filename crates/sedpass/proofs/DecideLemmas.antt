@@ -73,14 +73,11 @@ starts_blank e x i j facts is = record { blank = λ k due. grind (arith, is.grou
 -- Places.
 
 -- a length that is known decides a cut, of the left part or of the right one, and a copy
-pub left_fixed : (s : Subject) (here : Matched) (a b : NodeId) (x n : ℕ) (facts : Facts) → NodeMatches s here (Seq a b) → x ≡ a.index → IsFacts (tree_at (nodes_in s) x) x facts → facts.length ≡ Some n →
-    (here.start + n ≤ length (subject_text s)) × LastCut (HasSpan (nodes_in s) (subject_text s) a.index) (HasSpan (nodes_in s) (subject_text s) b.index) here.start here.stop (here.start + n)
-left_fixed s here a b x n facts stands same is decided =
+pub cut_fixed : (s : Subject) (here : Matched) (a b : NodeId) (x n : ℕ) (facts : Facts) → NodeMatches s here (Seq a b) → IsFacts (tree_at (nodes_in s) x) x facts → facts.length ≡ Some n → (
+    x ≡ a.index → (here.start + n ≤ length (subject_text s)) × LastCut (HasSpan (nodes_in s) (subject_text s) a.index) (HasSpan (nodes_in s) (subject_text s) b.index) here.start here.stop (here.start + n)
+    ) × (x ≡ b.index → (n ≤ here.stop) × LastCut (HasSpan (nodes_in s) (subject_text s) a.index) (HasSpan (nodes_in s) (subject_text s) b.index) here.start here.stop (here.stop - n))
+cut_fixed s here a b x n facts stands is decided =
     search (rules, opened s here (Seq a b) stands, all_long (tree_at (nodes_in s) x) (subject_text s) n, Matches-forward (tree_at (nodes_in s) b.index) (subject_text s))
-
-pub right_fixed : (s : Subject) (here : Matched) (a b : NodeId) (x n : ℕ) (facts : Facts) → NodeMatches s here (Seq a b) → x ≡ b.index → IsFacts (tree_at (nodes_in s) x) x facts → facts.length ≡ Some n →
-    (n ≤ here.stop) × LastCut (HasSpan (nodes_in s) (subject_text s) a.index) (HasSpan (nodes_in s) (subject_text s) b.index) here.start here.stop (here.stop - n)
-right_fixed s here a b x n facts stands same is decided = search (rules, opened s here (Seq a b) stands, all_long (tree_at (nodes_in s) x) (subject_text s) n)
 
 pub copy_fixed : (s : Subject) (here : Matched) (a : NodeId) (first : Bool) (x n : ℕ) (facts : Facts) → NodeMatches s here (Star a first) → here.start < here.stop → x ≡ a.index → IsFacts (tree_at (nodes_in s) x) x facts →
     facts.length ≡ Some n → (n ≤ here.stop) × LastCopy (HasSpan (nodes_in s) (subject_text s) a.index) here.stop here.start (here.stop - n)

@@ -57,10 +57,6 @@ drops (any_copies a first) k g = drops a k g
 drops (one_or_none a first) k g = drops a k g
 drops other k g = search rules
 
--- what becomes of it as a part is decided and the groups in it are dropped
-abbrev within : Tree → ℕ → Option Span → Option Span
-within a k d = option_or d (deed (has_group a k) None)
-
 module _ (k : ℕ) (w : List ℕ) where
   -- a match, its groups decided from the left, leaves other groups as they are
   captured : (e : Tree) (i j : ℕ) (g h : SpansOfGroups) → Captures e w i j g h → slice_get h k ≡ lay (slice_get g k) (cond (has_group e k) (slice_get h k) None)
@@ -79,12 +75,12 @@ module _ (k : ℕ) (w : List ℕ) where
   both a b i j c g old mid new cut one two = (two.0, (c, cut, (one.0, one.1, two.1)), option_or two.2 one.2, search rules, search rules)
 
   inside : (a e : Tree) (i j c d : ℕ) (g : SpansOfGroups) (old mid new : GroupState) → new ≡ drop_groups a mid → ((h : SpansOfGroups) → Captures a w c d (forget a g) h → Captures e w i j g h) → Ends a c d (forget a g) old mid → Ends e i j g old new
-  inside a e i j c d g old mid new is wrap one = (one.0, wrap one.0 one.1, within a k one.2, search (rules, one.3, drops a k g), search (rules, one.4, (drops a k g).1 mid))
+  inside a e i j c d g old mid new is wrap one = (one.0, wrap one.0 one.1, option_or one.2 (deed (has_group a k) None), search (rules, one.3, drops a k g), search (rules, one.4, (drops a k g).1 mid))
 
   enclosed : (n : ℕ) (a : Tree) (i j : ℕ) (g : SpansOfGroups) (old mid new : GroupState) → new ≡ drop_groups a mid → Ends a i j (forget (grouped n a) g) (settle n (Some (i, j)) old) mid → Ends (grouped n a) i j g old new
   enclosed n a i j g old mid new is one =
       let v = Some (i, j) in
-      (slice_set one.0 n v, (one.0, one.1, refl), option_or (deed (eqb n k) v) (within a k one.2), search (rules, one.3, drops (grouped n a) k g, set_at n k v one.0), search (rules, one.4, settle_takes n k v old, (drops a k g).1 mid))
+      (slice_set one.0 n v, (one.0, one.1, refl), option_or (deed (eqb n k) v) (option_or one.2 (deed (has_group a k) None)), search (rules, one.3, drops (grouped n a) k g, set_at n k v one.0), search (rules, one.4, settle_takes n k v old, (drops a k g).1 mid))
 
   walked : (e : Tree) (i j n : ℕ) (old new : GroupState) → Matches e w i j → WalkEnters e w i j old new n → (g : SpansOfGroups) → Ends e i j g old new
   walked null_string i j n old new spans walk g = (g, refl, None, search rules, search rules)

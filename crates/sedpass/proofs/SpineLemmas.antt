@@ -2,7 +2,6 @@
 use Rattle.sedpass.proofs.Words.{rules, ◌≡◌, ℕ, ◌+◌, ◌-◌, ◌≤◌, List, [], ◌∷◌, ◌++◌, ◌&&◌, not, length, reverse, sym, ap, ◌∙◌, subst, arith, AllByRecursion, length-reverse, reverse-append, tree_at, Node, size-pos, GroupSet, Matched, GroupTask, Apart, Forget, Done, One, Two, Decided, Facts, Region, Subject, group_depth, CostsWithin, Takes, IsCounted, TakesAtLeast, known_groups, spans_in, HasBlank, NoneSettled, IsTurn, NodeTurned, Works, match_cost, tasks_cost, then_cost, nodes_in, subject_text, weights, tasks_after, entered_at, IsTaskReady, IsFacts, holds, NoneDue, Then}
 use Rattle.sedpass.proofs.DecideLemmas.{dropped, flags_at}
 use Rattle.sedpass.proofs.OneGroupLemmas.{passes_by}
-use Rattle.sedpass.proofs.TurnLemmas.{done_turn}
 
 -- Tasks that are done.
 

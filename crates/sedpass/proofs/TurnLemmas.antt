@@ -5,10 +5,6 @@ use Rattle.sedpass.proofs.LeaveLemmas.{last_inside}
 use Rattle.sedpass.proofs.MeetingLemmas.{part_within}
 use Rattle.sedpass.proofs.OwedLemmas.{begun_paid, copy_paid, inner_paid, parts_paid}
 
--- nothing comes in place of the node
-pub done_turn : (s : Subject) (here : Matched) (old new : GroupState) (n : ℕ) → WalkEnters (tree_at (nodes_in s) here.node) (subject_text s) here.start here.stop old new n → IsTurn s here old new Done n
-done_turn s here old new n walk = search (rules, size-pos)
-
 module _ (s : Subject) (here : Matched) (node : Node) (stands : NodeMatches s here node) where
   -- the match, by its parts
   pub opened : Matches (tree_of (tree_at (nodes_in s)) node) (subject_text s) here.start here.stop
@@ -48,7 +44,7 @@ module _ (s : Subject) (here : Matched) (node : Node) (stands : NodeMatches s he
 pub leaf_turned : (s : Subject) (here : Matched) (node : Node) (state : GroupState) (r : Region) (steps : ℕ) → NodeMatches s here node → ((a b : NodeId) → node ≡ Seq a b → ⊥) → ((a b : NodeId) → node ≡ Alt a b → ⊥) →
     ((k : ℕ) (a : NodeId) → node ≡ Group k a → ⊥) → ((a : NodeId) (first : Bool) → node ≡ Star a first → ⊥) → ((a : NodeId) (first : Bool) → node ≡ Opt a first → ⊥) → NodeTurned s here node state state r r Done steps steps
 leaf_turned s here node state r steps stands seq alt group star opt =
-    search (rules, done_turn s here state state (entered_at node), close_walk s here node stands state state (entered_at node))
+    search (rules, size-pos (tree_at (nodes_in s) here.node), close_walk s here node stands state state (entered_at node))
 
 -- a concatenation goes on with its right part; the left one is a task
 pub seq_turned : (s : Subject) (here : Matched) (a b : NodeId) (k : ℕ) (state : GroupState) (r r' : Region) (before after : ℕ) → NodeMatches s here (Seq a b) → EndsRegion s r' here →
@@ -131,7 +127,7 @@ pub star_done : (s : Subject) (here : Matched) (a : NodeId) (first : Bool) (stat
     Takes before after (owed_region (length (nodes_in s)) r here.start + 72 * length (nodes_in s) * (here.stop - here.start) + 1) → LooksAt s here (Star a first) None before after →
     NodeTurned s here (Star a first) state state r r' Done before after
 star_done s here a first state r r' before after stands none cost looks =
-    search (rules, done_turn s here state state 1 (close_walk s here (Star a first) stands state state 1 (inr (0, refl, inr (inr (none.0, λ is at. none.1 (is, at), refl, refl))))))
+    search (rules, size-pos (tree_at (nodes_in s) here.node), close_walk s here (Star a first) stands state state 1 (inr (0, refl, inr (inr (none.0, λ is at. none.1 (is, at), refl, refl)))))
 
 -- what may be there once is, or an empty copy of it is taken
 pub opt_turned : (s : Subject) (here : Matched) (a : NodeId) (first : Bool) (state : GroupState) (r : Region) (before after : ℕ) → NodeMatches s here (Opt a first) → EndsRegion s r here →
@@ -149,7 +145,7 @@ opt_turned s here a first state r before after stands ends which cost =
 pub opt_done : (s : Subject) (here : Matched) (a : NodeId) (first : Bool) (state : GroupState) (r : Region) (before after : ℕ) → NodeMatches s here (Opt a first) → here.stop ≤ here.start →
     ((IsTrue first × HasSpan (nodes_in s) (subject_text s) a.index here.start here.start) → ⊥) → Takes before after 1 → NodeTurned s here (Opt a first) state state r r Done before after
 opt_done s here a first state r before after stands le not cost =
-    search (rules, done_turn s here state state 1, close_walk s here (Opt a first) stands state state 1, size-pos (tree_at (nodes_in s) here.node))
+    search (rules, close_walk s here (Opt a first) stands state state 1, size-pos (tree_at (nodes_in s) here.node))
 
 -- the parts of a node that is last in a region
 pub seq_within : (s : Subject) (here : Matched) (a b : NodeId) (r : ℕ) → NodeMatches s here (Seq a b) → IsLastIn (nodes_in s) r here.node → (a.index < length (nodes_in s)) × (b.index < length (nodes_in s)) × (a.index < r)

@@ -1,5 +1,5 @@
 use Rattle.sedpass.proofs.Words.{rules, mul-le-mul_left, ◌*◌, ◌<◌, ◌↔◌, ◌≡◌, IsTrue, length, subst, refl, inl, inr, arith, cases_eq, least_both, one_start, slice_get_within, Seq, Matches-forward, nodes_in, subject_text, CeasesAt, MeetsAt}
-use Rattle.sedpass.proofs.DecideLemmas.{ends_there, left_fixed, right_fixed}
+use Rattle.sedpass.proofs.DecideLemmas.{cut_fixed, ends_there}
 use Rattle.sedpass.proofs.MeetingLemmas.{marked_meets, part_within, run_stops, set_early, stops_at_cut}
 use Rattle.sedpass.proofs.TurnLemmas.{seq_within, opened}
 use Rattle.sedpass.proofs.LeaveLemmas.{last_inside}
@@ -12,17 +12,17 @@ pub returns-then-here-clause-cut : goal.returns-then-here-clause-cut
 returns-then-here-clause-cut c = search (rules, opened c.args.subject c.args.here (Seq c.args.a c.args.b) c.requires.stands, Matches-forward)
 
 pub after-requires : goal.after-requires
-after-requires c = omega (arith, (left_fixed c.args.subject c.args.here c.args.a c.args.b _ c.in-Some.length _ c.requires.stands c.index-left.ensures c.facts-known.ensures.facts c.in-Some.is).0)
+after-requires c = omega (arith, ((cut_fixed c.args.subject c.args.here c.args.a c.args.b _ c.in-Some.length _ c.requires.stands c.facts-known.ensures.facts c.in-Some.is).0 c.index-left.ensures).0)
 
 pub returns-in-Some-clause-cut : goal.returns-in-Some-clause-cut
-returns-in-Some-clause-cut c = rw c.after.ensures (left_fixed c.args.subject c.args.here c.args.a c.args.b _ c.in-Some.length _ c.requires.stands c.index-left.ensures c.facts-known.ensures.facts c.in-Some.is).1
+returns-in-Some-clause-cut c = rw c.after.ensures ((cut_fixed c.args.subject c.args.here c.args.a c.args.b _ c.in-Some.length _ c.requires.stands c.facts-known.ensures.facts c.in-Some.is).0 c.index-left.ensures).1
 
 pub overflow_sub-result : goal.overflow_sub-result
 overflow_sub-result c =
-    omega (arith, (right_fixed c.args.subject c.args.here c.args.a c.args.b _ c.in-Some-length.length _ c.requires.stands c.index.ensures c.facts.ensures.facts c.in-Some-length.is).0)
+    omega (arith, ((cut_fixed c.args.subject c.args.here c.args.a c.args.b _ c.in-Some-length.length _ c.requires.stands c.facts.ensures.facts c.in-Some-length.is).1 c.index.ensures).0)
 
 pub returns-in-Some-length-clause-cut : goal.returns-in-Some-length-clause-cut
-returns-in-Some-length-clause-cut c = (right_fixed c.args.subject c.args.here c.args.a c.args.b _ c.in-Some-length.length _ c.requires.stands c.index.ensures c.facts.ensures.facts c.in-Some-length.is).1
+returns-in-Some-length-clause-cut c = ((cut_fixed c.args.subject c.args.here c.args.a c.args.b _ c.in-Some-length.length _ c.requires.stands c.facts.ensures.facts c.in-Some-length.is).1 c.index.ensures).1
 
 pub returns-in-Some-run-clause-cut : goal.returns-in-Some-run-clause-cut
 returns-in-Some-run-clause-cut c =
@@ -38,7 +38,7 @@ returns-in-Some-clause-cost c = owed_free (length (nodes_in c.args.subject)) c.a
 
 pub returns-in-Some-length-clause-cost : goal.returns-in-Some-length-clause-cost
 returns-in-Some-length-clause-cost c =
-    let cut = (right_fixed c.args.subject c.args.here c.args.a c.args.b _ c.in-Some-length.length _ c.requires.stands c.index.ensures c.facts.ensures.facts c.in-Some-length.is).1 in
+    let cut = ((cut_fixed c.args.subject c.args.here c.args.a c.args.b _ c.in-Some-length.length _ c.requires.stands c.facts.ensures.facts c.in-Some-length.is).1 c.index.ensures).1 in
     owed_free (length (nodes_in c.args.subject)) c.args.kept.now.region c.args.here.start _ c.args.steps.now (search (rules, Matches-forward, cut.left))
 
 pub returns-in-Some-run-clause-cost : goal.returns-in-Some-run-clause-cost
