@@ -10,13 +10,8 @@ pub flags_at : (s : GroupSet) (k : ℕ) → slice_index_or (flags_of s) k false 
 flags_at s (suc (suc (suc (suc (suc (suc (suc (suc (suc (suc k)))))))))) = search rules
 flags_at s other = refl
 
--- a node of which no group is due
-pub none_due : (nodes : List Node) (x : ℕ) (facts : Facts) (t : Decided) → IsFacts (tree_at nodes x) x facts → holds t.due 0 ≡ false →
-    ((k : ℕ) → IsTrue (holds facts.groups k) → IsTrue (holds t.due k) → ⊥) → NoneDue (tree_at nodes x) (known_groups t)
-none_due nodes x facts t is whole apart k has = grind (arith, cases_eq k 0, cases_Bool (holds t.due k), flags_at t.due k, is.groups k)
-
 -- a node with a group is decided in a region at least, and any lies no deeper than there are nodes beside it
-depths : (e : Tree) (k : ℕ) → (group_depth e + 1 ≤ size e) × (has_group e k ≡ true → 1 ≤ group_depth e)
+pub depths : (e : Tree) (k : ℕ) → (group_depth e + 1 ≤ size e) × (has_group e k ≡ true → 1 ≤ group_depth e)
 depths (sequence a b) k = grind (arith, depths a k, depths b k, or_cases (has_group a k) (has_group b k))
 depths (either_of a b) k = grind (arith, depths a k, depths b k, or_cases (has_group a k) (has_group b k))
 depths (grouped n a) k = grind (arith, depths a k)
@@ -27,11 +22,8 @@ depths other k = search rules
 pub depth_few : (e : WrittenExpression) (groups : ℕ) → IsExpr e.nodes groups → group_depth (expression_tree e) + 1 ≤ length e.nodes
 depth_few e groups expr = search (rules, (depths (expression_tree e) 0).0, expr.sizes (root_of e), expr.arena.nonempty)
 
-pub facts_deep : (e : Tree) (x : ℕ) (facts : Facts) (k : ℕ) → IsFacts e x facts → IsTrue (holds facts.groups k) → 1 ≤ group_depth e
-facts_deep e x facts k is has = search (rules, (depths e k).1, is.groups k, and_parts)
-
 -- what is due and is not taken is due still
-flags_left : (old other new : GroupSet) (n : ℕ) (x : Bool) (v : Option (ℕ × ℕ)) → holds old 0 ≡ false → holds other n ≡ (reported n && x) → holds new n ≡ (holds old n && not (holds other n)) →
+pub flags_left : (old other new : GroupSet) (n : ℕ) (x : Bool) (v : Option (ℕ × ℕ)) → holds old 0 ≡ false → holds other n ≡ (reported n && x) → holds new n ≡ (holds old n && not (holds other n)) →
     slice_index_or (flags_of new) n false ≡ left (slice_index_or (flags_of old) n false) (deed x v)
 flags_left old other new n x v whole is without = grind (arith, cases_eq n 0, flags_at old n, flags_at new n)
 
@@ -50,15 +42,6 @@ settled t one new k v before due alone without =
       search (rules, flags, flags_at t.due k),
       found_set t.spans k v,
     )
-
--- the groups of a node are taken from what is due
-pub dropped : (nodes : List Node) (x : ℕ) (facts : Facts) (t : Decided) (new : GroupSet) → IsFacts (tree_at nodes x) x facts → HasBlank t →
-    ((n : ℕ) → holds new n ≡ (holds t.due n && not (holds facts.groups n))) → known_groups (record t { due = new }) ≡ drop_groups (tree_at nodes x) (known_groups t)
-dropped nodes x facts t new is before without =
-    let e = tree_at nodes x in
-    let s = known_groups t in
-    let due = ext_get_or false (flags_of new) (drop_groups e s).due (sym ((drops e 0 []).1 s).long) (λ k _. flags_left t.due facts.groups new k _ _ before.whole (is.groups k) (without k) ∙ sym ((drops e k []).1 s).due) in
-    search (rules, drop_spans e s before.blank)
 
 -- to begin with, the groups of the whole expression are due
 abbrev pub undecided : Facts → ℕ → ℕ → Decided

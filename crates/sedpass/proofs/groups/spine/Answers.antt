@@ -1,6 +1,5 @@
 use Rattle.sedpass.proofs.Words.{rules, ◌∷◌, ◌++◌, ◌+◌, reverse, arith, length-reverse, Apart, Works, match_cost, nodes_in, tasks_after, tasks_cost, then_cost, all_of}
 use Rattle.sedpass.proofs.KeptLemmas.{space_then}
-use Rattle.sedpass.proofs.DecideLemmas.{facts_deep, none_due}
 use Rattle.sedpass.proofs.OwedLemmas.{begun_paid}
 use Rattle.sedpass.proofs.SpineLemmas.{no_more, popped, works_left, works_none, works_then, works_turn}
 use Rattle.sedpass.proofs.groups.spine.Goals.{After-turn_node}
@@ -15,14 +14,13 @@ turned : (c : After-turn_node) → Works c.args.subject (Apart c.nodes.at ∷ re
     (then_cost (nodes_in c.args.subject) c.turn_node.new.kept.region c.turn_node.result (tasks_cost (nodes_in c.args.subject) (reverse c.nodes.room.tasks.items))) c.nodes.steps c.turn_node.new.steps
 turned c =
     let both = c.meets.ensures.0 c.if-not-meets.false in
-    works_turn _ _ _ _ _ _ _ _ _ _ _ _ _ c.nodes.invariant.works.ready c.look-node.ensures.cost.1 c.look-node.ensures.cost.0 c.turn_node.ensures.turned
-    (facts_deep _ _ c.facts.result both.0 c.facts.ensures.facts both.1) c.turn_node.ensures.decided c.turn_node.ensures.few
+    works_turn _ _ _ _ _ _ _ _ _ c.facts.result _ _ _ _ both.0 c.nodes.invariant.works.ready c.look-node.ensures.cost.1 c.look-node.ensures.cost.0 c.turn_node.ensures.turned
+    c.facts.ensures.facts both.1 c.turn_node.ensures.decided c.turn_node.ensures.few
 
 pub returns-then-not-meets-clause-works : goal.returns-then-not-meets-clause-works
 returns-then-not-meets-clause-works c =
     let works = c.nodes.invariant.works in
-    let none = none_due (nodes_in c.args.subject) c.nodes.at.node c.facts.result c.nodes.decided c.facts.ensures.facts works.decided.whole (search rules) in
-    works_then _ _ _ _ _ _ _ 0 1 1 _ _ _ _ _ _ (omega arith) works (works_left c.args.subject c.nodes.at _ c.nodes.decided _ _ c.nodes.steps (omega arith) works.ready none works.decided)
+    works_then _ _ _ _ _ _ _ 0 1 1 _ _ _ _ _ _ (omega arith) works (works_left c.args.subject c.nodes.at _ c.facts.result c.nodes.decided _ _ c.nodes.steps (omega arith) works.ready c.facts.ensures.facts (search rules) works.decided)
 
 pub returns-in-Done-clause-works : goal.returns-in-Done-clause-works
 returns-in-Done-clause-works c = works_then _ _ _ _ _ _ _ 0 1 1 _ _ _ _ _ _ (omega arith) c.nodes.invariant.works (rw c.in-Done.is at (turned (goal.at.returns-in-Done-clause-works c).After-turn_node))
