@@ -27,12 +27,11 @@ returns-in-Done-clause-works c = works_then _ _ _ _ _ _ _ 0 1 1 _ _ _ _ _ _ (ome
 
 pub nodes-preserved-in-One : goal.nodes-preserved-in-One
 nodes-preserved-in-One c =
-    let turned = rw c.in-One.is at (turned (goal.at.nodes-preserved-in-One c).After-turn_node) in
     record {
       keeps = search (rules, space_then, c.turn_node.ensures.desk, c.nodes.invariant.keeps);
       ends = search (rules, c.turn_node.ensures.turned.goes);
       room = search rules;
-      works = works_then _ _ _ _ _ _ _ 0 1 0 _ _ _ _ _ _ (omega arith) c.nodes.invariant.works turned;
+      works = works_then _ _ _ _ _ _ _ 0 1 0 _ _ _ _ _ _ (omega arith) c.nodes.invariant.works (rw c.in-One.is at (turned (goal.at.nodes-preserved-in-One c).After-turn_node));
     }
 
 pub nodes-smaller : goal.nodes-smaller
@@ -40,12 +39,11 @@ nodes-smaller c = search (rules, (turned (goal.at.nodes-smaller c).After-turn_no
 
 pub nodes-preserved : goal.nodes-preserved
 nodes-preserved c =
-    let turned = rw c.in-Two.is at (turned (goal.at.nodes-preserved c).After-turn_node) in
     record {
       keeps = search (rules, space_then, c.turn_node.ensures.desk, c.nodes.invariant.keeps);
       ends = search (rules, c.turn_node.ensures.turned.goes);
       room = search rules;
-      works = rw (popped _ _ _ c.push_reserved.ensures.items) (works_then _ _ _ _ _ _ _ 0 1 0 _ _ _ _ _ _ (omega arith) c.nodes.invariant.works turned);
+      works = rw (popped _ _ _ c.push_reserved.ensures.items) (works_then _ _ _ _ _ _ _ 0 1 0 _ _ _ _ _ _ (omega arith) c.nodes.invariant.works (rw c.in-Two.is at (turned (goal.at.nodes-preserved c).After-turn_node)));
     }
 
 pub returns-in-Done-clause-room : goal.returns-in-Done-clause-room

@@ -8,9 +8,8 @@ use Rattle.sedpass.proofs.LeaveLemmas.{reaches_ends}
 
 pub returns-in-Seq-clause-turned : goal.returns-in-Seq-clause-turned
 returns-in-Seq-clause-turned c =
-    let cut = c.last_cut-stop.ensures in
     rw (c.in-Seq.is, c.index-node.ensures, c.index-node-in-Seq.ensures)
-    (seq_turned _ _ _ _ _ _ _ _ _ _ (rw c.in-Seq.is at c.requires.at).stands (search rules) cut.cut cut.cost cut.counts)
+    (seq_turned _ _ _ _ _ _ _ _ _ _ (rw c.in-Seq.is at c.requires.at).stands (search rules) c.last_cut-stop.ensures.cut c.last_cut-stop.ensures.cost c.last_cut-stop.ensures.counts)
 
 -- whether it matches, in what was looked at
 looked : (c : Joined-spans) → (IsTrue c.if-here.spans ↔ HasSpan (nodes_in c.args.subject) (subject_text c.args.subject) c.in-Alt.a.index c.args.here.start c.args.here.stop)
@@ -53,9 +52,8 @@ settled_in : (c : goal.After-index-node-in-Group) → HasBlank c.if-has.decided
     × (known_groups c.if-has.decided ≡ settle c.in-Group.k (Some (c.args.here.start, c.args.here.stop)) (known_groups c.args.decided.now))
     × (spans_in c.if-has.decided.spans ≤ spans_in c.args.decided.now.spans + 1)
 settled_in c =
-    let span : Option (ℕ × ℕ) = Some (c.args.here.start, c.args.here.stop) in
     elim c.if-has.branch [
-      | then-has w ↦ rw w.decided-is (settled c.args.decided.now w.one.result w.without-decided.result c.in-Group.k span c.requires.decided (search rules) w.one.ensures w.without-decided.ensures)
+      | then-has w ↦ rw w.decided-is (settled _ _ _ _ _ c.requires.decided (search rules) w.one.ensures w.without-decided.ensures)
       | else-has w ↦ search (rules, flags_at c.args.decided.now.due c.in-Group.k, w.decided-is)
     ]
 
@@ -73,9 +71,9 @@ returns-in-None-clause-turned c = rw c.in-Star.is (star_done _ _ _ _ _ _ _ _ _ (
 
 pub returns-in-Some-clause-turned : goal.returns-in-Some-clause-turned
 returns-in-Some-clause-turned c =
-    let last = c.last_copy.ensures in
     rw (c.in-Star.is, c.index-node-in-Some.ensures)
-    (star_turned _ _ _ _ _ _ _ _ _ _ (rw c.in-Star.is at c.requires.at).stands c.in-Some.ensures.copy (c.begin.ensures.root ∙ c.index-node-in-Some.ensures) c.begin.ensures.end last.cost last.counts)
+    (star_turned _ _ _ _ _ _ _ _ _ _ (rw c.in-Star.is at c.requires.at).stands c.in-Some.ensures.copy (c.begin.ensures.root ∙ c.index-node-in-Some.ensures) c.begin.ensures.end
+    c.last_copy.ensures.cost c.last_copy.ensures.counts)
 
 pub returns-then-is_null-clause-turned : goal.returns-then-is_null-clause-turned
 returns-then-is_null-clause-turned c =
@@ -85,6 +83,4 @@ pub returns-else-is_null-clause-turned : goal.returns-else-is_null-clause-turned
 returns-else-is_null-clause-turned c = rw c.in-Opt.is (opt_done _ _ _ _ _ _ _ _ (rw c.in-Opt.is at c.requires.at).stands (search rules) (search rules) (search rules))
 
 pub returns-in_default-clause-turned : goal.returns-in_default-clause-turned
-returns-in_default-clause-turned c =
-    let other = c.in_default in
-    leaf_turned c.args.subject c.args.here c.args.kind.now _ _ _ c.requires.at.stands other.not-Seq other.not-Alt other.not-Group other.not-Star other.not-Opt
+returns-in_default-clause-turned c = search (rules, leaf_turned)
