@@ -1,7 +1,7 @@
 -- The groups that are given as due, as the state of a decision; what nodes and regions cost.
-use Rattle.sedpass.proofs.Words.{rules, ◌≡◌, ℕ, zero, suc, ◌+◌, ◌-◌, ◌*◌, ◌<◌, ◌≤◌, ◌&&◌, not, Bool, true, false, List, [], ◌∷◌, length, Option, None, Some, IsTrue, refl, sym, ◌∙◌, true≢false, arith, IfSome, eqb, inl, inr, replicate, slice_get, slice_set, slice_index_or, vec_capacity, cases_Bool, cases_eq, eqb_tells, get_or-set_other, cases_lt, and_parts, or_cases, expression_tree, size, group_depth, sequence, either_of, grouped, any_copies, one_or_none, ext_get_or, length-set, mul-le-mul_right, Tree, WrittenExpression, tree_at, IsArena, IsExpr, AreRanges, Node, NodeId, Seq, Group, Star, tree_at-node, LastCut, LastCopy, SpansOfGroups, HasSpan, one_start, node_at, Matches-forward, Decided, GroupSet, Matched, Kept, Subject, Facts, spans_in, flags_of, known_groups, HasBlank, IsAtEnd, HasDesk, AreTables, HasSpace, nodes_in, subject_text, NoneSettled, NodeMatches, SameSpace, ends_shown, IsFacts, is_one_set, repeated_set, reported, holds, IsRunOf, repeated, in_group, IsSetAt, root_of, has_group, settle, drop_groups, NoneDue, IsFirstState, GroupRoom, Tables}
+use Rattle.sedpass.proofs.Words.{rules, ◌≡◌, ℕ, zero, suc, ◌+◌, ◌-◌, ◌*◌, ◌<◌, ◌≤◌, ◌&&◌, not, Bool, true, false, List, [], ◌∷◌, length, Option, None, Some, refl, sym, ◌∙◌, arith, IfSome, eqb, replicate, slice_get, slice_set, slice_index_or, vec_capacity, cases_eq, eqb_tells, get_or-set_other, cases_lt, or_cases, expression_tree, size, group_depth, sequence, either_of, grouped, any_copies, one_or_none, ext_get_or, length-set, mul-le-mul_right, Tree, WrittenExpression, tree_at, IsArena, IsExpr, AreRanges, Node, NodeId, Seq, Group, Star, tree_at-node, LastCut, LastCopy, SpansOfGroups, HasSpan, one_start, node_at, Matches-forward, Decided, GroupSet, Matched, Kept, Subject, Facts, spans_in, flags_of, known_groups, HasBlank, IsAtEnd, HasDesk, AreTables, HasSpace, nodes_in, subject_text, NodeMatches, SameSpace, ends_shown, IsFacts, is_one_set, repeated_set, reported, holds, IsRunOf, repeated, in_group, IsSetAt, root_of, has_group, settle, IsFirstState, GroupRoom, Tables}
 use Rattle.sedpass.proofs.LengthLemmas.{all_long, copies_long, AllLong}
-use Rattle.sedpass.proofs.OneGroupLemmas.{copy_spans, deed, drop_spans, drops, left, set_due}
+use Rattle.sedpass.proofs.OneGroupLemmas.{copy_spans, deed, left, set_due}
 use Rattle.sedpass.proofs.TurnLemmas.{opened}
 use Rattle.sedpass.proofs.TableLemmas.{same_all}
 

@@ -1,5 +1,5 @@
 -- What becomes of one group of a match while all are decided from its end; so decided, they are those decided from the left.
-use Rattle.sedpass.proofs.Words.{rules, ◌≡◌, ℕ, suc, ◌<◌, ◌≤◌, ◌⊎◌, Bool, true, false, List, [], ◌∷◌, length, Option, None, Some, refl, sym, ◌∙◌, inl, inr, arith, replicate, eqb, slice_get, slice_set, slice_index_or, option_or, cond, cases_Bool, cases_lt, get_or-set_same, get_or-set_other, ext_get_or, length-set, slice_get_past, unwrap_or-slice_get, Tree, null_string, byte_of, text_begin, text_end, sequence, either_of, grouped, any_copies, one_or_none, SpansOfGroups, forget, no_groups, groups_after, Captures, LastCopy, LastCut, only, then_copy, IsReport, Matches, groups_after-is, get_or_past, eqb_tells, Captures-unique, GroupState, is_due, settle, drop_groups, GroupIsIn, WalkEnters, IsFirstState, has_group, NoneDue, EntersGroups, TakesAtLeast, NoGroups}
+use Rattle.sedpass.proofs.Words.{rules, ◌≡◌, ℕ, suc, ◌<◌, ◌≤◌, Bool, true, false, List, [], ◌∷◌, length, Option, None, Some, refl, inl, inr, arith, replicate, eqb, slice_get, slice_set, slice_index_or, option_or, cond, cases_Bool, cases_lt, get_or-set_same, get_or-set_other, length-set, slice_get_past, unwrap_or-slice_get, Tree, null_string, byte_of, text_begin, text_end, sequence, either_of, grouped, any_copies, one_or_none, SpansOfGroups, forget, no_groups, groups_after, Captures, LastCopy, LastCut, only, then_copy, IsReport, Matches, groups_after-is, get_or_past, eqb_tells, Captures-unique, GroupState, is_due, settle, drop_groups, GroupIsIn, WalkEnters, IsFirstState, has_group, NoneDue, EntersGroups, TakesAtLeast, NoGroups}
 
 abbrev Span : Type 0
 Span = Option (ℕ × ℕ)

@@ -1,5 +1,5 @@
 -- What looks into a kept pass may still cost.
-use Rattle.sedpass.proofs.Words.{◌≡◌, ℕ, zero, suc, ◌+◌, ◌-◌, ◌*◌, ◌<◌, ◌≤◌, ◌⊎◌, ◌&&◌, List, refl, ap, subst, arith, mul-le-mul_left, cond, rules, common_steps, CostsWithin, Node, Region, Matched, Apart, deeper, leb, ltb, match_cost, region_cost, task_cost, due_place, owed_region}
+use Rattle.sedpass.proofs.Words.{◌≡◌, ℕ, zero, suc, ◌+◌, ◌-◌, ◌*◌, ◌<◌, ◌≤◌, ◌⊎◌, List, ap, subst, arith, mul-le-mul_left, rules, common_steps, CostsWithin, Node, Region, Matched, Apart, deeper, match_cost, region_cost, task_cost, due_place, owed_region}
 use Rattle.sedpass.specs.Kept.{again}
 
 -- What is made again.

@@ -1,5 +1,5 @@
 -- What comes in place of a node, by its kind.
-use Rattle.sedpass.proofs.Words.{rules, ◌≡◌, ℕ, ◌+◌, ◌-◌, ◌*◌, ◌<◌, ◌≤◌, ◌⊎◌, Bool, List, [], ◌∷◌, length, None, Some, IsTrue, refl, sym, ap, inl, inr, arith, tree_of, tree_at, size, IsPart, Takes, TakesAtLeast, Node, NodeId, Seq, Alt, Group, Star, Opt, tree_at-node, HasSpan, LastCut, parts_of, total_size, Matches, open_at, group_depth, CostsWithin, Matches-forward, size-parts, size-pos, Matched, Apart, Forget, Done, One, Two, Region, Subject, EndsRegion, HasNoKnownLength, IsCopyFrom, LooksAt, NodeTurned, IsLastIn, one_start, match_cost, nodes_in, subject_text, NodeMatches, IsTurn, entered_at, owed_region, all_of, last_of, GroupState, settle, drop_groups, WalkEnters}
+use Rattle.sedpass.proofs.Words.{rules, ◌≡◌, ℕ, ◌+◌, ◌-◌, ◌*◌, ◌<◌, ◌≤◌, ◌⊎◌, Bool, [], ◌∷◌, length, None, Some, IsTrue, refl, sym, ap, inl, inr, arith, tree_of, tree_at, size, IsPart, Takes, TakesAtLeast, Node, NodeId, Seq, Alt, Group, Star, Opt, tree_at-node, HasSpan, LastCut, parts_of, total_size, Matches, open_at, group_depth, CostsWithin, Matches-forward, size-parts, size-pos, Matched, Apart, Forget, Done, One, Two, Region, Subject, EndsRegion, HasNoKnownLength, IsCopyFrom, LooksAt, NodeTurned, IsLastIn, one_start, match_cost, nodes_in, subject_text, NodeMatches, IsTurn, entered_at, owed_region, all_of, last_of, GroupState, settle, drop_groups, WalkEnters}
 use Rattle.sedpass.proofs.OneGroupLemmas.{copy_spans}
 use Rattle.sedpass.proofs.LeaveLemmas.{last_inside}
 use Rattle.sedpass.proofs.MeetingLemmas.{part_within}

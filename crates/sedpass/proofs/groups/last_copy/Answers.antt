@@ -1,7 +1,7 @@
-use Rattle.sedpass.proofs.Words.{rules, ◌≡◌, ◌+◌, ◌*◌, ◌≤◌, ap, mul-le-mul_left, ◌-◌, ◌<◌, length, inl, refl, arith, close_at, Star, HasSpan, least_none, least_both, nodes_in, subject_text}
+use Rattle.sedpass.proofs.Words.{rules, ◌≡◌, ◌+◌, ◌*◌, ◌≤◌, ap, mul-le-mul_left, ◌-◌, ◌<◌, length, inl, arith, close_at, Star, HasSpan, least_none, least_both, nodes_in, subject_text}
 use Rattle.sedpass.proofs.KeptLemmas.{space_then}
 use Rattle.sedpass.proofs.DecideLemmas.{copy_fixed, ends_there}
-use Rattle.sedpass.proofs.MeetingLemmas.{copy_walk, part_within, stops_at_copy, NextCopy}
+use Rattle.sedpass.proofs.MeetingLemmas.{copy_walk, stops_at_copy, NextCopy}
 use Rattle.sedpass.proofs.TurnLemmas.{opened}
 use Rattle.sedpass.proofs.groups.last_copy.Goals.{After-cut-end}
 use Rattle.sedpass.proofs.groups.last_copy.Goals as goal

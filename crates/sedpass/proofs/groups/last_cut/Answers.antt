@@ -1,9 +1,8 @@
-use Rattle.sedpass.proofs.Words.{rules, mul-le-mul_left, ◌*◌, ◌<◌, ◌↔◌, ◌≡◌, IsTrue, length, subst, refl, inl, inr, arith, cases_eq, least_both, one_start, slice_get_within, Seq, Matches-forward, nodes_in, subject_text, CeasesAt, MeetsAt}
+use Rattle.sedpass.proofs.Words.{rules, mul-le-mul_left, ◌*◌, ◌<◌, ◌↔◌, IsTrue, length, inl, inr, arith, cases_eq, one_start, Seq, Matches-forward, nodes_in, subject_text, CeasesAt, MeetsAt}
 use Rattle.sedpass.proofs.DecideLemmas.{cut_fixed, ends_there}
-use Rattle.sedpass.proofs.MeetingLemmas.{marked_meets, part_within, run_stops, set_early, stops_at_cut}
+use Rattle.sedpass.proofs.MeetingLemmas.{marked_meets, run_stops, set_early, stops_at_cut}
 use Rattle.sedpass.proofs.TurnLemmas.{seq_within, opened}
-use Rattle.sedpass.proofs.LeaveLemmas.{last_inside}
-use Rattle.sedpass.proofs.KeptLemmas.{same_kept, shown_as, space_then}
+use Rattle.sedpass.proofs.KeptLemmas.{shown_as, space_then}
 use Rattle.sedpass.proofs.OwedLemmas.{owed_free, two_each}
 use Rattle.sedpass.proofs.groups.last_cut.Goals.{After-cut, After-marks}
 use Rattle.sedpass.proofs.groups.last_cut.Goals as goal

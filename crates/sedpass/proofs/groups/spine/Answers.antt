@@ -1,7 +1,7 @@
-use Rattle.sedpass.proofs.Words.{rules, ◌∷◌, ◌++◌, ◌+◌, reverse, arith, length-reverse, Apart, Works, match_cost, nodes_in, tasks_after, tasks_cost, then_cost, all_of}
+use Rattle.sedpass.proofs.Words.{rules, ◌∷◌, ◌++◌, ◌+◌, reverse, arith, Apart, Works, match_cost, nodes_in, tasks_after, tasks_cost, then_cost, all_of}
 use Rattle.sedpass.proofs.KeptLemmas.{space_then}
 use Rattle.sedpass.proofs.OwedLemmas.{begun_paid}
-use Rattle.sedpass.proofs.SpineLemmas.{no_more, popped, works_left, works_none, works_then, works_turn}
+use Rattle.sedpass.proofs.SpineLemmas.{popped, works_left, works_none, works_then, works_turn}
 use Rattle.sedpass.proofs.groups.spine.Goals.{After-turn_node}
 use Rattle.sedpass.proofs.groups.spine.Goals as goal
 

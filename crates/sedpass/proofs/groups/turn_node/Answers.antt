@@ -1,9 +1,8 @@
-use Rattle.sedpass.proofs.Words.{rules, ◌≡◌, ℕ, ◌+◌, ◌≤◌, Option, Some, refl, sym, subst, inl, ◌∙◌, Alt, Star, Opt, HasBlank, NoneSettled, known_groups, spans_in, last_of, settle, arith, length, ◌<◌, ◌↔◌, IsTrue, IsCounted, TakesAtLeast, CostsWithin, HasSpan, one_start, KeepsGroupDesk, SameKept, nodes_in, subject_text, owed_region}
+use Rattle.sedpass.proofs.Words.{rules, ◌≡◌, ◌+◌, ◌≤◌, Some, refl, inl, ◌∙◌, Alt, HasBlank, known_groups, spans_in, last_of, settle, arith, length, ◌↔◌, IsTrue, IsCounted, TakesAtLeast, CostsWithin, HasSpan, one_start, KeepsGroupDesk, SameKept, nodes_in, subject_text, owed_region}
 use Rattle.sedpass.proofs.DecideLemmas.{flags_at, settled}
 use Rattle.sedpass.proofs.TurnLemmas.{alt_turned, group_turned, leaf_turned, opt_done, opt_turned, seq_turned, star_done, star_turned}
 use Rattle.sedpass.proofs.groups.turn_node.Goals as goal
 use Rattle.sedpass.proofs.groups.turn_node.Goals.{In-Alt, Joined-spans, then-has, else-has, then-here, else-here}
-use Rattle.sedpass.proofs.KeptLemmas.{space_then}
 use Rattle.sedpass.proofs.LeaveLemmas.{reaches_ends}
 
 pub returns-in-Seq-clause-turned : goal.returns-in-Seq-clause-turned
@@ -18,7 +17,6 @@ looked : (c : Joined-spans) → (IsTrue c.if-here.spans ↔ HasSpan (nodes_in c.
     × TakesAtLeast c.args.steps.now c.if-here.steps 1
 unfolding TakesAtLeast IsCounted
 looked c =
-    let s = c.args.subject in
     let here = c.args.here in
     let at = rw c.in-Alt.is at c.requires.at in
     elim c.if-here.branch [
@@ -27,10 +25,10 @@ looked c =
           rw (w.spans-is, w.tables-is, w.kept-is, w.steps-is) (rw (← w.if-here.true) null, search (rules, at.desk), search rules, omega (arith, w.is_null-spans.ensures.cost), omega (arith, w.is_null-spans.ensures.cost))
       | else-here w ↦
           let last = last_of here.node c.in-Alt.a.index (Alt c.in-Alt.a c.in-Alt.b) at.stands.is (inl refl) at.ends.0 in
-          let both = reaches_ends (nodes_in s) (subject_text s) c.args.kept.now.region.root c.in-Alt.a.index here.start (one_start c.args.kept.now.region.end) at.stands.arena last in
+          let both = reaches_ends _ (subject_text c.args.subject) _ c.in-Alt.a.index here.start (one_start c.args.kept.now.region.end) at.stands.arena last in
           let look = w.marks-spans.ensures in
           let shown = rw (c.index-left.ensures, at.desk.one_end) at look.marked in
-          let spans : IsTrue w.marks-spans.result ↔ HasSpan (nodes_in s) (subject_text s) c.in-Alt.a.index here.start here.stop = (
+          let spans : IsTrue w.marks-spans.result ↔ HasSpan (nodes_in c.args.subject) (subject_text c.args.subject) c.in-Alt.a.index here.start here.stop = (
             λ h. let there = both.0 (shown.0 h) in let to : there.0 ≡ here.stop = omega (arith, there.1, at.ends.1) in rw to at there.2,
             λ span. shown.1 (both.1 (here.stop, (omega arith, omega arith), span, inl (omega arith))),
           ) in
