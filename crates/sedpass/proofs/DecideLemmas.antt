@@ -1,7 +1,7 @@
 -- The groups that are given as due, as the state of a decision; what nodes and regions cost.
-use Rattle.sedpass.proofs.Words.{rules, ◌≡◌, ℕ, zero, suc, ◌+◌, ◌-◌, ◌*◌, ◌<◌, ◌≤◌, ◌&&◌, not, Bool, true, false, List, [], ◌∷◌, length, Option, None, Some, IsTrue, refl, sym, ◌∙◌, true≢false, arith, IfSome, eqb, inl, inr, replicate, slice_get, slice_set, slice_index_or, vec_capacity, cases_Bool, cases_lt, and_parts, or_cases, expression_tree, size, group_depth, sequence, either_of, grouped, any_copies, one_or_none, ext_get_or, length-set, mul-le-mul_right, Tree, WrittenExpression, tree_at, IsArena, IsExpr, AreRanges, Node, NodeId, Seq, Group, Star, tree_at-node, LastCut, LastCopy, SpansOfGroups, HasSpan, one_start, node_at, Matches-forward, Decided, GroupSet, Matched, Kept, Subject, Facts, spans_in, flags_of, known_groups, HasBlank, IsAtEnd, HasDesk, AreTables, HasSpace, nodes_in, subject_text, NoneSettled, NodeMatches, SameSpace, ends_shown, IsFacts, is_one_set, repeated_set, reported, holds, IsRunOf, repeated, in_group, IsSetAt, root_of, has_group, settle, drop_groups, NoneDue, IsFirstState, GroupRoom, Tables}
+use Rattle.sedpass.proofs.Words.{rules, ◌≡◌, ℕ, zero, suc, ◌+◌, ◌-◌, ◌*◌, ◌<◌, ◌≤◌, ◌&&◌, not, Bool, true, false, List, [], ◌∷◌, length, Option, None, Some, refl, sym, ◌∙◌, arith, IfSome, eqb, replicate, slice_get, slice_set, slice_index_or, vec_capacity, cases_eq, eqb_tells, get_or-set_other, cases_lt, or_cases, expression_tree, size, group_depth, sequence, either_of, grouped, any_copies, one_or_none, ext_get_or, length-set, mul-le-mul_right, Tree, WrittenExpression, tree_at, IsArena, IsExpr, AreRanges, Node, NodeId, Seq, Group, Star, tree_at-node, LastCut, LastCopy, SpansOfGroups, HasSpan, one_start, node_at, Matches-forward, Decided, GroupSet, Matched, Kept, Subject, Facts, spans_in, flags_of, known_groups, HasBlank, IsAtEnd, HasDesk, AreTables, HasSpace, nodes_in, subject_text, NodeMatches, SameSpace, ends_shown, IsFacts, is_one_set, repeated_set, reported, holds, IsRunOf, repeated, in_group, IsSetAt, root_of, has_group, settle, IsFirstState, GroupRoom, Tables}
 use Rattle.sedpass.proofs.LengthLemmas.{all_long, copies_long, AllLong}
-use Rattle.sedpass.proofs.OneGroupLemmas.{copy_spans, deed, drop_as, left, set_due, settle-due}
+use Rattle.sedpass.proofs.OneGroupLemmas.{copy_spans, deed, left, set_due}
 use Rattle.sedpass.proofs.TurnLemmas.{opened}
 use Rattle.sedpass.proofs.TableLemmas.{same_all}
 
@@ -10,62 +10,38 @@ pub flags_at : (s : GroupSet) (k : ℕ) → slice_index_or (flags_of s) k false 
 flags_at s (suc (suc (suc (suc (suc (suc (suc (suc (suc (suc k)))))))))) = search rules
 flags_at s other = refl
 
--- a group that is due is one of those that are reported
-due_reported : (due : GroupSet) (k : ℕ) → holds due 0 ≡ false → holds due k ≡ true → reported k ≡ true
-due_reported due k whole is = search rules
-
--- a node of which no group is due
-pub none_due : (nodes : List Node) (x : ℕ) (facts : Facts) (t : Decided) → IsFacts (tree_at nodes x) x facts → holds t.due 0 ≡ false →
-    ((k : ℕ) → IsTrue (holds facts.groups k) → IsTrue (holds t.due k) → ⊥) → NoneDue (tree_at nodes x) (known_groups t)
-none_due nodes x facts t is whole apart k has = search (rules, cases_Bool (holds t.due k), due_reported t.due k, flags_at t.due k, is.groups k)
-
--- a node with a group is decided in a region at least
-group_deep : (e : Tree) (k : ℕ) → has_group e k ≡ true → 1 ≤ group_depth e
-group_deep (sequence a b) k has = elim (or_cases (has_group a k) (has_group b k) has) [ inl l ↦ grind (arith, group_deep a k l) | inr m ↦ omega (arith, group_deep b k m) ]
-group_deep (either_of a b) k has = elim (or_cases (has_group a k) (has_group b k) has) [ inl l ↦ omega (arith, group_deep a k l) | inr m ↦ omega (arith, group_deep b k m) ]
-group_deep (grouped n a) k has = omega arith
-group_deep (any_copies a first) k has = grind (arith, group_deep a k has)
-group_deep (one_or_none a first) k has = group_deep a k has
-group_deep other k has = cc
-
--- and lies no deeper than there are nodes beside it
-group_small : (e : Tree) → group_depth e + 1 ≤ size e
-group_small (sequence a b) = grind (arith, group_small a, group_small b)
-group_small (either_of a b) = omega (arith, group_small a, group_small b)
-group_small (grouped n a) = omega (arith, group_small a)
-group_small (any_copies a first) = grind (arith, group_small a)
-group_small (one_or_none a first) = omega (arith, group_small a)
-group_small other = omega arith
+-- a node with a group is decided in a region at least, and any lies no deeper than there are nodes beside it
+pub depths : (e : Tree) (k : ℕ) → (group_depth e + 1 ≤ size e) × (has_group e k ≡ true → 1 ≤ group_depth e)
+depths (sequence a b) k = grind (arith, depths a k, depths b k, or_cases (has_group a k) (has_group b k))
+depths (either_of a b) k = grind (arith, depths a k, depths b k, or_cases (has_group a k) (has_group b k))
+depths (grouped n a) k = grind (arith, depths a k)
+depths (any_copies a first) k = grind (arith, depths a k)
+depths (one_or_none a first) k = grind (arith, depths a k)
+depths other k = search rules
 
 pub depth_few : (e : WrittenExpression) (groups : ℕ) → IsExpr e.nodes groups → group_depth (expression_tree e) + 1 ≤ length e.nodes
-depth_few e groups expr = search (rules, group_small (expression_tree e), expr.sizes (root_of e), expr.arena.nonempty)
-
-pub facts_deep : (e : Tree) (x : ℕ) (facts : Facts) (k : ℕ) → IsFacts e x facts → IsTrue (holds facts.groups k) → 1 ≤ group_depth e
-facts_deep e x facts k is has = search (rules, group_deep e k, is.groups k, and_parts)
+depth_few e groups expr = search (rules, (depths (expression_tree e) 0).0, expr.sizes (root_of e), expr.arena.nonempty)
 
 -- what is due and is not taken is due still
-flags_left : (old other new : GroupSet) (n : ℕ) (x : Bool) (v : Option (ℕ × ℕ)) → holds old 0 ≡ false → holds other n ≡ (reported n && x) → holds new n ≡ (holds old n && not (holds other n)) →
+pub flags_left : (old other new : GroupSet) (n : ℕ) (x : Bool) (v : Option (ℕ × ℕ)) → holds old 0 ≡ false → holds other n ≡ (reported n && x) → holds new n ≡ (holds old n && not (holds other n)) →
     slice_index_or (flags_of new) n false ≡ left (slice_index_or (flags_of old) n false) (deed x v)
-flags_left old other new n x v whole is without = search (rules, flags_at old n, flags_at new n, due_reported old n whole)
+flags_left old other new n x v whole is without = grind (arith, cases_eq n 0, flags_at old n, flags_at new n)
+
+-- a span more
+found_set : (g : SpansOfGroups) (k : ℕ) (v : Option (ℕ × ℕ)) → spans_in (slice_set g k v) ≤ spans_in g + 1
+found_set [] k v = omega arith
+found_set (x ∷ g) (suc k) v = search (rules, found_set g k v)
+found_set (x ∷ g) k v = search rules
 
 -- a group that is due is settled
-pub settled : (t : Decided) (one new : GroupSet) (k : ℕ) (v : Option (ℕ × ℕ)) → holds t.due 0 ≡ false → holds t.due k ≡ true →
-    ((n : ℕ) → holds one n ≡ (reported n && eqb k n)) → ((n : ℕ) → holds new n ≡ (holds t.due n && not (holds one n))) →
-    known_groups (record { due = new; spans = slice_set t.spans k v }) ≡ settle k v (known_groups t)
-settled t one new k v whole due alone without =
-    search (
-      rules,
-      ext_get_or false (flags_of new) (slice_set (flags_of t.due) k false) (sym (length-set (flags_of t.due) k false)) (λ n _.
-          flags_left t.due one new n (eqb k n) v whole (alone n) (without n) ∙ sym (set_due k n v (flags_of t.due))),
-      settle-due k v (known_groups t),
-      flags_at t.due k,
+pub settled : (t : Decided) (one new : GroupSet) (k : ℕ) (v : Option (ℕ × ℕ)) → HasBlank t → holds t.due k ≡ true → ((n : ℕ) → holds one n ≡ (reported n && eqb k n)) → ((n : ℕ) → holds new n ≡ (holds t.due n && not (holds one n))) →
+    HasBlank (record { due = new; spans = slice_set t.spans k v }) × (known_groups (record { due = new; spans = slice_set t.spans k v }) ≡ settle k v (known_groups t)) × (spans_in (slice_set t.spans k v) ≤ spans_in t.spans + 1)
+settled t one new k v before due alone without =
+    let flags = ext_get_or false (flags_of new) (slice_set (flags_of t.due) k false) (sym (length-set (flags_of t.due) k false)) (λ n _. flags_left t.due one new n (eqb k n) v before.whole (alone n) (without n) ∙ sym (set_due k n v (flags_of t.due))) in (
+      record { blank = λ n. grind (arith, flags_at new n, flags_at t.due n, alone n, without n, before.blank n, eqb_tells k n, get_or-set_other); whole = search (rules, without 0, before.whole) },
+      search (rules, flags, flags_at t.due k),
+      found_set t.spans k v,
     )
-
--- the groups of a node are taken from what is due
-pub dropped : (nodes : List Node) (x : ℕ) (facts : Facts) (t : Decided) (new : GroupSet) → IsFacts (tree_at nodes x) x facts → HasBlank t →
-    ((n : ℕ) → holds new n ≡ (holds t.due n && not (holds facts.groups n))) → known_groups (record t { due = new }) ≡ drop_groups (tree_at nodes x) (known_groups t)
-dropped nodes x facts t new is before without =
-    drop_as (tree_at nodes x) (known_groups t) (known_groups (record t { due = new })) before.blank refl refl (λ k. search (rules, flags_left t.due facts.groups new k, is.groups k, without k))
 
 -- to begin with, the groups of the whole expression are due
 abbrev pub undecided : Facts → ℕ → ℕ → Decided
@@ -75,29 +51,16 @@ pub starts_due : (e : Tree) (x i j : ℕ) (facts : Facts) → IsFacts e x facts 
 starts_due e x i j facts is = record { whole = is.groups 0; each = λ k low high has. search (rules, flags_at facts.groups k, is.groups k); none = refl }
 
 pub starts_blank : (e : Tree) (x i j : ℕ) (facts : Facts) → IsFacts e x facts → HasBlank (undecided facts i j)
-starts_blank e x i j facts is = record { blank = unsettled; whole = is.groups 0 }
-  where
-    unsettled : NoneSettled (known_groups (undecided facts i j))
-    unsettled zero due = absurd (true≢false (sym due ∙ is.groups 0))
-    unsettled (suc k) due = same_all None 9 k
-
--- a span more
-pub found_set : (g : SpansOfGroups) (k : ℕ) (v : Option (ℕ × ℕ)) → spans_in (slice_set g k v) ≤ spans_in g + 1
-found_set [] k v = omega arith
-found_set (x ∷ g) (suc k) v = search (rules, found_set g k v)
-found_set (x ∷ g) k v = search rules
+starts_blank e x i j facts is = record { blank = λ k due. grind (arith, is.groups 0, cases_eq k 0, same_all {A = Option (ℕ × ℕ)} None 9 (k - 1)); whole = is.groups 0 }
 
 -- Places.
 
 -- a length that is known decides a cut, of the left part or of the right one, and a copy
-pub left_fixed : (s : Subject) (here : Matched) (a b : NodeId) (x n : ℕ) (facts : Facts) → NodeMatches s here (Seq a b) → x ≡ a.index → IsFacts (tree_at (nodes_in s) x) x facts → facts.length ≡ Some n →
-    (here.start + n ≤ length (subject_text s)) × LastCut (HasSpan (nodes_in s) (subject_text s) a.index) (HasSpan (nodes_in s) (subject_text s) b.index) here.start here.stop (here.start + n)
-left_fixed s here a b x n facts stands same is decided =
+pub cut_fixed : (s : Subject) (here : Matched) (a b : NodeId) (x n : ℕ) (facts : Facts) → NodeMatches s here (Seq a b) → IsFacts (tree_at (nodes_in s) x) x facts → facts.length ≡ Some n → (
+    x ≡ a.index → (here.start + n ≤ length (subject_text s)) × LastCut (HasSpan (nodes_in s) (subject_text s) a.index) (HasSpan (nodes_in s) (subject_text s) b.index) here.start here.stop (here.start + n)
+    ) × (x ≡ b.index → (n ≤ here.stop) × LastCut (HasSpan (nodes_in s) (subject_text s) a.index) (HasSpan (nodes_in s) (subject_text s) b.index) here.start here.stop (here.stop - n))
+cut_fixed s here a b x n facts stands is decided =
     search (rules, opened s here (Seq a b) stands, all_long (tree_at (nodes_in s) x) (subject_text s) n, Matches-forward (tree_at (nodes_in s) b.index) (subject_text s))
-
-pub right_fixed : (s : Subject) (here : Matched) (a b : NodeId) (x n : ℕ) (facts : Facts) → NodeMatches s here (Seq a b) → x ≡ b.index → IsFacts (tree_at (nodes_in s) x) x facts → facts.length ≡ Some n →
-    (n ≤ here.stop) × LastCut (HasSpan (nodes_in s) (subject_text s) a.index) (HasSpan (nodes_in s) (subject_text s) b.index) here.start here.stop (here.stop - n)
-right_fixed s here a b x n facts stands same is decided = search (rules, opened s here (Seq a b) stands, all_long (tree_at (nodes_in s) x) (subject_text s) n)
 
 pub copy_fixed : (s : Subject) (here : Matched) (a : NodeId) (first : Bool) (x n : ℕ) (facts : Facts) → NodeMatches s here (Star a first) → here.start < here.stop → x ≡ a.index → IsFacts (tree_at (nodes_in s) x) x facts →
     facts.length ≡ Some n → (n ≤ here.stop) × LastCopy (HasSpan (nodes_in s) (subject_text s) a.index) here.stop here.start (here.stop - n)
@@ -107,11 +70,6 @@ copy_fixed s here a first x n facts stands some same is decided =
     search (rules, copy_spans R here.stop here.start (here.stop - n), copies_long R here.stop n long here.start some (opened s here (Star a first) stands), long (here.stop - n) here.stop)
 
 -- Runs.
-
-is_set_at : (nodes : List Node) → IsArena nodes → (x : ℕ) → x < length nodes → is_one_set (tree_at nodes x) ≡ true → IsSetAt nodes x
-is_set_at nodes arena x inside one =
-    let there = node_at nodes x inside in
-    search (rules, there.1, tree_at-node nodes x there.0 arena there.1)
 
 abbrev IsRun : List Node → ℕ → ℕ → Type 0
 IsRun nodes x c = IsRunOf nodes c x × IsSetAt nodes c
@@ -123,17 +81,14 @@ run_within (suc n) nodes arena ranges x c low inside decided =
     by (λ y less. run_within n nodes arena ranges y c (omega arith) (omega arith)) there.0 there.1 decided
   where
     by : ((y : ℕ) → y < x → repeated_set (tree_at nodes y) y ≡ Some c → IsRun nodes y c) → (m : Node) → slice_get nodes x ≡ Some m → repeated_set (tree_at nodes x) x ≡ Some c → IsRun nodes x c
-    by below (Group k a) is =
-        let next : a.index + 1 ≡ x = ranges x (Group k a) is in
-        rw (tree_at-node nodes x (Group k a) arena is) (λ h.
-        let inner = below a.index (omega arith) (search rules) in
-        (in_group x k a is inner.0, inner.1))
-    by below (Star a first) is =
-        let next : a.index + 1 ≡ x = ranges x (Star a first) is in
-        rw (tree_at-node nodes x (Star a first) arena is) (λ h.
-        let here : a.index ≡ c = search rules in
-        (repeated x (a, first, is, here), rw (← here) (is_set_at nodes arena a.index (omega arith) (search rules))))
-    by below other is = rw (tree_at-node nodes x other arena is) (λ h. cc)
+    by below (Group k a) is h =
+        let inner : IsRun nodes a.index c = search (rules, ranges x (Group k a) is, tree_at-node nodes x (Group k a) arena is, below a.index) in
+        (in_group x k a is inner.0, inner.1)
+    by below (Star a first) is h =
+        let here : (a.index ≡ c) × (is_one_set (tree_at nodes a.index) ≡ true) = search (rules, ranges x (Star a first) is, tree_at-node nodes x (Star a first) arena is) in
+        let set = node_at nodes a.index (omega (arith, inside, ranges x (Star a first) is)) in
+        (repeated x (a, first, is, here.0), rw (← here.0) (search (rules, here.1, set.1, tree_at-node nodes a.index set.0 arena set.1)))
+    by below other is h = search (rules, tree_at-node nodes x other arena is)
 
 pub run_shown : (nodes : List Node) (groups x : ℕ) (facts : Facts) (run : Option ℕ) → IsExpr nodes groups → x < length nodes → IsFacts (tree_at nodes x) x facts → facts.run ≡ run →
     IfSome run (λ c. IsRunOf nodes c x × IsSetAt nodes c)

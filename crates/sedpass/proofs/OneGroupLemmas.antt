@@ -1,5 +1,5 @@
 -- What becomes of one group of a match while all are decided from its end; so decided, they are those decided from the left.
-use Rattle.sedpass.proofs.Words.{rules, ◌≡◌, ℕ, suc, ◌<◌, ◌≤◌, ◌⊎◌, Bool, true, false, List, [], ◌∷◌, length, Option, None, Some, refl, sym, ◌∙◌, inl, inr, arith, replicate, eqb, slice_get, slice_set, slice_index_or, option_or, cases_Bool, cases_lt, get_or-set_same, get_or-set_other, ext_get_or, length-set, slice_get_past, unwrap_or-slice_get, Tree, null_string, byte_of, text_begin, text_end, sequence, either_of, grouped, any_copies, one_or_none, SpansOfGroups, forget, no_groups, groups_after, Captures, LastCopy, only, then_copy, IsReport, Matches, groups_after-is, get_or_past, eqb_tells, Captures-unique, GroupState, is_due, settle, drop_groups, GroupIsIn, WalkEnters, IsFirstState, has_group, NoneDue, EntersGroups, TakesAtLeast, NoGroups}
+use Rattle.sedpass.proofs.Words.{rules, ◌≡◌, ℕ, suc, ◌<◌, ◌≤◌, Bool, true, false, List, [], ◌∷◌, length, Option, None, Some, refl, inl, inr, arith, replicate, eqb, slice_get, slice_set, slice_index_or, option_or, cond, cases_Bool, cases_lt, get_or-set_same, get_or-set_other, length-set, slice_get_past, unwrap_or-slice_get, Tree, null_string, byte_of, text_begin, text_end, sequence, either_of, grouped, any_copies, one_or_none, SpansOfGroups, forget, no_groups, groups_after, Captures, LastCopy, LastCut, only, then_copy, IsReport, Matches, groups_after-is, get_or_past, eqb_tells, Captures-unique, GroupState, is_due, settle, drop_groups, GroupIsIn, WalkEnters, IsFirstState, has_group, NoneDue, EntersGroups, TakesAtLeast, NoGroups}
 
 abbrev Span : Type 0
 Span = Option (ℕ × ℕ)
@@ -45,103 +45,69 @@ set_at n k v (x ∷ g) = search rules
 pub set_due : (n k : ℕ) (v : Span) (due : List Bool) → slice_index_or (slice_set due n false) k false ≡ left (slice_index_or due k false) (deed (eqb n k) v)
 set_due n k v due = search (rules, eqb_tells n k, cases_lt n (length due), get_or-set_same, get_or-set_other, get_or_past, length-set)
 
-pub settle-due : (k : ℕ) (v : Span) (s : GroupState) → is_due s k ≡ true → settle k v s ≡ record { due = slice_set s.due k false; spans = slice_set s.spans k v }
-settle-due k v s is = rw is refl
-
-pub settle-not : (k : ℕ) (v : Span) (s : GroupState) → is_due s k ≡ false → settle k v s ≡ s
-settle-not k v s is = rw is refl
-
 pub settle_takes : (n k : ℕ) (v : Span) (s : GroupState) → Takes k (deed (eqb n k) v) s (settle n v s)
-settle_takes n k v s = search (rules, eqb_tells n k, cases_Bool (is_due s n), settle-due, settle-not, set_due, set_at, length-set)
-
--- what is due has no span: so it is after this
-pub takes_blank : (k : ℕ) (d : Option Span) (old new : GroupState) → Takes k d old new → (is_due old k ≡ true → slice_index_or old.spans k None ≡ None) → is_due new k ≡ true →
-    slice_index_or new.spans k None ≡ None
-takes_blank k d old new one blank due = search (rules, unwrap_or-slice_get new.spans k None, unwrap_or-slice_get old.spans k None, blank)
+settle_takes n k v s = grind (arith, eqb_tells n k, cases_Bool (is_due s n), set_due, set_at, length-set)
 
 -- the groups of an expression are dropped, and forgotten
-dropped : (t : Tree) (k : ℕ) (g : SpansOfGroups) → (slice_get (forget t g) k ≡ lay (slice_get g k) (deed (has_group t k) None)) × ((s : GroupState) → Takes k (deed (has_group t k) None) s (drop_groups t s))
-dropped (sequence a b) k g = search (rules, dropped a k g, dropped b k (forget a g))
-dropped (either_of a b) k g = search (rules, dropped a k g, dropped b k (forget a g))
-dropped (grouped n a) k g = search (rules, set_at n k None g, dropped a k (slice_set g n None), settle_takes n k None)
-dropped (any_copies a first) k g = dropped a k g
-dropped (one_or_none a first) k g = dropped a k g
-dropped other k g = search rules
+pub drops : (t : Tree) (k : ℕ) (g : SpansOfGroups) → (slice_get (forget t g) k ≡ lay (slice_get g k) (deed (has_group t k) None)) × ((s : GroupState) → Takes k (deed (has_group t k) None) s (drop_groups t s))
+drops (sequence a b) k g = search (rules, drops a k g, drops b k (forget a g))
+drops (either_of a b) k g = search (rules, drops a k g, drops b k (forget a g))
+drops (grouped n a) k g = search (rules, set_at n k None g, drops a k (slice_set g n None), settle_takes n k None)
+drops (any_copies a first) k g = drops a k g
+drops (one_or_none a first) k g = drops a k g
+drops other k g = search rules
 
-pub drop_takes : (t : Tree) (k : ℕ) (s : GroupState) → Takes k (deed (has_group t k) None) s (drop_groups t s)
-drop_takes t k = (dropped t k []).1
+module _ (k : ℕ) (w : List ℕ) where
+  -- a match, its groups decided from the left, leaves other groups as they are
+  captured : (e : Tree) (i j : ℕ) (g h : SpansOfGroups) → Captures e w i j g h → slice_get h k ≡ lay (slice_get g k) (cond (has_group e k) (slice_get h k) None)
+  captured (sequence a b) i j g h c = search (rules, captured a i c.0 g c.2.0 c.2.1, captured b c.0 j c.2.0 h c.2.2)
+  captured (either_of a b) i j g h c = search (rules, captured a i j g h, captured b i j g h)
+  captured (grouped n a) i j g h c = search (rules, captured a i j (forget (grouped n a) g) c.0 c.1, drops (grouped n a) k g, set_at n k (Some (i, j)) c.0)
+  captured (any_copies a first) i j g h c = search (rules, captured a, drops a k g)
+  captured (one_or_none a first) i j g h c = search (rules, captured a, drops a k g)
+  captured other i j g h c = search rules
 
--- this becomes of entry k of a list, and of group k: nothing unless P
-record Goes (k : ℕ) (P : Type 0) (g h : SpansOfGroups) (d : Option Span) (old new : GroupState) : Type 0 where
-  at : slice_get h k ≡ lay (slice_get g k) d
-  none : (d ≡ None) ⊎ P
-  takes : Takes k d old new
+  -- a walk over the match does the same to what is due: this becomes of entry k, and of group k
+  abbrev Ends : Tree → ℕ → ℕ → SpansOfGroups → GroupState → GroupState → Type 0
+  Ends e i j g old new = (h : SpansOfGroups) × Captures e w i j g h × (d : Option Span) × (slice_get h k ≡ lay (slice_get g k) d) × Takes k d old new
 
--- what becomes of it as a part is decided and the groups in it are dropped
-abbrev within : Tree → ℕ → Option Span → Option Span
-within a k d = option_or d (deed (has_group a k) None)
+  both : (a b : Tree) (i j c : ℕ) (g : SpansOfGroups) (old mid new : GroupState) → LastCut (Matches a w) (Matches b w) i j c → (one : Ends a i c g mid new) → Ends b c j one.0 old mid → Ends (sequence a b) i j g old new
+  both a b i j c g old mid new cut one two = (two.0, (c, cut, (one.0, one.1, two.1)), option_or two.2 one.2, search rules, search rules)
 
-module _ (k : ℕ) where
-  -- in a match, its groups decided from the left
-  captured : (e : Tree) (w : List ℕ) (i j : ℕ) (g h : SpansOfGroups) → Captures e w i j g h → (d : Option Span) × (slice_get h k ≡ lay (slice_get g k) d) × ((d ≡ None) ⊎ GroupIsIn e k)
-  captured (sequence a b) w i j g h c = let one = captured a w i c.0 g c.2.0 c.2.1 in let two = captured b w c.0 j c.2.0 h c.2.2 in (option_or two.0 one.0, search rules, search rules)
-  captured (either_of a b) w i j g h (inl c) = let one = captured a w i j g h c.1 in (one.0, search rules, search rules)
-  captured (either_of a b) w i j g h (inr c) = let one = captured b w i j g h c.1 in (one.0, search rules, search rules)
-  captured (grouped n a) w i j g h c =
-      let one = captured a w i j (forget (grouped n a) g) c.0 c.1 in
-      (option_or (deed (eqb n k) (Some (i, j))) (within a k one.0), search (rules, dropped (grouped n a) k g, set_at n k (Some (i, j)) c.0), search rules)
-  captured (any_copies a first) w i j g h (inl c) = let one = captured a w c.1.0 j (forget a g) h c.1.2 in (within a k one.0, search (rules, dropped a k g), search rules)
-  captured (any_copies a first) w i j g h (inr (inl c)) = let one = captured a w i i (forget a g) h c.3 in (within a k one.0, search (rules, dropped a k g), search rules)
-  captured (any_copies a first) w i j g h (inr (inr c)) = (None, search rules, search rules)
-  captured (one_or_none a first) w i j g h (inl c) = let one = captured a w i j (forget a g) h c.1 in (within a k one.0, search (rules, dropped a k g), search rules)
-  captured (one_or_none a first) w i j g h (inr (inl c)) = let one = captured a w i i (forget a g) h c.3 in (within a k one.0, search (rules, dropped a k g), search rules)
-  captured (one_or_none a first) w i j g h (inr (inr c)) = (None, search rules, search rules)
-  captured other w i j g h c = (None, search rules, search rules)
+  inside : (a e : Tree) (i j c d : ℕ) (g : SpansOfGroups) (old mid new : GroupState) → new ≡ drop_groups a mid → ((h : SpansOfGroups) → Captures a w c d (forget a g) h → Captures e w i j g h) → Ends a c d (forget a g) old mid → Ends e i j g old new
+  inside a e i j c d g old mid new is wrap one = (one.0, wrap one.0 one.1, option_or one.2 (deed (has_group a k) None), search (rules, one.3, drops a k g), search (rules, one.4, (drops a k g).1 mid))
 
-  -- a walk over the match does the same to what is due
-  abbrev Ends : Tree → List ℕ → ℕ → ℕ → SpansOfGroups → GroupState → GroupState → Type 0
-  Ends e w i j g old new = (h : SpansOfGroups) × Captures e w i j g h × (d : Option Span) × Goes k (GroupIsIn e k) g h d old new
-
-  both : (a b : Tree) (g m h : SpansOfGroups) (d d' : Option Span) (old mid new : GroupState) → Goes k (GroupIsIn a k) g m d mid new → Goes k (GroupIsIn b k) m h d' old mid → Goes k (GroupIsIn (sequence a b) k) g h (option_or d' d) old new
-  both a b g m h d d' old mid new one two = search rules
-
-  inside : (a e : Tree) (w : List ℕ) (i j c d : ℕ) (g : SpansOfGroups) (old mid new : GroupState) → (GroupIsIn a k → GroupIsIn e k) → new ≡ drop_groups a mid → ((h : SpansOfGroups) → Captures a w c d (forget a g) h → Captures e w i j g h) →
-      Ends a w c d (forget a g) old mid → Ends e w i j g old new
-  inside a e w i j c d g old mid new up is wrap one = (one.0, wrap one.0 one.1, within a k one.2, let goes = one.3 in search (rules, dropped a k g, drop_takes a k mid))
-
-  enclosed : (n : ℕ) (a : Tree) (w : List ℕ) (i j : ℕ) (g : SpansOfGroups) (old mid new : GroupState) → new ≡ drop_groups a mid → Ends a w i j (forget (grouped n a) g) (settle n (Some (i, j)) old) mid → Ends (grouped n a) w i j g old new
-  enclosed n a w i j g old mid new is one =
+  enclosed : (n : ℕ) (a : Tree) (i j : ℕ) (g : SpansOfGroups) (old mid new : GroupState) → new ≡ drop_groups a mid → Ends a i j (forget (grouped n a) g) (settle n (Some (i, j)) old) mid → Ends (grouped n a) i j g old new
+  enclosed n a i j g old mid new is one =
       let v = Some (i, j) in
-      let goes = one.3 in
-      (slice_set one.0 n v, (one.0, one.1, refl), option_or (deed (eqb n k) v) (within a k one.2), search (rules, dropped (grouped n a) k g, set_at n k v one.0, settle_takes n k v old, drop_takes a k mid))
+      (slice_set one.0 n v, (one.0, one.1, refl), option_or (deed (eqb n k) v) (option_or one.2 (deed (has_group a k) None)), search (rules, one.3, drops (grouped n a) k g, set_at n k v one.0), search (rules, one.4, settle_takes n k v old, (drops a k g).1 mid))
 
-  walked : (e : Tree) (w : List ℕ) (i j n : ℕ) (old new : GroupState) → Matches e w i j → WalkEnters e w i j old new n → (g : SpansOfGroups) → Ends e w i j g old new
-  walked null_string w i j n old new spans walk g = (g, refl, None, search rules)
-  walked (byte_of has) w i j n old new spans walk g = (g, refl, None, search rules)
-  walked text_begin w i j n old new spans walk g = (g, refl, None, search rules)
-  walked text_end w i j n old new spans walk g = (g, refl, None, search rules)
-  walked other w i j n old new spans (inl by) g =
+  walked : (e : Tree) (i j n : ℕ) (old new : GroupState) → Matches e w i j → WalkEnters e w i j old new n → (g : SpansOfGroups) → Ends e i j g old new
+  walked null_string i j n old new spans walk g = (g, refl, None, search rules, search rules)
+  walked (byte_of has) i j n old new spans walk g = (g, refl, None, search rules, search rules)
+  walked text_begin i j n old new spans walk g = (g, refl, None, search rules, search rules)
+  walked text_end i j n old new spans walk g = (g, refl, None, search rules, search rules)
+  walked other i j n old new spans (inl by) g =
+      let h = groups_after other w i j g in
       let c = groups_after-is other w i j g spans in
-      let one = captured other w i j g _ c in
-      (groups_after other w i j g, c, one.0, search (rules, one.1, one.2, by.0 k))
-  walked (sequence a b) w i j n old new spans (inr (p, q, is, c, cut, mid, second, first)) g =
-      let one = walked a w i c q mid new cut.left first g in
-      let two = walked b w c j p old mid cut.right second one.0 in
-      (two.0, (c, cut, (one.0, one.1, two.1)), option_or two.2 one.2, both a b g one.0 two.0 one.2 two.2 old mid new one.3 two.3)
-  walked (either_of a b) w i j n old new spans (inr (p, is, inl (at, walk))) g = let one = walked a w i j p old new at walk g in (one.0, inl (at, one.1), one.2, search rules)
-  walked (either_of a b) w i j n old new spans (inr (p, is, inr (not, walk))) g = let one = walked b w i j p old new (search rules) walk g in (one.0, inr (not, one.1), one.2, search rules)
-  walked (grouped m a) w i j n old new spans (inr (p, is, mid, walk, last)) g =
-      enclosed m a w i j g old mid new last (walked a w i j p (settle m (Some (i, j)) old) mid spans walk (forget (grouped m a) g))
-  walked (any_copies a first) w i j n old new spans (inr (p, is, inl (lt, c, copy, mid, walk, last))) g =
-      inside a (any_copies a first) w i j c j g old mid new (λ f. f) last (λ h one. inl (lt, (c, copy, one))) (walked a w c j p old mid (copy_spans (Matches a w) j i c copy).2 walk (forget a g))
-  walked (any_copies a first) w i j n old new spans (inr (p, is, inr (inl (same, yes_first, at, mid, walk, last)))) g =
-      inside a (any_copies a first) w i j i i g old mid new (λ f. f) last (λ h one. inr (inl (same, yes_first, at, one))) (walked a w i i p old mid at walk (forget a g))
-  walked (any_copies a first) w i j n old new spans (inr (p, is, inr (inr (same, not, still_is, none)))) g = (g, inr (inr (same, (not, refl))), None, search rules)
-  walked (one_or_none a first) w i j n old new spans (inr (p, is, inl (lt, mid, walk, last))) g =
-      inside a (one_or_none a first) w i j i j g old mid new (λ f. f) last (λ h one. inl (lt, one)) (walked a w i j p old mid (search rules) walk (forget a g))
-  walked (one_or_none a first) w i j n old new spans (inr (p, is, inr (inl (same, yes_first, at, mid, walk, last)))) g =
-      inside a (one_or_none a first) w i j i i g old mid new (λ f. f) last (λ h one. inr (inl (same, yes_first, at, one))) (walked a w i i p old mid at walk (forget a g))
-  walked (one_or_none a first) w i j n old new spans (inr (p, is, inr (inr (same, not, still_is, none)))) g = (g, inr (inr (same, (not, refl))), None, search rules)
+      (h, c, cond (has_group other k) (slice_get h k) None, captured other i j g h c, search (rules, by.0 k, cases_Bool (has_group other k)))
+  walked (sequence a b) i j n old new spans (inr (p, q, is, c, cut, mid, second, first)) g =
+      let one = walked a i c q mid new cut.left first g in
+      both a b i j c g old mid new cut one (walked b c j p old mid cut.right second one.0)
+  walked (either_of a b) i j n old new spans (inr (p, is, inl (at, walk))) g = let one = walked a i j p old new at walk g in (one.0, inl (at, one.1), one.2, one.3, one.4)
+  walked (either_of a b) i j n old new spans (inr (p, is, inr (not, walk))) g = let one = walked b i j p old new (search rules) walk g in (one.0, inr (not, one.1), one.2, one.3, one.4)
+  walked (grouped m a) i j n old new spans (inr (p, is, mid, walk, last)) g =
+      enclosed m a i j g old mid new last (walked a i j p (settle m (Some (i, j)) old) mid spans walk (forget (grouped m a) g))
+  walked (any_copies a first) i j n old new spans (inr (p, is, inl (lt, c, copy, mid, walk, last))) g =
+      inside a (any_copies a first) i j c j g old mid new last (λ h one. inl (lt, (c, copy, one))) (walked a c j p old mid (copy_spans (Matches a w) j i c copy).2 walk (forget a g))
+  walked (any_copies a first) i j n old new spans (inr (p, is, inr (inl (same, yes_first, at, mid, walk, last)))) g =
+      inside a (any_copies a first) i j i i g old mid new last (λ h one. inr (inl (same, yes_first, at, one))) (walked a i i p old mid at walk (forget a g))
+  walked (any_copies a first) i j n old new spans (inr (p, is, inr (inr (same, not, still_is, none)))) g = (g, inr (inr (same, (not, refl))), None, search rules, search rules)
+  walked (one_or_none a first) i j n old new spans (inr (p, is, inl (lt, mid, walk, last))) g =
+      inside a (one_or_none a first) i j i j g old mid new last (λ h one. inl (lt, one)) (walked a i j p old mid (search rules) walk (forget a g))
+  walked (one_or_none a first) i j n old new spans (inr (p, is, inr (inl (same, yes_first, at, mid, walk, last)))) g =
+      inside a (one_or_none a first) i j i i g old mid new last (λ h one. inr (inl (same, yes_first, at, one))) (walked a i i p old mid at walk (forget a g))
+  walked (one_or_none a first) i j n old new spans (inr (p, is, inr (inr (same, not, still_is, none)))) g = (g, inr (inr (same, (not, refl))), None, search rules, search rules)
 
 pub same_lists : {X : Type 0} (xs ys : List X) → ((k : ℕ) → slice_get xs k ≡ slice_get ys k) → xs ≡ ys
 same_lists [] [] each = refl
@@ -151,20 +117,15 @@ same_lists xs ys each = search (rules, each 0)
 -- from a state with the match's span alone, in which all groups of the expression are due, all entries are those of the report
 pub walk_report : (e : Tree) (w : List ℕ) (i j n : ℕ) (old new : GroupState) → IsFirstState e i j old → Matches e w i j → WalkEnters e w i j old new n → IsReport e w i j new.spans
 walk_report e w i j n old new start spans walk =
-    let first = walked 0 e w i j n old new spans walk no_groups in
-    let each : new.spans ≡ slice_set first.0 0 (Some (i, j)) = same_lists _ _ (λ k.
-    let one = walked k e w i j n old new spans walk no_groups in
+    let first = walked 0 w e i j n old new spans walk no_groups in
+    (first.0, first.1, same_lists _ _ (λ k.
+    let one = walked k w e i j n old new spans walk no_groups in
     let same = Captures-unique e w i j no_groups one.0 first.0 one.1 first.1 in
-    search (rules, one.3.at, one.3.none, one.3.takes.span, start.whole, start.each k, start.none, set_at 0 k (Some (i, j)) first.0, slice_get_past no_groups k)) in
-    (first.0, first.1, each)
+    search (rules, captured k w e i j no_groups first.0 first.1, one.3, one.4.span, start.whole, start.each k, start.none, set_at 0 k (Some (i, j)) first.0, slice_get_past no_groups k)))
 
--- where what is due has no span, to drop the groups of a tree is to take them from what is due
-pub drop_as : (t : Tree) (s new : GroupState) → ((k : ℕ) → is_due s k ≡ true → slice_index_or s.spans k None ≡ None) → new.spans ≡ s.spans → length new.due ≡ length s.due →
-    ((k : ℕ) → is_due new k ≡ left (is_due s k) (deed (has_group t k) None)) → new ≡ drop_groups t s
-drop_as t s new blank same long shows =
-    let due = ext_get_or false new.due (drop_groups t s).due (long ∙ sym (drop_takes t 0 s).long) (λ k _. shows k ∙ sym (drop_takes t k s).due) in
-    let spans = same_lists s.spans (drop_groups t s).spans (λ k. search (rules, (drop_takes t k s).span, unwrap_or-slice_get s.spans k None, blank k)) in
-    search rules
+-- where what is due has no span, to drop the groups of a tree changes none
+pub drop_spans : (t : Tree) (s : GroupState) → ((k : ℕ) → is_due s k ≡ true → slice_index_or s.spans k None ≡ None) → s.spans ≡ (drop_groups t s).spans
+drop_spans t s blank = same_lists s.spans (drop_groups t s).spans (λ k. search (rules, ((drops t k []).1 s).span, unwrap_or-slice_get s.spans k None, blank k))
 
 -- a walk passes by what has no group that is due
 pub passes_by : (e : Tree) (w : List ℕ) (i j : ℕ) (s : GroupState) → NoneDue e s → WalkEnters e w i j s s 0

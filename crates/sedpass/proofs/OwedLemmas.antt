@@ -1,30 +1,21 @@
 -- What looks into a kept pass may still cost.
-use Rattle.sedpass.proofs.Words.{◌≡◌, ℕ, zero, suc, ◌+◌, ◌-◌, ◌*◌, ◌<◌, ◌≤◌, ◌⊎◌, ◌&&◌, List, refl, ap, subst, arith, mul-le-mul_left, cond, rules, common_steps, CostsWithin, Node, Region, Matched, Apart, deeper, leb, ltb, match_cost, region_cost, task_cost, due_place, owed_region}
+use Rattle.sedpass.proofs.Words.{◌≡◌, ℕ, zero, suc, ◌+◌, ◌-◌, ◌*◌, ◌<◌, ◌≤◌, ◌⊎◌, List, ap, subst, arith, mul-le-mul_left, rules, common_steps, CostsWithin, Node, Region, Matched, Apart, deeper, match_cost, region_cost, task_cost, due_place, owed_region}
 use Rattle.sedpass.specs.Kept.{again}
-
--- The place that may be due.
-
-live_place : (from to i : ℕ) → from ≤ i → i < to → cond (leb from i && ltb i to) to i ≡ to
-live_place from to i above before = search rules
 
 -- What is made again.
 
 again_falls : (m c d : ℕ) → c ≤ d → again m c ≤ again m d
-again_falls m zero d up = omega arith
-again_falls m (suc c) zero up = absurd (omega arith)
-again_falls m (suc c) (suc d) up = omega (arith, mul-le-mul_left (59 * m) up)
+again_falls m c d up = grind (arith, mul-le-mul_left (59 * m) up)
 
 again_few : (m d : ℕ) → again m d ≤ 59 * m * d + 13 * m
-again_few m zero = omega arith
-again_few m (suc d) = omega arith
+again_few m d = grind arith
 
 again_small : (m d : ℕ) → again m d ≤ 100 * m * d
 again_small m zero = omega arith
 again_small m (suc d) = omega arith
 
 again_some : (m d : ℕ) → 1 ≤ d → again m d ≡ 59 * m * d + 13 * m
-again_some m zero some = absurd (omega arith)
-again_some m (suc d) some = refl
+again_some m d some = grind arith
 
 -- a block up to another one, or up to the region's end
 again_paid : (m d e s t a : ℕ) → 1 ≤ d → a ≤ s + 33 * m → (1 ≤ e → a ≤ s + 20 * m) → t ≤ a + 35 * m * d → t + again m e ≤ s + again m (d + e)
@@ -39,23 +30,21 @@ again_cost m low to end s a t some within first inside pass =
 
 -- What is owed.
 
-owed_below : (m : ℕ) (r : Region) (i : ℕ) → i < r.low → owed_region m r i ≡ 100 * m * (r.end - i)
-owed_below m r i low = search rules
-
-owed_above : (m : ℕ) (r : Region) (i : ℕ) → r.low ≤ i → owed_region m r i ≡ again m (r.end - due_place r i)
-owed_above m r i low = search rules
-
 -- never more than for the whole rest of the region
 pub owed_small : (m : ℕ) (r : Region) (i : ℕ) → owed_region m r i ≤ 100 * m * (r.end - i)
 owed_small m r i = grind (arith, common_steps, again_small)
 
 pub owed_falls : (m : ℕ) (r : Region) (i k : ℕ) → i ≤ k → owed_region m r k ≤ owed_region m r i
-owed_falls m r i k up = grind (arith, common_steps, owed_small, owed_below, mul-le-mul_left, owed_above, again_falls)
+owed_falls m r i k up =
+    let less : r.end - k ≤ r.end - i = omega arith in
+    grind (arith, common_steps, owed_small m r k, mul-le-mul_left (100 * m) less, again_falls m (r.end - due_place r k) (r.end - due_place r i))
 
 -- the region is made down to the place, which is in the table
 pub owed_made : (m : ℕ) (old new : Region) (place s t : ℕ) → place < old.low → place < old.end → new.low ≡ place → new.from ≡ place → place < new.to → new.end ≡ old.end → s ≤ t →
     t ≤ s + (33 * m + 39 * m * (old.end - place)) → CostsWithin s t (owed_region m old place) (owed_region m new place)
-owed_made m old new place s t below before low from to end grows cost = search (rules, owed_above, live_place, owed_below, again_few, mul-le-mul_left)
+owed_made m old new place s t below before low from to end grows cost =
+    let less : new.end - new.to + 1 ≤ old.end - place = omega arith in
+    grind (arith, common_steps, again_few m (new.end - new.to), mul-le-mul_left (59 * m) less)
 
 -- the rest of the place's block is made again
 pub owed_again : (m : ℕ) (old new : Region) (place s t : ℕ) → old.low ≤ place → (place < old.from) ⊎ (old.to ≤ place) → new.low ≡ old.low → new.end ≡ old.end → new.from ≡ place → place < new.to →
@@ -102,6 +91,5 @@ parts_paid m (suc d) a b start k stop owed less p q n s t some left right low hi
     rw (← all) (omega (arith, two, fewer))
 
 -- the last copy of a repetition, in a region of its own
-pub copy_paid : (m a long short owed x p q s t : ℕ) → 1 ≤ deeper a → short ≤ long → x ≤ 172 * m * a * short + 2 * p → p + 1 ≤ q → t ≤ s + (owed + 72 * m * long + 1) → t + (x + 1) ≤ s + (region_cost m (deeper a) long owed + 2 * q)
-copy_paid m zero long short owed x p q s t some less begun fewer paid = absurd (omega arith)
-copy_paid m (suc a) long short owed x p q s t some less begun fewer paid = omega (arith, begun, fewer, paid, mul-le-mul_left (172 * m * suc a) less)
+pub copy_paid : (m d a long short owed x p q s t : ℕ) → 1 ≤ d → d ≡ deeper a → short ≤ long → x ≤ 172 * m * a * short + 2 * p → p + 1 ≤ q → t ≤ s + (owed + 72 * m * long + 1) → t + (x + 1) ≤ s + (region_cost m d long owed + 2 * q)
+copy_paid m d a long short owed x p q s t some is less begun fewer paid = grind (arith, mul-le-mul_left (172 * m * a) less)

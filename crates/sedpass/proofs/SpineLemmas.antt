@@ -1,8 +1,7 @@
 -- What holds while a spine is followed from node to node, and while tasks wait.
-use Rattle.sedpass.proofs.Words.{rules, ◌≡◌, ℕ, ◌+◌, ◌-◌, ◌≤◌, List, [], ◌∷◌, ◌++◌, ◌&&◌, not, length, reverse, sym, ap, ◌∙◌, subst, arith, AllByRecursion, reverse-append, tree_at, Node, size-pos, GroupSet, Matched, GroupTask, Apart, Forget, Done, One, Two, Decided, Facts, Region, Subject, group_depth, CostsWithin, Takes, IsCounted, TakesAtLeast, known_groups, spans_in, HasBlank, NoneSettled, IsTurn, NodeTurned, Works, match_cost, tasks_cost, then_cost, nodes_in, subject_text, weights, tasks_after, entered_at, IsTaskReady, IsFacts, holds, NoneDue, Then}
-use Rattle.sedpass.proofs.DecideLemmas.{dropped}
-use Rattle.sedpass.proofs.OneGroupLemmas.{drop_takes, passes_by, takes_blank}
-use Rattle.sedpass.proofs.TurnLemmas.{done_turn}
+use Rattle.sedpass.proofs.Words.{rules, ◌≡◌, ℕ, ◌+◌, ◌-◌, ◌≤◌, List, [], ◌∷◌, ◌++◌, ◌&&◌, not, length, reverse, sym, ap, ◌∙◌, arith, AllByRecursion, length-reverse, reverse-append, tree_at, Node, size-pos, GroupSet, Matched, GroupTask, Apart, Forget, Done, One, Two, Decided, Facts, Region, Subject, and_parts, cases_Bool, cases_eq, drop_groups, ext_get_or, false, flags_of, IsTrue, CostsWithin, Takes, IsCounted, TakesAtLeast, known_groups, spans_in, HasBlank, NoneSettled, IsTurn, NodeTurned, Works, match_cost, tasks_cost, then_cost, nodes_in, subject_text, weights, tasks_after, entered_at, IsTaskReady, IsFacts, holds, NoneDue, Then}
+use Rattle.sedpass.proofs.DecideLemmas.{depths, flags_at, flags_left}
+use Rattle.sedpass.proofs.OneGroupLemmas.{drop_spans, drops, passes_by}
 
 -- Tasks that are done.
 
@@ -29,67 +28,54 @@ pub works_forget : (s : Subject) (x : ℕ) (rest : List GroupTask) (facts : Fact
     IsFacts (tree_at (nodes_in s) x) x facts → ((n : ℕ) → holds due n ≡ (holds old.due n && not (holds facts.groups n))) → Works s (Forget x ∷ rest) old rest (record old { due = due }) 1 (tasks_cost (nodes_in s) (Forget x ∷ rest)) (tasks_cost (nodes_in s) rest) steps steps
 unfolding IsCounted TakesAtLeast
 works_forget s x rest facts due old steps ready decided is without =
-    let state = dropped (nodes_in s) x facts old due is decided without in
-    let taken = λ (k : ℕ). drop_takes (tree_at (nodes_in s) x) k (known_groups old) in
-    let blank : NoneSettled (known_groups (record old { due = due })) = subst NoneSettled (sym state) (λ k. takes_blank k _ (known_groups old) _ (taken k) (decided.blank k)) in
-    record {
-      decided = record { blank = blank; whole = search (rules, without 0, decided.whole) };
-      ready = search rules;
-      less = search rules;
-      spent = search rules;
-      n = 0;
-      run = λ f m run. search (rules, state);
-      entered = search rules;
-      counts = search rules;
-    }
+    let e = tree_at (nodes_in s) x in
+    let state = known_groups old in
+    let flags = ext_get_or false (flags_of due) (drop_groups e state).due (sym ((drops e 0 []).1 state).long) (λ k _. flags_left old.due facts.groups due k _ _ decided.whole (is.groups k) (without k) ∙ sym ((drops e k []).1 state).due) in
+    let blank : HasBlank (record old { due = due }) = record { blank = λ k. search (rules, flags_at due k, flags_at old.due k, without k, decided.blank k); whole = search (rules, without 0, decided.whole) } in
+    search (rules, flags, drop_spans e state decided.blank)
 
 -- the last task of a stack comes first
 pub popped : (stack rest : List GroupTask) (task : GroupTask) → stack ≡ rest ++ (task ∷ []) → reverse stack ≡ task ∷ reverse rest
 popped stack rest task is = ap reverse is ∙ reverse-append rest (task ∷ [])
 
-all-append : (P : GroupTask → Type 0) (xs ys : List GroupTask) → AllByRecursion P xs → AllByRecursion P ys → AllByRecursion P (xs ++ ys)
-all-append P [] ys left right = right
-all-append P (x ∷ xs) ys left right = (left.0, all-append P xs ys left.1 right)
-
-weights-append : (nodes : List Node) (xs ys : List GroupTask) → weights nodes (xs ++ ys) ≡ weights nodes xs + weights nodes ys
-weights-append nodes [] ys = omega arith
-weights-append nodes (x ∷ xs) ys = search (rules, weights-append nodes xs ys)
+-- what comes in place of a node, before the rest
+after_parts : (nodes : List Node) (w : List ℕ) (r : Region) (then : Then) (rest : List GroupTask) (more : ℕ) → AllByRecursion (IsTaskReady nodes w) (tasks_after then) → AllByRecursion (IsTaskReady nodes w) rest →
+    AllByRecursion (IsTaskReady nodes w) (tasks_after then ++ rest) × (weights nodes (tasks_after then ++ rest) ≡ weights nodes (tasks_after then) + weights nodes rest) × (then_cost nodes r then 1 + more ≡ then_cost nodes r then more + 1)
+after_parts nodes w r Done rest more ready others = search rules
+after_parts nodes w r (One next) rest more ready others = search rules
+after_parts nodes w r (Two next later) rest more ready others = search rules
 
 -- there are no more tasks than they weigh
 pub no_more : (nodes : List Node) (tasks : List GroupTask) → length tasks ≤ weights nodes tasks
 no_more nodes [] = omega arith
 no_more nodes (x ∷ tasks) = search (rules, no_more nodes tasks, size-pos)
 
-turn_works : (s : Subject) (here : Matched) (then : Then) (rest : List GroupTask) (old new : Decided) (n paid owed before after : ℕ) → AllByRecursion (IsTaskReady (nodes_in s) (subject_text s)) (Apart here ∷ rest) →
-    IsTurn s here (known_groups old) (known_groups new) then n → CostsWithin before after paid owed → TakesAtLeast before after n → HasBlank new →
-    TakesAtLeast before after (spans_in new.spans - spans_in old.spans) → Works s (Apart here ∷ rest) old (tasks_after then ++ rest) new 1 paid owed before after
-turn_works s here then rest old new n paid owed before after ready turn cost entered decided counts = record {
-  decided = decided;
-  ready = all-append _ (tasks_after then) rest turn.ready ready.1;
-  less = search (rules, turn.less, weights-append (nodes_in s) (tasks_after then) rest);
-  spent = cost;
-  n = n;
-  run = turn.run rest;
-  entered = entered;
-  counts = counts;
-}
+-- so there is room for a task more
+pub ruleset waiting = (no_more, length-reverse, size-pos)
 
 -- a node of which no group is due
-pub works_left : (s : Subject) (here : Matched) (rest : List GroupTask) (old : Decided) (paid owed steps : ℕ) → owed ≤ paid → AllByRecursion (IsTaskReady (nodes_in s) (subject_text s)) (Apart here ∷ rest) →
-    NoneDue (tree_at (nodes_in s) here.node) (known_groups old) → HasBlank old → Works s (Apart here ∷ rest) old rest old 1 paid owed steps steps
+pub works_left : (s : Subject) (here : Matched) (rest : List GroupTask) (facts : Facts) (old : Decided) (paid owed steps : ℕ) → owed ≤ paid → AllByRecursion (IsTaskReady (nodes_in s) (subject_text s)) (Apart here ∷ rest) →
+    IsFacts (tree_at (nodes_in s) here.node) here.node facts → ((k : ℕ) → IsTrue (holds facts.groups k) → IsTrue (holds old.due k) → ⊥) → HasBlank old → Works s (Apart here ∷ rest) old rest old 1 paid owed steps steps
 unfolding IsCounted TakesAtLeast
-works_left s here rest old paid owed steps less ready none decided =
-    turn_works s here Done rest old old 0 paid owed steps steps ready (search (rules, done_turn, passes_by)) (search rules) (search rules) decided (search rules)
-
-then_more : (nodes : List Node) (r : Region) (then : Then) (more : ℕ) → then_cost nodes r then 1 + more ≡ then_cost nodes r then more + 1
-then_more nodes r Done more = omega arith
-then_more nodes r (One next) more = omega arith
-then_more nodes r (Two next later) more = omega arith
+works_left s here rest facts old paid owed steps less ready is apart decided =
+    let none : NoneDue (tree_at (nodes_in s) here.node) (known_groups old) = λ k has. grind (arith, cases_eq k 0, cases_Bool (holds old.due k), flags_at old.due k, is.groups k, apart k, decided.whole) in
+    search (rules, size-pos, passes_by (tree_at (nodes_in s) here.node) (subject_text s) here.start here.stop (known_groups old) none)
 
 -- a node that was looked at
-pub works_turn : (s : Subject) (here : Matched) (node : Node) (then : Then) (rest : List GroupTask) (old new : Decided) (r r' : Region) (more before begun after : ℕ) → AllByRecursion (IsTaskReady (nodes_in s) (subject_text s)) (Apart here ∷ rest) →
-    IsCounted before begun 1 → Takes before begun 1 → NodeTurned s here node (known_groups old) (known_groups new) r r' then begun after → 1 ≤ group_depth (tree_at (nodes_in s) here.node) → HasBlank new → spans_in new.spans ≤ spans_in old.spans + 1 →
+pub works_turn : (s : Subject) (here : Matched) (node : Node) (then : Then) (rest : List GroupTask) (old new : Decided) (r r' : Region) (facts : Facts) (more before begun after k : ℕ) → AllByRecursion (IsTaskReady (nodes_in s) (subject_text s)) (Apart here ∷ rest) →
+    IsCounted before begun 1 → Takes before begun 1 → NodeTurned s here node (known_groups old) (known_groups new) r r' then begun after → IsFacts (tree_at (nodes_in s) here.node) here.node facts → IsTrue (holds facts.groups k) → HasBlank new → spans_in new.spans ≤ spans_in old.spans + 1 →
     Works s (Apart here ∷ rest) old (tasks_after then ++ rest) new 1 (match_cost (nodes_in s) r here + more) (then_cost (nodes_in s) r' then more) before after
 unfolding IsCounted TakesAtLeast
-works_turn s here node then rest old new r r' more before begun after ready look once turned deep decided few =
-    search (rules, turn_works s here then rest old new (entered_at node) (match_cost (nodes_in s) r here + more) (then_cost (nodes_in s) r' then more) before after ready turned.turn, turned.cost deep, then_more (nodes_in s) r' then more)
+works_turn s here node then rest old new r r' facts more before begun after k ready look once turned is has decided few =
+    let parts = after_parts (nodes_in s) (subject_text s) r' then rest more turned.turn.ready ready.1 in
+    let deep = (depths (tree_at (nodes_in s) here.node) k).1 (search (rules, is.groups k, and_parts)) in
+    record {
+      decided = decided;
+      ready = parts.0;
+      less = search (rules, turned.turn.less, parts.1);
+      spent = search (rules, turned.cost deep, parts.2);
+      n = entered_at node;
+      run = turned.turn.run rest;
+      entered = search rules;
+      counts = search rules;
+    }

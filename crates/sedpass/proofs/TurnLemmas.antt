@@ -1,21 +1,16 @@
 -- What comes in place of a node, by its kind.
-use Rattle.sedpass.proofs.Words.{rules, ◌≡◌, ℕ, ◌+◌, ◌-◌, ◌*◌, ◌<◌, ◌≤◌, ◌⊎◌, Bool, List, [], ◌∷◌, length, None, Some, IsTrue, refl, sym, ap, inl, inr, arith, tree_of, tree_at, size, IsPart, Takes, TakesAtLeast, Node, NodeId, Seq, Alt, Group, Star, Opt, tree_at-node, HasSpan, LastCut, parts_of, total_size, Matches, open_at, group_depth, CostsWithin, Matches-forward, size-parts, size-pos, Matched, Apart, Forget, Done, One, Two, Region, Subject, EndsRegion, HasNoKnownLength, IsCopyFrom, LooksAt, NodeTurned, match_cost, nodes_in, subject_text, NodeMatches, IsTurn, entered_at, owed_region, all_of, last_of, GroupState, settle, drop_groups, WalkEnters}
+use Rattle.sedpass.proofs.Words.{rules, ◌≡◌, ℕ, ◌+◌, ◌-◌, ◌*◌, ◌<◌, ◌≤◌, ◌⊎◌, Bool, [], ◌∷◌, length, None, Some, IsTrue, refl, sym, ap, inl, inr, arith, tree_of, tree_at, size, IsPart, Takes, TakesAtLeast, Node, NodeId, Seq, Alt, Group, Star, Opt, tree_at-node, HasSpan, LastCut, parts_of, total_size, Matches, open_at, group_depth, CostsWithin, Matches-forward, size-parts, size-pos, Matched, Apart, Forget, Done, One, Two, Region, Subject, EndsRegion, HasNoKnownLength, IsCopyFrom, LooksAt, NodeTurned, IsLastIn, one_start, match_cost, nodes_in, subject_text, NodeMatches, IsTurn, entered_at, owed_region, all_of, last_of, GroupState, settle, drop_groups, WalkEnters}
 use Rattle.sedpass.proofs.OneGroupLemmas.{copy_spans}
+use Rattle.sedpass.proofs.LeaveLemmas.{last_inside}
+use Rattle.sedpass.proofs.MeetingLemmas.{part_within}
 use Rattle.sedpass.proofs.OwedLemmas.{begun_paid, copy_paid, inner_paid, parts_paid}
-
-match_some : (nodes : List Node) (r : Region) (here : Matched) → 2 ≤ match_cost nodes r here
-match_some nodes r here = omega (arith, size-pos (tree_at nodes here.node))
-
--- nothing comes in place of the node
-pub done_turn : (s : Subject) (here : Matched) (old new : GroupState) (n : ℕ) → WalkEnters (tree_at (nodes_in s) here.node) (subject_text s) here.start here.stop old new n → IsTurn s here old new Done n
-done_turn s here old new n walk = search (rules, size-pos)
 
 module _ (s : Subject) (here : Matched) (node : Node) (stands : NodeMatches s here node) where
   -- the match, by its parts
   pub opened : Matches (tree_of (tree_at (nodes_in s)) node) (subject_text s) here.start here.stop
   opened = open_at (nodes_in s) (subject_text s) here.node node stands.arena stands.is here.start here.stop stands.there.at
 
-  pub part_inside : (c : ℕ) → IsPart node c → c < length (nodes_in s)
+  part_inside : (c : ℕ) → IsPart node c → c < length (nodes_in s)
   part_inside c part = search rules
 
   long : size (tree_at (nodes_in s) here.node) ≡ 1 + total_size (nodes_in s) (parts_of node)
@@ -49,7 +44,7 @@ module _ (s : Subject) (here : Matched) (node : Node) (stands : NodeMatches s he
 pub leaf_turned : (s : Subject) (here : Matched) (node : Node) (state : GroupState) (r : Region) (steps : ℕ) → NodeMatches s here node → ((a b : NodeId) → node ≡ Seq a b → ⊥) → ((a b : NodeId) → node ≡ Alt a b → ⊥) →
     ((k : ℕ) (a : NodeId) → node ≡ Group k a → ⊥) → ((a : NodeId) (first : Bool) → node ≡ Star a first → ⊥) → ((a : NodeId) (first : Bool) → node ≡ Opt a first → ⊥) → NodeTurned s here node state state r r Done steps steps
 leaf_turned s here node state r steps stands seq alt group star opt =
-    search (rules, done_turn s here state state (entered_at node), close_walk s here node stands state state (entered_at node))
+    search (rules, size-pos (tree_at (nodes_in s) here.node), close_walk s here node stands state state (entered_at node))
 
 -- a concatenation goes on with its right part; the left one is a task
 pub seq_turned : (s : Subject) (here : Matched) (a b : NodeId) (k : ℕ) (state : GroupState) (r r' : Region) (before after : ℕ) → NodeMatches s here (Seq a b) → EndsRegion s r' here →
@@ -68,14 +63,14 @@ seq_turned s here a b k state r r' before after stands ends cut cost looks =
       less = omega (arith, long s here (Seq a b) stands);
     } in
     let nodes = nodes_in s in
+    let depth = deep s here (Seq a b) stands in
     record {
       turn = turn;
       goes = search (rules, last_of here.node b.index (Seq a b) stands.is refl ends.0);
       cost = λ some. (
         cost.0,
-        rw (deep s here (Seq a b) stands)
-            (parts_paid (length nodes) _ (group_depth (tree_at nodes a.index)) (group_depth (tree_at nodes b.index)) here.start k here.stop (owed_region (length nodes) r here.start) (owed_region (length nodes) r' k)
-            (size (tree_at nodes a.index)) (size (tree_at nodes b.index)) _ before after (rw (deep s here (Seq a b) stands) at some) (omega arith) (omega arith) up on (omega (arith, long s here (Seq a b) stands)) cost.1),
+        parts_paid (length nodes) _ (group_depth (tree_at nodes a.index)) (group_depth (tree_at nodes b.index)) here.start k here.stop (owed_region (length nodes) r here.start) (owed_region (length nodes) r' k)
+            (size (tree_at nodes a.index)) (size (tree_at nodes b.index)) _ before after some (omega (arith, depth)) (omega (arith, depth)) up on (omega (arith, long s here (Seq a b) stands)) cost.1,
       );
       looks = looks;
     }
@@ -88,10 +83,8 @@ pub alt_turned : (s : Subject) (here : Matched) (a b : NodeId) (c : ℕ) (state 
 alt_turned s here a b c state r r' before after stands ends which cost looks =
     let part : IsPart (Alt a b) c = search rules in
     let at : HasSpan (nodes_in s) (subject_text s) c here.start here.stop = search (rules, opened s here (Alt a b) stands) in
-    let go : (mid : GroupState) (m : ℕ) → WalkEnters (tree_at (nodes_in s) c) (subject_text s) here.start here.stop state mid m →
-    WalkEnters (tree_of (tree_at (nodes_in s)) (Alt a b)) (subject_text s) here.start here.stop state mid (1 + m) = λ mid m go. search rules in
     let turn : IsTurn s here state state (One (record { node = c; start = here.start; stop = here.stop })) 1 = record {
-      run = λ rest f m run. (run.0, 1 + run.1, run.2, close_walk s here (Alt a b) stands state run.0 _ (go run.0 run.1 run.3), run.4, omega (arith, run.5));
+      run = λ rest f m run. (run.0, 1 + run.1, run.2, close_walk s here (Alt a b) stands state run.0 _ (search (rules, run.3)), run.4, omega (arith, run.5));
       ready = search (rules, part_inside s here (Alt a b) stands c part);
       less = search (rules, long s here (Alt a b) stands);
     } in
@@ -116,17 +109,15 @@ pub star_turned : (s : Subject) (here : Matched) (a : NodeId) (first : Bool) (c 
 star_turned s here a first c state r r' before after stands copy root end cost looks =
     let R = HasSpan (nodes_in s) (subject_text s) a.index in
     let spans : (here.start ≤ c) × (c ≤ here.stop) × R c here.stop = search (rules, copy_spans R here.stop here.start c) in
-    let turn = inner_turn s here (Star a first) stands a c state state refl refl spans.0 spans.1 spans.2 (λ mid m walk. search rules) in
     let next : Matched = record { node = a.index; start = c; stop = here.stop } in
     let m = length (nodes_in s) in
     record {
-      turn = turn;
+      turn = inner_turn s here (Star a first) stands a c state state refl refl spans.0 spans.1 spans.2 (λ mid m walk. search rules);
       goes = (all_of a.index (sym root), sym end);
       cost = λ some. (
         cost.0,
-        rw (deep s here (Star a first) stands)
-            (copy_paid m (group_depth (tree_at (nodes_in s) a.index)) (here.stop - here.start) (here.stop - c) (owed_region m r here.start) (match_cost (nodes_in s) r' next) (size (tree_at (nodes_in s) a.index)) _ before after
-            (rw (deep s here (Star a first) stands) at some) (omega (arith, spans.0)) (begun_paid (nodes_in s) r' next end) (omega (arith, long s here (Star a first) stands)) cost.1),
+        copy_paid m _ (group_depth (tree_at (nodes_in s) a.index)) (here.stop - here.start) (here.stop - c) (owed_region m r here.start) (match_cost (nodes_in s) r' next) (size (tree_at (nodes_in s) a.index)) _ before after
+            some (deep s here (Star a first) stands) (omega (arith, spans.0)) (begun_paid (nodes_in s) r' next end) (omega (arith, long s here (Star a first) stands)) cost.1,
       );
       looks = looks;
     }
@@ -136,7 +127,7 @@ pub star_done : (s : Subject) (here : Matched) (a : NodeId) (first : Bool) (stat
     Takes before after (owed_region (length (nodes_in s)) r here.start + 72 * length (nodes_in s) * (here.stop - here.start) + 1) → LooksAt s here (Star a first) None before after →
     NodeTurned s here (Star a first) state state r r' Done before after
 star_done s here a first state r r' before after stands none cost looks =
-    search (rules, done_turn s here state state 1 (close_walk s here (Star a first) stands state state 1 (inr (0, refl, inr (inr (none.0, λ is at. none.1 (is, at), refl, refl))))))
+    search (rules, size-pos (tree_at (nodes_in s) here.node), close_walk s here (Star a first) stands state state 1 (inr (0, refl, inr (inr (none.0, λ is at. none.1 (is, at), refl, refl)))))
 
 -- what may be there once is, or an empty copy of it is taken
 pub opt_turned : (s : Subject) (here : Matched) (a : NodeId) (first : Bool) (state : GroupState) (r : Region) (before after : ℕ) → NodeMatches s here (Opt a first) → EndsRegion s r here →
@@ -154,9 +145,18 @@ opt_turned s here a first state r before after stands ends which cost =
 pub opt_done : (s : Subject) (here : Matched) (a : NodeId) (first : Bool) (state : GroupState) (r : Region) (before after : ℕ) → NodeMatches s here (Opt a first) → here.stop ≤ here.start →
     ((IsTrue first × HasSpan (nodes_in s) (subject_text s) a.index here.start here.start) → ⊥) → Takes before after 1 → NodeTurned s here (Opt a first) state state r r Done before after
 opt_done s here a first state r before after stands le not cost =
-    record {
-      turn = search (rules, done_turn s here state state 1, close_walk s here (Opt a first) stands state state 1);
-      goes = tt;
-      cost = λ some. omega (arith, cost, match_some (nodes_in s) r here);
-      looks = tt;
-    }
+    search (rules, close_walk s here (Opt a first) stands state state 1, size-pos (tree_at (nodes_in s) here.node))
+
+-- the parts of a node that is last in a region
+pub seq_within : (s : Subject) (here : Matched) (a b : NodeId) (r : ℕ) → NodeMatches s here (Seq a b) → IsLastIn (nodes_in s) r here.node → (a.index < length (nodes_in s)) × (b.index < length (nodes_in s)) × (a.index < r)
+seq_within s here a b r stands last =
+    search (rules, last_inside (nodes_in s) (subject_text s) r (one_start 0) stands.arena here.node last, stands.arena.below here.node a.index (Seq a b) stands.is, stands.arena.below here.node b.index (Seq a b) stands.is)
+
+pub star_within : (s : Subject) (here : Matched) (a : NodeId) (first : Bool) (r : ℕ) → NodeMatches s here (Star a first) → IsLastIn (nodes_in s) r here.node → (a.index < length (nodes_in s)) × (a.index ≤ r)
+star_within s here a first r stands last = part_within (nodes_in s) (subject_text s) r here.node a.index (Star a first) stands.arena last stands.is refl
+
+pub alt_inside : (s : Subject) (here : Matched) (a b : NodeId) → NodeMatches s here (Alt a b) → a.index < length (nodes_in s)
+alt_inside s here a b stands = part_inside s here (Alt a b) stands a.index (inl refl)
+
+pub opt_inside : (s : Subject) (here : Matched) (a : NodeId) (first : Bool) → NodeMatches s here (Opt a first) → a.index < length (nodes_in s)
+opt_inside s here a first stands = part_inside s here (Opt a first) stands a.index refl

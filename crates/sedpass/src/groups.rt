@@ -162,6 +162,7 @@ impl GroupRoom {
 }
 
 /// Where the last copy of a repetition begins, if it takes one.
+#[tactic(auto, using(crate::proofs::TurnLemmas::star_within), unfolding(sedre::specs::Steps::TakesAtLeast, sedre::specs::Steps::IsCounted))]
 fn last_copy(
     subject: Subject,
     tables: &mut Tables,
@@ -198,6 +199,7 @@ fn last_copy(
 }
 
 /// Where a concatenation is cut: the greatest place at which its left part ends and from which its right part matches.
+#[tactic(auto, using(crate::proofs::KeptLemmas::same_kept, crate::proofs::TurnLemmas::seq_within, std::proofs::lemmas::Option::slice_get_within), unfolding(sedre::specs::Steps::TakesAtLeast, sedre::specs::Steps::IsCounted))]
 fn last_cut(
     subject: Subject,
     tables: &mut Tables,
@@ -239,6 +241,7 @@ fn last_cut(
 }
 
 /// What comes in place of a node of this kind.
+#[tactic(auto, using(crate::proofs::KeptLemmas::space_then, crate::proofs::TurnLemmas::alt_inside, crate::proofs::TurnLemmas::opt_inside, crate::proofs::TurnLemmas::star_within), unfolding(sedre::specs::Steps::TakesAtLeast, sedre::specs::Steps::IsCounted))]
 fn turn_node(
     subject: Subject,
     tables: &mut Tables,
@@ -306,6 +309,7 @@ fn turn_node(
 }
 
 /// Goes from a match to what ends where it does, and writes the groups that are due there.
+#[tactic(auto, using(crate::proofs::SpineLemmas::waiting), unfolding(sedre::specs::Steps::TakesAtLeast, sedre::specs::Steps::IsCounted))]
 fn spine(
     subject: Subject,
     tables: &mut Tables,

@@ -7,11 +7,10 @@ use Rattle.sedpass.proofs.groups.decide.Goals as goal
 
 pub all-init : goal.all-init
 all-init c =
-    let s = c.args.subject in
-    let first : GroupTask = Apart (record { node = (root_of s.prepared.now); start = c.args.start; stop = c.args.stop }) in
+    let first : GroupTask = Apart (record { node = (root_of c.args.subject.prepared.now); start = c.args.start; stop = c.args.stop }) in
     let begun : reverse c.push_reserved.new.self.items ≡ first ∷ [] = search (rules, rw c.root-node.ensures.value at c.push_reserved.ensures.items) in
     let blank = starts_blank _ _ c.args.start c.args.stop c.facts.result c.facts.ensures.facts in
-    record { keeps = search rules; works = rw begun (works_none s (first ∷ []) _ _ _ c.args.steps.now (omega arith) blank (search (rules, c.root-node.ensures.expr.arena.nonempty))) }
+    record { keeps = search rules; works = rw begun (works_none c.args.subject (first ∷ []) _ _ _ c.args.steps.now (omega arith) blank (search (rules, c.root-node.ensures.expr.arena.nonempty))) }
 
 pub all-preserved-in-Forget : goal.all-preserved-in-Forget
 all-preserved-in-Forget c =
@@ -26,24 +25,19 @@ all-preserved c =
 
 pub returns : goal.returns
 returns c =
-    let s = c.args.subject in
-    let e = s.prepared.now in
-    let w = subject_text s in
-    let i = c.args.start in
-    let j = c.args.stop in
+    let e = c.args.subject.prepared.now in
     let last = known_groups c.all.decided in
     let empty : reverse c.all.room.tasks.items ≡ [] = search (rules, nil_from_length c.all.room.tasks.items, c.in_default.ensures.cases) in
     let works = rw empty at c.all.invariant.works in
-    let begun = known_groups (undecided c.facts.result i j) in
+    let begun = known_groups (undecided c.facts.result c.args.start c.args.stop) in
     let run = works.run last 0 (refl, refl) in
-    let walk : WalkEnters (expression_tree e) w i j begun last run.1 = search (rules, run.3, run.4) in
-    let start = starts_due (expression_tree e) (root_of e) i j c.facts.result (rw c.root-node.ensures.value at c.facts.ensures.facts) in
-    let expr = c.root-node.ensures.expr in
+    let walk : WalkEnters (expression_tree e) (subject_text c.args.subject) c.args.start c.args.stop begun last run.1 = search (rules, run.3, run.4) in
+    let start = starts_due (expression_tree e) (root_of e) c.args.start c.args.stop c.facts.result (rw c.root-node.ensures.value at c.facts.ensures.facts) in
     record {
-      report = walk_report (expression_tree e) w i j run.1 begun last start c.requires.spans walk;
+      report = walk_report (expression_tree e) _ _ _ run.1 begun last start c.requires.spans walk;
       tasks = search rules;
       room = search rules;
-      cost = search (rules, works.spent, expr.sizes (root_of e), expr.arena.nonempty);
+      cost = search (rules, works.spent, c.root-node.ensures.expr.sizes (root_of e), c.root-node.ensures.expr.arena.nonempty);
       counts = search rules;
       entered = (begun, start, record { last = last; n = run.1; walk = walk; counts = search (rules, least_less c.args.steps.now c.all.steps works.n, run.5) });
     }

@@ -1,16 +1,10 @@
-use Rattle.sedpass.proofs.Words.{rules, ◌≡◌, ◌+◌, ◌*◌, ◌≤◌, ap, mul-le-mul_left, ◌-◌, ◌<◌, length, inl, refl, arith, close_at, Star, HasSpan, least_none, least_both, nodes_in, subject_text}
+use Rattle.sedpass.proofs.Words.{rules, ◌≡◌, ◌+◌, ◌*◌, ◌≤◌, ap, mul-le-mul_left, ◌-◌, ◌<◌, length, inl, arith, close_at, Star, HasSpan, least_none, least_both, nodes_in, subject_text}
 use Rattle.sedpass.proofs.KeptLemmas.{space_then}
 use Rattle.sedpass.proofs.DecideLemmas.{copy_fixed, ends_there}
-use Rattle.sedpass.proofs.MeetingLemmas.{copy_walk, part_within, stops_at_copy, NextCopy}
-use Rattle.sedpass.proofs.TurnLemmas.{opened, part_inside}
+use Rattle.sedpass.proofs.MeetingLemmas.{copy_walk, stops_at_copy, NextCopy}
+use Rattle.sedpass.proofs.TurnLemmas.{opened}
 use Rattle.sedpass.proofs.groups.last_copy.Goals.{After-cut-end}
 use Rattle.sedpass.proofs.groups.last_copy.Goals as goal
-
-pub is_null-copy-requires : goal.is_null-copy-requires
-is_null-copy-requires c = record { inside = rw c.index-part.ensures (part_inside c.args.subject c.args.here (Star c.args.a c.args.first) c.requires.stands c.args.a.index refl) }
-
-pub facts-requires : goal.facts-requires
-facts-requires c = rw c.index-part.ensures (part_inside c.args.subject c.args.here (Star c.args.a c.args.first) c.requires.stands c.args.a.index refl)
 
 pub overflow_sub-result : goal.overflow_sub-result
 overflow_sub-result c =
@@ -24,20 +18,14 @@ returns-in-Some-clause-copy c =
 pub copies-init : goal.copies-init
 copies-init c = search (rules, opened c.args.subject c.args.here (Star c.args.a c.args.first) c.requires.stands, least_none)
 
-pub cut-end-requires-clause-a : goal.cut-end-requires-clause-a
-cut-end-requires-clause-a c = rw c.index-part.ensures (part_within (nodes_in c.args.subject) (subject_text c.args.subject) c.copies.kept.region.root c.args.here.node c.args.a.index (Star c.args.a c.args.first) c.requires.stands.arena c.copies.invariant.ends.0 c.requires.stands.is refl).1
-
 -- the end of the next copy
 next : (c : After-cut-end) → NextCopy (HasSpan (nodes_in c.args.subject) (subject_text c.args.subject) c.args.a.index) c.copies.end c.args.here.stop c.cut-end.result
 next c =
-    let s = c.args.subject in
-    let here = c.args.here in
     let stands = c.requires.stands in
     let inv = c.copies.invariant in
-    let node = Star c.args.a c.args.first in
-    let there = ends_there s c.copies.tables c.copies.kept here node (record { stands = stands; ends = inv.ends; desk = inv.desk.desk }) in
-    stops_at_copy _ _ c.copies.kept.region.root here.stop here.node c.args.a c.args.first stands.arena inv.ends.0 stands.is c.copies.end c.cut-end.result
-    (close_at _ _ here.node node stands.arena stands.is c.copies.end here.stop inv.rest) c.copies-test.true (rw (c.index-part.ensures, there) at c.cut-end.ensures.ceases)
+    let there = ends_there c.args.subject c.copies.tables c.copies.kept c.args.here (Star c.args.a c.args.first) (record { stands = stands; ends = inv.ends; desk = inv.desk.desk }) in
+    stops_at_copy _ _ c.copies.kept.region.root c.args.here.stop c.args.here.node c.args.a c.args.first stands.arena inv.ends.0 stands.is c.copies.end c.cut-end.result
+    (close_at _ _ c.args.here.node (Star c.args.a c.args.first) stands.arena stands.is c.copies.end c.args.here.stop inv.rest) c.copies-test.true (rw (c.index-part.ensures, there) at c.cut-end.ensures.ceases)
 
 pub copies-smaller : goal.copies-smaller
 copies-smaller c = search (rules, next (goal.at.copies-smaller c).After-cut-end)

@@ -1,9 +1,8 @@
-use Rattle.sedpass.proofs.Words.{rules, mul-le-mul_left, ◌*◌, ◌<◌, ◌↔◌, ◌≡◌, IsTrue, length, subst, refl, inl, inr, arith, cases_lt, least_both, one_start, slice_get_within, Seq, Matches-forward, nodes_in, subject_text, CeasesAt, MeetsAt}
-use Rattle.sedpass.proofs.DecideLemmas.{ends_there, left_fixed, right_fixed}
-use Rattle.sedpass.proofs.MeetingLemmas.{marked_meets, part_within, run_stops, set_early, stops_at_cut}
-use Rattle.sedpass.proofs.TurnLemmas.{part_inside, opened}
-use Rattle.sedpass.proofs.LeaveLemmas.{last_inside}
-use Rattle.sedpass.proofs.KeptLemmas.{same_kept, shown_as, space_then}
+use Rattle.sedpass.proofs.Words.{rules, mul-le-mul_left, ◌*◌, ◌<◌, ◌↔◌, IsTrue, length, inl, inr, arith, cases_eq, one_start, Seq, Matches-forward, nodes_in, subject_text, CeasesAt, MeetsAt}
+use Rattle.sedpass.proofs.DecideLemmas.{cut_fixed, ends_there}
+use Rattle.sedpass.proofs.MeetingLemmas.{marked_meets, run_stops, set_early, stops_at_cut}
+use Rattle.sedpass.proofs.TurnLemmas.{seq_within, opened}
+use Rattle.sedpass.proofs.KeptLemmas.{shown_as, space_then}
 use Rattle.sedpass.proofs.OwedLemmas.{owed_free, two_each}
 use Rattle.sedpass.proofs.groups.last_cut.Goals.{After-cut, After-marks}
 use Rattle.sedpass.proofs.groups.last_cut.Goals as goal
@@ -11,47 +10,34 @@ use Rattle.sedpass.proofs.groups.last_cut.Goals as goal
 pub returns-then-here-clause-cut : goal.returns-then-here-clause-cut
 returns-then-here-clause-cut c = search (rules, opened c.args.subject c.args.here (Seq c.args.a c.args.b) c.requires.stands, Matches-forward)
 
-pub facts-known-requires : goal.facts-known-requires
-facts-known-requires c = rw c.index-left.ensures (part_inside c.args.subject c.args.here (Seq c.args.a c.args.b) c.requires.stands c.args.a.index (inl refl))
-
 pub after-requires : goal.after-requires
-after-requires c = omega (arith, (left_fixed c.args.subject c.args.here c.args.a c.args.b _ c.in-Some.length _ c.requires.stands c.index-left.ensures c.facts-known.ensures.facts c.in-Some.is).0)
+after-requires c = omega (arith, ((cut_fixed c.args.subject c.args.here c.args.a c.args.b _ c.in-Some.length _ c.requires.stands c.facts-known.ensures.facts c.in-Some.is).0 c.index-left.ensures).0)
 
 pub returns-in-Some-clause-cut : goal.returns-in-Some-clause-cut
-returns-in-Some-clause-cut c = rw c.after.ensures (left_fixed c.args.subject c.args.here c.args.a c.args.b _ c.in-Some.length _ c.requires.stands c.index-left.ensures c.facts-known.ensures.facts c.in-Some.is).1
-
-pub facts-requires : goal.facts-requires
-facts-requires c = rw c.index.ensures (part_inside c.args.subject c.args.here (Seq c.args.a c.args.b) c.requires.stands c.args.b.index (inr refl))
+returns-in-Some-clause-cut c = rw c.after.ensures ((cut_fixed c.args.subject c.args.here c.args.a c.args.b _ c.in-Some.length _ c.requires.stands c.facts-known.ensures.facts c.in-Some.is).0 c.index-left.ensures).1
 
 pub overflow_sub-result : goal.overflow_sub-result
 overflow_sub-result c =
-    omega (arith, (right_fixed c.args.subject c.args.here c.args.a c.args.b _ c.in-Some-length.length _ c.requires.stands c.index.ensures c.facts.ensures.facts c.in-Some-length.is).0)
+    omega (arith, ((cut_fixed c.args.subject c.args.here c.args.a c.args.b _ c.in-Some-length.length _ c.requires.stands c.facts.ensures.facts c.in-Some-length.is).1 c.index.ensures).0)
 
 pub returns-in-Some-length-clause-cut : goal.returns-in-Some-length-clause-cut
-returns-in-Some-length-clause-cut c = (right_fixed c.args.subject c.args.here c.args.a c.args.b _ c.in-Some-length.length _ c.requires.stands c.index.ensures c.facts.ensures.facts c.in-Some-length.is).1
-
-pub seek-requires-clause-x : goal.seek-requires-clause-x
-seek-requires-clause-x c = search (rules, slice_get_within, c.facts-known.ensures.run)
+returns-in-Some-length-clause-cut c = ((cut_fixed c.args.subject c.args.here c.args.a c.args.b _ c.in-Some-length.length _ c.requires.stands c.facts.ensures.facts c.in-Some-length.is).1 c.index.ensures).1
 
 pub returns-in-Some-run-clause-cut : goal.returns-in-Some-run-clause-cut
 returns-in-Some-run-clause-cut c =
     let at = c.requires in
-    let here = c.args.here in
-    let nodes = nodes_in c.args.subject in
-    let w = subject_text c.args.subject in
-    let root = c.args.kept.now.region.root in
     let run = rw c.in-Some-run.is at c.facts-known.ensures.run in
-    let there = ends_there c.args.subject c.args.tables.now c.args.kept.now here (Seq c.args.a c.args.b) at in
-    run_stops nodes w root here.stop here.node c.args.a c.args.b at.stands.arena at.ends.0 at.stands.is c.in-Some-run.leaf run.1.0 (search (rules, run.0)) run.1.1 here.start c.seek.result at.stands.there.at
+    let there = ends_there c.args.subject c.args.tables.now c.args.kept.now c.args.here (Seq c.args.a c.args.b) at in
+    run_stops _ _ _ c.args.here.stop c.args.here.node c.args.a c.args.b at.stands.arena at.ends.0 at.stands.is c.in-Some-run.leaf run.1.0 (search (rules, run.0)) run.1.1 c.args.here.start c.seek.result at.stands.there.at
     (search rules) (λ q from to. search (rules, there, c.seek.ensures.passed q)) (λ reaches.
-    search (rules, there, c.seek.ensures.found, at.ends.1, set_early nodes w root c.in-Some-run.leaf c.seek.result (one_start here.stop) run.1.0 at.stands.arena run.1.1 reaches))
+    search (rules, there, c.seek.ensures.found, at.ends.1, set_early _ _ _ c.in-Some-run.leaf c.seek.result (one_start c.args.here.stop) run.1.0 at.stands.arena run.1.1 reaches))
 
 pub returns-in-Some-clause-cost : goal.returns-in-Some-clause-cost
 returns-in-Some-clause-cost c = owed_free (length (nodes_in c.args.subject)) c.args.kept.now.region c.args.here.start c.after.result c.args.steps.now (omega (arith, c.after.ensures))
 
 pub returns-in-Some-length-clause-cost : goal.returns-in-Some-length-clause-cost
 returns-in-Some-length-clause-cost c =
-    let cut = (right_fixed c.args.subject c.args.here c.args.a c.args.b _ c.in-Some-length.length _ c.requires.stands c.index.ensures c.facts.ensures.facts c.in-Some-length.is).1 in
+    let cut = ((cut_fixed c.args.subject c.args.here c.args.a c.args.b _ c.in-Some-length.length _ c.requires.stands c.facts.ensures.facts c.in-Some-length.is).1 c.index.ensures).1 in
     owed_free (length (nodes_in c.args.subject)) c.args.kept.now.region c.args.here.start _ c.args.steps.now (search (rules, Matches-forward, cut.left))
 
 pub returns-in-Some-run-clause-cost : goal.returns-in-Some-run-clause-cost
@@ -60,18 +46,11 @@ returns-in-Some-run-clause-cost c = search (rules, c.seek.ensures.cost, two_each
 -- the left part is marked exactly where it takes a byte
 takes_byte : (c : After-marks) → IsTrue c.marks.result ↔ MeetsAt (nodes_in c.args.subject) (subject_text c.args.subject) c.args.kept.now.region.root (one_start c.args.here.stop) c.args.a.index (one_start c.args.here.start) c.args.here.start
 takes_byte c =
-    let at = c.requires in
-    let there = ends_there c.args.subject c.args.tables.now c.args.kept.now c.args.here (Seq c.args.a c.args.b) at in
-    let nodes = nodes_in c.args.subject in
-    let w = subject_text c.args.subject in
-    let up = last_inside nodes w c.args.kept.now.region.root (one_start 0) at.stands.arena c.args.here.node at.ends.0 in
-    let low = at.stands.arena.below c.args.here.node c.args.a.index (Seq c.args.a c.args.b) at.stands.is (inl refl) in
-    let meets = marked_meets nodes w c.args.kept.now.region.root c.args.a.index c.args.here.start (one_start c.args.here.stop) at.stands.arena (omega (arith, low, at.stands.there.inside)) (omega arith) in
+    let there = ends_there c.args.subject c.args.tables.now c.args.kept.now c.args.here (Seq c.args.a c.args.b) c.requires in
+    let parts = seq_within c.args.subject c.args.here c.args.a c.args.b c.args.kept.now.region.root c.requires.stands c.requires.ends.0 in
+    let meets = marked_meets _ (subject_text c.args.subject) _ c.args.a.index c.args.here.start (one_start c.args.here.stop) c.requires.stands.arena parts.0 parts.2 in
     let marked = rw (c.index-left.ensures, there) at c.marks.ensures.marked in
     (λ h. meets.1 (marked.0 h), λ h. marked.1 (meets.0 h))
-
-pub marks-requires-clause-x : goal.marks-requires-clause-x
-marks-requires-clause-x c = rw c.index-left.ensures (part_inside c.args.subject c.args.here (Seq c.args.a c.args.b) c.requires.stands c.args.a.index (inl refl))
 
 pub returns-then-not-marks-clause-cut : goal.returns-then-not-marks-clause-cut
 returns-then-not-marks-clause-cut c =
@@ -80,29 +59,23 @@ returns-then-not-marks-clause-cut c =
     stops_at_cut _ _ _ c.args.here.stop c.args.here.node c.args.a c.args.b at.stands.arena at.ends.0 at.stands.is c.args.here.start c.args.here.start at.stands.there.at
     (omega arith, λ q low before. absurd (omega arith), λ met. search (rules, (takes_byte here).1 met))
 
-pub cut-requires-clause-a : goal.cut-requires-clause-a
-cut-requires-clause-a c = rw (c.index-left.ensures, c.marks.ensures.keeps.same.root) (part_within (nodes_in c.args.subject) (subject_text c.args.subject) c.args.kept.now.region.root c.args.here.node c.args.a.index (Seq c.args.a c.args.b) c.requires.stands.arena c.requires.ends.0 c.requires.stands.is (inl refl)).1
-
 -- where the passes cease to meet
 ceases : (c : After-cut) → CeasesAt (nodes_in c.args.subject) (subject_text c.args.subject) c.args.kept.now.region.root (one_start c.args.here.stop) c.args.a.index c.args.here.start c.cut.result
 ceases c =
     let there = ends_there c.args.subject c.args.tables.now c.args.kept.now c.args.here (Seq c.args.a c.args.b) c.requires in
     rw (c.index-left.ensures, there) at (shown_as (λ r t. CeasesAt (nodes_in c.args.subject) (subject_text c.args.subject) r t c.index-left.result c.args.here.start c.cut.result) _ _ _ _ _ _ c.marks.ensures.keeps c.cut.ensures.ceases)
 
-pub returns : goal.returns
-returns c =
+pub returns-clause-cut : goal.returns-clause-cut
+returns-clause-cut c =
     let at = c.requires in
-    let here = (goal.at.returns c).After-cut in
-    let stops = ceases here in
-    let met = (takes_byte (goal.at.returns c).After-marks).0 c.if-not-marks.false in
-    let more : c.args.here.start < c.cut.result = elim (cases_lt c.args.here.start c.cut.result) [
-      | inl lt ↦ lt
-      | inr ge ↦ let same : c.args.here.start ≡ c.cut.result = omega (arith, stops.0) in absurd (stops.2 (subst (λ y. MeetsAt (nodes_in c.args.subject) (subject_text c.args.subject) c.args.kept.now.region.root (one_start c.args.here.stop) c.args.a.index (one_start c.args.here.start) y) same met))
-    ] in
-    record {
-      cut = stops_at_cut _ _ _ c.args.here.stop c.args.here.node c.args.a c.args.b at.stands.arena at.ends.0 at.stands.is c.args.here.start c.cut.result at.stands.there.at stops;
-      same = search (rules, same_kept, c.marks.ensures.keeps, c.cut.ensures.keeps);
-      desk = search (rules, space_then, at.desk, c.marks.ensures.keeps, c.cut.ensures.keeps);
-      cost = search (rules, c.marks.ensures.cost, c.cut.ensures.cost, mul-le-mul_left (36 * length (nodes_in c.args.subject)) more);
-      counts = search (rules, least_both);
-    }
+    stops_at_cut _ _ _ c.args.here.stop c.args.here.node c.args.a c.args.b at.stands.arena at.ends.0 at.stands.is c.args.here.start c.cut.result at.stands.there.at (ceases (goal.at.returns-clause-cut c).After-cut)
+
+pub returns-clause-desk : goal.returns-clause-desk
+returns-clause-desk c = search (rules, space_then)
+
+pub returns-clause-cost : goal.returns-clause-cost
+returns-clause-cost c =
+    let stops = ceases (goal.at.returns-clause-cost c).After-cut in
+    let met = (takes_byte (goal.at.returns-clause-cost c).After-marks).0 c.if-not-marks.false in
+    let more : c.args.here.start < c.cut.result = elim (cases_eq c.args.here.start c.cut.result) [ inl same ↦ absurd ((rw (← same) at stops.2) met) | inr not ↦ omega (arith, stops.0, not) ] in
+    search (rules, c.marks.ensures.cost, c.cut.ensures.cost, mul-le-mul_left (36 * length (nodes_in c.args.subject)) more)

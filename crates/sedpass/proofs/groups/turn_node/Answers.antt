@@ -1,26 +1,14 @@
-use Rattle.sedpass.proofs.Words.{rules, ◌≡◌, ℕ, ◌+◌, ◌≤◌, Option, Some, refl, sym, subst, inl, ◌∙◌, Alt, Star, Opt, HasBlank, NoneSettled, known_groups, spans_in, last_of, settle, arith, length, ◌<◌, ◌↔◌, IsTrue, IsCounted, TakesAtLeast, CostsWithin, HasSpan, one_start, KeepsGroupDesk, SameKept, nodes_in, subject_text, owed_region}
-use Rattle.sedpass.proofs.DecideLemmas.{flags_at, found_set, settled}
-use Rattle.sedpass.proofs.OneGroupLemmas.{settle-not, settle_takes, takes_blank}
-use Rattle.sedpass.proofs.TurnLemmas.{alt_turned, group_turned, leaf_turned, opt_done, opt_turned, part_inside, seq_turned, star_done, star_turned}
+use Rattle.sedpass.proofs.Words.{rules, ◌≡◌, ◌+◌, ◌≤◌, Some, refl, inl, ◌∙◌, Alt, HasBlank, known_groups, spans_in, last_of, settle, arith, length, ◌↔◌, IsTrue, IsCounted, TakesAtLeast, CostsWithin, HasSpan, one_start, KeepsGroupDesk, SameKept, nodes_in, subject_text, owed_region}
+use Rattle.sedpass.proofs.DecideLemmas.{flags_at, settled}
+use Rattle.sedpass.proofs.TurnLemmas.{alt_turned, group_turned, leaf_turned, opt_done, opt_turned, seq_turned, star_done, star_turned}
 use Rattle.sedpass.proofs.groups.turn_node.Goals as goal
 use Rattle.sedpass.proofs.groups.turn_node.Goals.{In-Alt, Joined-spans, then-has, else-has, then-here, else-here}
-use Rattle.sedpass.proofs.KeptLemmas.{space_then}
 use Rattle.sedpass.proofs.LeaveLemmas.{reaches_ends}
 
 pub returns-in-Seq-clause-turned : goal.returns-in-Seq-clause-turned
 returns-in-Seq-clause-turned c =
-    let cut = c.last_cut-stop.ensures in
     rw (c.in-Seq.is, c.index-node.ensures, c.index-node-in-Seq.ensures)
-    (seq_turned _ _ _ _ _ _ _ _ _ _ (rw c.in-Seq.is at c.requires.at).stands (search rules) cut.cut cut.cost cut.counts)
-
-left_inside : (c : In-Alt) → c.in-Alt.a.index < length (nodes_in c.args.subject)
-left_inside c = part_inside c.args.subject c.args.here (Alt c.in-Alt.a c.in-Alt.b) (rw c.in-Alt.is at c.requires.at).stands c.in-Alt.a.index (inl refl)
-
-pub is_null-spans-requires : goal.is_null-spans-requires
-is_null-spans-requires c = search (rules, c.index-left.ensures, left_inside (goal.at.is_null-spans-requires c).In-Alt)
-
-pub marks-spans-requires-clause-x : goal.marks-spans-requires-clause-x
-marks-spans-requires-clause-x c = search (rules, c.index-left.ensures, left_inside (goal.at.marks-spans-requires-clause-x c).In-Alt)
+    (seq_turned _ _ _ _ _ _ _ _ _ _ (rw c.in-Seq.is at c.requires.at).stands (search rules) c.last_cut-stop.ensures.cut c.last_cut-stop.ensures.cost c.last_cut-stop.ensures.counts)
 
 -- whether it matches, in what was looked at
 looked : (c : Joined-spans) → (IsTrue c.if-here.spans ↔ HasSpan (nodes_in c.args.subject) (subject_text c.args.subject) c.in-Alt.a.index c.args.here.start c.args.here.stop)
@@ -29,22 +17,19 @@ looked : (c : Joined-spans) → (IsTrue c.if-here.spans ↔ HasSpan (nodes_in c.
     × TakesAtLeast c.args.steps.now c.if-here.steps 1
 unfolding TakesAtLeast IsCounted
 looked c =
-    let s = c.args.subject in
     let here = c.args.here in
     let at = rw c.in-Alt.is at c.requires.at in
-    let region = at.desk.region.region in
-    let end = at.ends.1 in
     elim c.if-here.branch [
       | then-here w ↦
           let null = rw c.index-left.ensures at w.is_null-spans.ensures.null in
           rw (w.spans-is, w.tables-is, w.kept-is, w.steps-is) (rw (← w.if-here.true) null, search (rules, at.desk), search rules, omega (arith, w.is_null-spans.ensures.cost), omega (arith, w.is_null-spans.ensures.cost))
       | else-here w ↦
           let last = last_of here.node c.in-Alt.a.index (Alt c.in-Alt.a c.in-Alt.b) at.stands.is (inl refl) at.ends.0 in
-          let both = reaches_ends (nodes_in s) (subject_text s) c.args.kept.now.region.root c.in-Alt.a.index here.start (one_start c.args.kept.now.region.end) region.table.expr.arena last in
+          let both = reaches_ends _ (subject_text c.args.subject) _ c.in-Alt.a.index here.start (one_start c.args.kept.now.region.end) at.stands.arena last in
           let look = w.marks-spans.ensures in
           let shown = rw (c.index-left.ensures, at.desk.one_end) at look.marked in
-          let spans : IsTrue w.marks-spans.result ↔ HasSpan (nodes_in s) (subject_text s) c.in-Alt.a.index here.start here.stop = (
-            λ h. let there = both.0 (shown.0 h) in let to : there.0 ≡ here.stop = omega (arith, there.1, end) in rw to at there.2,
+          let spans : IsTrue w.marks-spans.result ↔ HasSpan (nodes_in c.args.subject) (subject_text c.args.subject) c.in-Alt.a.index here.start here.stop = (
+            λ h. let there = both.0 (shown.0 h) in let to : there.0 ≡ here.stop = omega (arith, there.1, at.ends.1) in rw to at there.2,
             λ span. shown.1 (both.1 (here.stop, (omega arith, omega arith), span, inl (omega arith))),
           ) in
           rw (w.spans-is, w.tables-is, w.kept-is, w.steps-is) (spans, search (rules, at.desk, look.keeps), look.keeps.same, look.cost, look.counts)
@@ -52,11 +37,9 @@ looked c =
 
 pub returns-after-spans-clause-turned : goal.returns-after-spans-clause-turned
 returns-after-spans-clause-turned c =
-    let here = c.args.here in
-    let there = rw c.in-Alt.is at c.requires.at in
     let look = looked (goal.at.returns-after-spans-clause-turned c).Joined-spans in
     rw (c.in-Alt.is, c.index-node-in-Alt.ensures)
-    (alt_turned c.args.subject here c.in-Alt.a c.in-Alt.b c.if-spans.index.index _ c.args.kept.now.region c.if-here.kept.region c.args.steps.now c.if-here.steps there.stands (search rules)
+    (alt_turned c.args.subject c.args.here c.in-Alt.a c.in-Alt.b c.if-spans.index.index _ c.args.kept.now.region c.if-here.kept.region c.args.steps.now c.if-here.steps (rw c.in-Alt.is at c.requires.at).stands (search rules)
     (search (rules, look.0)) look.3 look.4)
 
 pub returns-after-spans-clause-desk : goal.returns-after-spans-clause-desk
@@ -67,16 +50,9 @@ settled_in : (c : goal.After-index-node-in-Group) → HasBlank c.if-has.decided
     × (known_groups c.if-has.decided ≡ settle c.in-Group.k (Some (c.args.here.start, c.args.here.stop)) (known_groups c.args.decided.now))
     × (spans_in c.if-has.decided.spans ≤ spans_in c.args.decided.now.spans + 1)
 settled_in c =
-    let t = c.args.decided.now in
-    let k = c.in-Group.k in
-    let span : Option (ℕ × ℕ) = Some (c.args.here.start, c.args.here.stop) in
     elim c.if-has.branch [
-      | then-has w ↦
-          let left = w.without-decided in
-          let state = settled t w.one.result left.result k span c.requires.decided.whole (search rules) w.one.ensures left.ensures in
-          let blank = λ (n : ℕ). takes_blank n _ (known_groups t) _ (settle_takes k n span (known_groups t)) (c.requires.decided.blank n) in
-          rw w.decided-is (record { blank = subst NoneSettled (sym state) blank; whole = search (rules, left.ensures 0, c.requires.decided.whole) }, state, found_set t.spans k span)
-      | else-has w ↦ search (rules, settle-not k span (known_groups t), flags_at t.due k, w.decided-is)
+      | then-has w ↦ rw w.decided-is (settled _ _ _ _ _ c.requires.decided (search rules) w.one.ensures w.without-decided.ensures)
+      | else-has w ↦ search (rules, flags_at c.args.decided.now.due c.in-Group.k, w.decided-is)
     ]
 
 pub returns-after-has-clause-turned : goal.returns-after-has-clause-turned
@@ -88,32 +64,14 @@ returns-after-has-clause-decided c = (settled_in c).0
 pub returns-after-has-clause-few : goal.returns-after-has-clause-few
 returns-after-has-clause-few c = (settled_in c).2
 
-pub begin-requires-clause-root : goal.begin-requires-clause-root
-begin-requires-clause-root c =
-    let there = rw c.in-Star.is at c.requires.at in
-    search (rules, part_inside c.args.subject c.args.here (Star c.in-Star.a c.in-Star.first) there.stands c.in-Star.a.index refl, c.last_copy.ensures.desk.desk.one_end)
-
 pub returns-in-None-clause-turned : goal.returns-in-None-clause-turned
 returns-in-None-clause-turned c = rw c.in-Star.is (star_done _ _ _ _ _ _ _ _ _ (rw c.in-Star.is at c.requires.at).stands c.in-None.ensures.copy c.last_copy.ensures.cost c.last_copy.ensures.counts)
 
 pub returns-in-Some-clause-turned : goal.returns-in-Some-clause-turned
 returns-in-Some-clause-turned c =
-    let last = c.last_copy.ensures in
     rw (c.in-Star.is, c.index-node-in-Some.ensures)
-    (star_turned _ _ _ _ _ _ _ _ _ _ (rw c.in-Star.is at c.requires.at).stands c.in-Some.ensures.copy (c.begin.ensures.root ∙ c.index-node-in-Some.ensures) c.begin.ensures.end last.cost last.counts)
-
-pub returns-in-Some-clause-desk : goal.returns-in-Some-clause-desk
-returns-in-Some-clause-desk c =
-    let last = c.last_copy.ensures.desk in
-    let shape = last.shape in
-    record {
-      desk = record { region = c.begin.ensures.kept; one_end = last.desk.one_end; forward_part = last.desk.forward_part };
-      shape = record { forward_any = shape.forward_any; forward_one = shape.forward_one; reverse_one = shape.reverse_one; forward_part = shape.forward_part };
-      space = space_then _ _ _ last.space c.begin.ensures.space;
-    }
-
-pub is_null-requires : goal.is_null-requires
-is_null-requires c = search (rules, part_inside c.args.subject c.args.here (Opt c.in-Opt.a c.in-Opt.first) (rw c.in-Opt.is at c.requires.at).stands c.in-Opt.a.index refl)
+    (star_turned _ _ _ _ _ _ _ _ _ _ (rw c.in-Star.is at c.requires.at).stands c.in-Some.ensures.copy (c.begin.ensures.root ∙ c.index-node-in-Some.ensures) c.begin.ensures.end
+    c.last_copy.ensures.cost c.last_copy.ensures.counts)
 
 pub returns-then-is_null-clause-turned : goal.returns-then-is_null-clause-turned
 returns-then-is_null-clause-turned c =
@@ -123,6 +81,4 @@ pub returns-else-is_null-clause-turned : goal.returns-else-is_null-clause-turned
 returns-else-is_null-clause-turned c = rw c.in-Opt.is (opt_done _ _ _ _ _ _ _ _ (rw c.in-Opt.is at c.requires.at).stands (search rules) (search rules) (search rules))
 
 pub returns-in_default-clause-turned : goal.returns-in_default-clause-turned
-returns-in_default-clause-turned c =
-    let other = c.in_default in
-    leaf_turned c.args.subject c.args.here c.args.kind.now _ _ _ c.requires.at.stands other.not-Seq other.not-Alt other.not-Group other.not-Star other.not-Opt
+returns-in_default-clause-turned c = search (rules, leaf_turned)
