@@ -18,7 +18,7 @@ pub use Rattle.sedtext.specs.Bytes.{FirstFrom, MemberAt}
 pub use Rattle.sedtext.specs.Following.{CanEndEarly, LiesOn, LooksPast, OccursAfter, bytes_passed, next_span}
 pub use Rattle.sedtext.specs.Links.{AreAlternatives, ChainLeads, IsChain, LinkLeads}
 pub use Rattle.sedtext.specs.Hints.{Narrowed}
-pub use Rattle.sedtext.specs.Sieve.{NoneBefore, PassesSieve}
+pub use Rattle.sedtext.specs.Sieve.{PassesSieve}
 pub use Rattle.sedtext.specs.declared.counted.sieve.Sieve.{Sieve}
 pub use Rattle.sedtext.specs.declared.links.Link.{Link}
 pub use Rattle.sedtext.specs.Groups.{group_depth}
