@@ -3,7 +3,7 @@ use Rattle.sedpass.proofs.Words.{IsExpr, rules, inl, inr, ◌≡◌, ℕ, ◌+�
 use Rattle.sedpass.proofs.RowLemmas.{dead, row_root, row_empty}
 use Rattle.sedpass.proofs.TableLemmas.{leads_place, names_state, names_flags, names_map}
 
--- Last ends.
+-- last ends
 module _ (nodes : List Node) (w : List ℕ) (r : ℕ) (s : Starts) where
   last_step : (n : ℕ) (end : Option ℕ) → (SomeSpan nodes w r s n → ⊥) → LastBelow nodes w r s n end → LastBelow nodes w r s (n + 1) end
   last_step n None none last = λ k low some. elim (cases_eq k n) [ inl e ↦ none (rw e at some) | inr ne ↦ last k (omega (arith, ne)) some ]

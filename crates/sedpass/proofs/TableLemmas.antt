@@ -298,7 +298,7 @@ keeps_states z n a b low keeps = search (rules, keeps.same)
 pub keeps_made : (n : ℕ) (a b c : List (List Bool)) → KeepsRows (λ q. 2 ≤ q) a b → KeepsRows (IsApart 1 n) b c → KeepsRows (IsApart 2 n) a c
 keeps_made n a b c one two = search (rules, one.same, two.same)
 
--- nor where one is made
+-- a table whose states have their rows still is right
 module _ (p : WrittenExpression) (t : Table) (rows : List (List Bool)) (keeps : KeepsRows (IsApart 2 t.count) t.rows rows) where
   pub table_rows : IsTable p t → t.count < t.room → IsTable p (record t { rows = rows })
   table_rows table some = let old = table.room in table_more p t _ (search rules) refl table (search rules) (λ q low. inl low) (λ q k low near some. inl (low, refl)) (λ root kind. inl refl) (search (rules, keeps.same, table.takers)) (inl refl)
@@ -306,7 +306,7 @@ module _ (p : WrittenExpression) (t : Table) (rows : List (List Bool)) (keeps : 
   pub adds_rows : (new : Table) → AddsStates (length p.nodes) (record t { rows = rows }) new → AddsStates (length p.nodes) t new
   adds_rows new adds = search (rules, keeps.same, adds)
 
--- nor where a row of takers is made
+-- and one where a row of takers is made besides
 module _ (p : WrittenExpression) (t : Table) (rows : List (List Bool)) (z : ℕ) (takers : List Bool) (before : z < leaves_row 0) (keeps : KeepsRows (λ q. IsApart 2 t.count q × (q ≢ z)) t.rows rows) where
   pub table_notes : IsTable p t → HasTakers p (record t { rows = rows; has_takers = takers }) → IsTable p (record t { rows = rows; has_takers = takers })
   table_notes table right = let old = table.room in table_more p t _ (search (rules, keeps.same)) refl table (search rules) (λ q low. inl low) (λ q k low near some. inl (low, refl)) (λ root kind. inl refl) right (inl refl)
