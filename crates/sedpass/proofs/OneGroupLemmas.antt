@@ -80,7 +80,7 @@ module _ (k : ℕ) (w : List ℕ) where
   enclosed : (n : ℕ) (a : Tree) (i j : ℕ) (g : SpansOfGroups) (old mid new : GroupState) → new ≡ drop_groups a mid → Ends a i j (forget (grouped n a) g) (settle n (Some (i, j)) old) mid → Ends (grouped n a) i j g old new
   enclosed n a i j g old mid new is one =
       let v = Some (i, j) in
-      (slice_set one.0 n v, (one.0, one.1, refl), option_or (deed (eqb n k) v) (option_or one.2 (deed (has_group a k) None)), search (rules, one.3, drops (grouped n a) k g, set_at n k v one.0), search (rules, one.4, settle_takes n k v old, (drops a k g).1 mid))
+      (slice_set one.0 n v, (one.0, one.1, refl), option_or (deed (eqb n k) v) (option_or one.2 (deed (has_group a k) None)), search (rules, drops (grouped n a) k g, set_at n k v one.0), search (rules, one.4, settle_takes n k v old, (drops a k g).1 mid))
 
   walked : (e : Tree) (i j n : ℕ) (old new : GroupState) → Matches e w i j → WalkEnters e w i j old new n → (g : SpansOfGroups) → Ends e i j g old new
   walked null_string i j n old new spans walk g = (g, refl, None, search rules, search rules)
