@@ -80,7 +80,7 @@ module _ (k : ℕ) (w : List ℕ) where
   enclosed : (n : ℕ) (a : Tree) (i j : ℕ) (g : SpansOfGroups) (old mid new : GroupState) → new ≡ drop_groups a mid → Ends a i j (forget (grouped n a) g) (settle n (Some (i, j)) old) mid → Ends (grouped n a) i j g old new
   enclosed n a i j g old mid new is one =
       let v = Some (i, j) in
-      (slice_set one.0 n v, (one.0, one.1, refl), option_or (deed (eqb n k) v) (option_or one.2 (deed (has_group a k) None)), search (rules, one.3, drops (grouped n a) k g, set_at n k v one.0), search (rules, one.4, settle_takes n k v old, (drops a k g).1 mid))
+      (slice_set one.0 n v, (one.0, one.1, refl), option_or (deed (eqb n k) v) (option_or one.2 (deed (has_group a k) None)), search (rules, drops (grouped n a) k g, set_at n k v one.0), search (rules, one.4, settle_takes n k v old, (drops a k g).1 mid))
 
   walked : (e : Tree) (i j n : ℕ) (old new : GroupState) → Matches e w i j → WalkEnters e w i j old new n → (g : SpansOfGroups) → Ends e i j g old new
   walked null_string i j n old new spans walk g = (g, refl, None, search rules, search rules)
@@ -118,10 +118,11 @@ same_lists xs ys each = search (rules, each 0)
 pub walk_report : (e : Tree) (w : List ℕ) (i j n : ℕ) (old new : GroupState) → IsFirstState e i j old → Matches e w i j → WalkEnters e w i j old new n → IsReport e w i j new.spans
 walk_report e w i j n old new start spans walk =
     let first = walked 0 w e i j n old new spans walk no_groups in
-    (first.0, first.1, same_lists _ _ (λ k.
+    let each : new.spans ≡ slice_set first.0 0 (Some (i, j)) = same_lists _ _ (λ k.
     let one = walked k w e i j n old new spans walk no_groups in
     let same = Captures-unique e w i j no_groups one.0 first.0 one.1 first.1 in
-    search (rules, captured k w e i j no_groups first.0 first.1, one.3, one.4.span, start.whole, start.each k, start.none, set_at 0 k (Some (i, j)) first.0, slice_get_past no_groups k)))
+    search (rules, captured k w e i j no_groups first.0 first.1, one.3, one.4.span, start.whole, start.each k, start.none, set_at 0 k (Some (i, j)) first.0, slice_get_past no_groups k)) in
+    (first.0, first.1, each)
 
 -- where what is due has no span, to drop the groups of a tree changes none
 pub drop_spans : (t : Tree) (s : GroupState) → ((k : ℕ) → is_due s k ≡ true → slice_index_or s.spans k None ≡ None) → s.spans ≡ (drop_groups t s).spans

@@ -25,7 +25,8 @@ works_then s t0 t1 t2 a b c d e n u v paid x y z few one two = record {
 
 -- groups are forgotten
 pub works_forget : (s : Subject) (x : ℕ) (rest : List GroupTask) (facts : Facts) (due : GroupSet) (old : Decided) (steps : ℕ) → AllByRecursion (IsTaskReady (nodes_in s) (subject_text s)) (Forget x ∷ rest) → HasBlank old →
-    IsFacts (tree_at (nodes_in s) x) x facts → ((n : ℕ) → holds due n ≡ (holds old.due n && not (holds facts.groups n))) → Works s (Forget x ∷ rest) old rest (record old { due = due }) 1 (tasks_cost (nodes_in s) (Forget x ∷ rest)) (tasks_cost (nodes_in s) rest) steps steps
+    IsFacts (tree_at (nodes_in s) x) x facts → ((n : ℕ) → holds due n ≡ (holds old.due n && not (holds facts.groups n))) →
+    Works s (Forget x ∷ rest) old rest (record old { due = due }) 1 (tasks_cost (nodes_in s) (Forget x ∷ rest)) (tasks_cost (nodes_in s) rest) steps steps
 unfolding IsCounted TakesAtLeast
 works_forget s x rest facts due old steps ready decided is without =
     let e = tree_at (nodes_in s) x in
@@ -62,8 +63,9 @@ works_left s here rest facts old paid owed steps less ready is apart decided =
     search (rules, size-pos, passes_by (tree_at (nodes_in s) here.node) (subject_text s) here.start here.stop (known_groups old) none)
 
 -- a node that was looked at
-pub works_turn : (s : Subject) (here : Matched) (node : Node) (then : Then) (rest : List GroupTask) (old new : Decided) (r r' : Region) (facts : Facts) (more before begun after k : ℕ) → AllByRecursion (IsTaskReady (nodes_in s) (subject_text s)) (Apart here ∷ rest) →
-    IsCounted before begun 1 → Takes before begun 1 → NodeTurned s here node (known_groups old) (known_groups new) r r' then begun after → IsFacts (tree_at (nodes_in s) here.node) here.node facts → IsTrue (holds facts.groups k) → HasBlank new → spans_in new.spans ≤ spans_in old.spans + 1 →
+pub works_turn : (s : Subject) (here : Matched) (node : Node) (then : Then) (rest : List GroupTask) (old new : Decided) (r r' : Region) (facts : Facts) (more before begun after k : ℕ) →
+    AllByRecursion (IsTaskReady (nodes_in s) (subject_text s)) (Apart here ∷ rest) → IsCounted before begun 1 → Takes before begun 1 → NodeTurned s here node (known_groups old) (known_groups new) r r' then begun after →
+    IsFacts (tree_at (nodes_in s) here.node) here.node facts → IsTrue (holds facts.groups k) → HasBlank new → spans_in new.spans ≤ spans_in old.spans + 1 →
     Works s (Apart here ∷ rest) old (tasks_after then ++ rest) new 1 (match_cost (nodes_in s) r here + more) (then_cost (nodes_in s) r' then more) before after
 unfolding IsCounted TakesAtLeast
 works_turn s here node then rest old new r r' facts more before begun after k ready look once turned is has decided few =

@@ -241,7 +241,7 @@ fn last_cut(
 }
 
 /// What comes in place of a node of this kind.
-#[tactic(auto, using(crate::proofs::KeptLemmas::space_then, crate::proofs::TurnLemmas::alt_inside, crate::proofs::TurnLemmas::opt_inside, crate::proofs::TurnLemmas::star_within), unfolding(sedre::specs::Steps::TakesAtLeast, sedre::specs::Steps::IsCounted))]
+#[tactic(auto, using(crate::proofs::TurnLemmas::alt_inside, crate::proofs::TurnLemmas::opt_inside, crate::proofs::TurnLemmas::star_within), unfolding(sedre::specs::Steps::TakesAtLeast, sedre::specs::Steps::IsCounted))]
 fn turn_node(
     subject: Subject,
     tables: &mut Tables,

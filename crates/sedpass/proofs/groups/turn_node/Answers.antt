@@ -3,6 +3,7 @@ use Rattle.sedpass.proofs.DecideLemmas.{flags_at, settled}
 use Rattle.sedpass.proofs.TurnLemmas.{alt_turned, group_turned, leaf_turned, opt_done, opt_turned, seq_turned, star_done, star_turned}
 use Rattle.sedpass.proofs.groups.turn_node.Goals as goal
 use Rattle.sedpass.proofs.groups.turn_node.Goals.{In-Alt, Joined-spans, then-has, else-has, then-here, else-here}
+use Rattle.sedpass.proofs.KeptLemmas.{space_then}
 use Rattle.sedpass.proofs.LeaveLemmas.{reaches_ends}
 
 pub returns-in-Seq-clause-turned : goal.returns-in-Seq-clause-turned
@@ -72,6 +73,9 @@ returns-in-Some-clause-turned c =
     rw (c.in-Star.is, c.index-node-in-Some.ensures)
     (star_turned _ _ _ _ _ _ _ _ _ _ (rw c.in-Star.is at c.requires.at).stands c.in-Some.ensures.copy (c.begin.ensures.root ∙ c.index-node-in-Some.ensures) c.begin.ensures.end
     c.last_copy.ensures.cost c.last_copy.ensures.counts)
+
+pub returns-in-Some-clause-desk : goal.returns-in-Some-clause-desk
+returns-in-Some-clause-desk c = search (rules, space_then)
 
 pub returns-then-is_null-clause-turned : goal.returns-then-is_null-clause-turned
 returns-then-is_null-clause-turned c =
