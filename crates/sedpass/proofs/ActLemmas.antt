@@ -166,9 +166,6 @@ module _ (nodes : List Node) (r x : ℕ) (arena : IsArena nodes) (first : Bool) 
   not_whole : (q c : ℕ) (node : Node) → InTree nodes r q → slice_get nodes q ≡ Some node → IsPart node c → c ≡ r → ⊥
   not_whole q c node there is part e = omega (arith, e, InTree-inside nodes arena r q there, arena.below q c node is part)
 
-  more_first : (q : ℕ) → IsTrue (has_mark entered q) → IsTrue (has_mark after q)
-  more_first q h = grind (arith, still_other q, down.root)
-
   past_whole : (q : ℕ) → InTree nodes r q → IsTrue (nat_le x q && has_mark after q) → IsTrue (nat_le (r + 1) q && has_mark entered q)
   past_whole q there h = grind (arith, leb-true, none q, InTree-inside nodes arena r q there)
 
@@ -176,7 +173,7 @@ module _ (nodes : List Node) (r x : ℕ) (arena : IsArena nodes) (first : Bool) 
   enters_first = record {
     inside = λ c lt h. search (rules, cases_eq c r, is_tree, down.inside, still_other);
     root = set_here entered after r first is_after long;
-    just = λ q c node there is part h. search (rules, more_first, still_other, not_whole q c node there is part, down.just q c node there is part);
+    just = λ q c node there is part h. search (rules, still_other, down.root, not_whole q c node there is part, down.just q c node there is part, cases_eq q r, true≢false);
     closed = λ q c node there is part h. search (rules, still_other, not_whole, down.closed, entered_by_more, past_whole);
   }
 

@@ -96,8 +96,7 @@ pub facts_more : (nodes : List Node) (arena : IsArena nodes) (shown : List Facts
 facts_more nodes arena shown node next facts there here x fact is = search (rules, last_shown shown next fact x is, facts x fact, tree_at-node nodes (length shown) node arena there)
 
 noted_part : (e : WrittenExpression) (p x : ℕ) (node : Node) → slice_get e.nodes p ≡ Some node → IsPart node x → (mirrored : Bool) (other : Node) → slice_get (seen mirrored e).nodes p ≡ Some other → IsPart other x
-noted_part e p x node is part false other at = search (rules, same_Some)
-noted_part e p x node is part true other at = search (rules, seen-node true e p node is, same_Some, part_mirror)
+noted_part e p x node is part mirrored other at = search (rules, seen-node mirrored e p node is, same_Some, part_mirror)
 
 -- the node that is noted for a part has it, mirrored or not
 pub parent_is : (e : WrittenExpression) (parents : List ℕ) (x noted : ℕ) → IsArena e.nodes → AreParents e.nodes parents (length e.nodes) → x + 1 < length e.nodes → noted ≡ slice_index_or parents x 0 →

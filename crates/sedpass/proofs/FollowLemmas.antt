@@ -1,5 +1,5 @@
 -- The row that follows from which leaves took a byte: that it is the place's, what two of them have together, and that scans find it.
-use Rattle.sedpass.proofs.Words.{IfSome, None, marks_of, row_of, AreNull, Bool, CanEnd, EndsUpTo, Enters, Enters-root, EntersDownTo, InTree, IsArena, IsPart, IsStart, IsTrue, List, Node, Set, Option, RowFollows, RowOfPlace, Some, Starts, Took, and_from, node_at, true≢false, ap, arith, at_root, bits, ended_by, entered_by, false, has_mark, is_tree, le-leb, length, lt-ltb, ltb-true, part_of, refl, rules, slice_get, suc, sym, ℕ, ◌+◌, ◌<◌, ◌∙◌, ◌||◌, ◌≡◌, ◌≤◌, ◌⊎◌, ◌↔◌}
+use Rattle.sedpass.proofs.Words.{cases_eq, IfSome, None, marks_of, row_of, AreNull, Bool, CanEnd, EndsUpTo, Enters, Enters-root, EntersDownTo, InTree, IsArena, IsPart, IsStart, IsTrue, List, Node, Set, Option, RowFollows, RowOfPlace, Some, Starts, Took, and_from, node_at, true≢false, ap, arith, at_root, bits, ended_by, entered_by, false, has_mark, is_tree, le-leb, length, lt-ltb, ltb-true, part_of, refl, rules, slice_get, suc, sym, ℕ, ◌+◌, ◌<◌, ◌∙◌, ◌||◌, ◌≡◌, ◌≤◌, ◌↔◌}
 use Rattle.sedpass.proofs.ActLemmas.{HasEnds, HasLeaves, ended_by_more, entered_by_more, entered_is, same_truth}
 use Rattle.sedpass.proofs.LeaveLemmas.{ends_at}
 use Rattle.sedpass.proofs.RowLemmas.{InTree-inside, ended_is, enters_tree}
@@ -92,13 +92,6 @@ module _ (nodes : List Node) (r : ℕ) (arena : IsArena nodes) (inside : r < len
   down_told x c node there is part = same_truth _ _ (down.just x c node there is part)
       (λ h. down.closed x c node there is part (search (rules, entered_by_more, le-leb, all x there, lt-ltb, InTree-inside nodes arena r x there, arena.below x)))
 
-  -- the nodes that end
-  abbrev Last : ℕ → Type 0
-  Last c = IsTrue (before_ended c) ⊎ (((IsTrue keeps ⊎ (c ≡ r)) × IsTrue (has_mark ended c)) ⊎ ((c ≡ r) × IsTrue begun × IsTrue (null r)))
-
-  last_told : (c : ℕ) → c < length nodes → IsTrue (has_mark last c) ↔ Last c
-  last_told c lt = grind (arith, kept.own, kept.others c lt)
-
   pub row_added : RowFollows nodes r keeps (first || begun) null (λ c. other c || took c) (bits (length nodes) leaves) (bits (length nodes) last)
   row_added = record {
     begins = λ c. f.begins c || has_mark entered c;
@@ -107,5 +100,5 @@ module _ (nodes : List Node) (r : ℕ) (arena : IsArena nodes) (inside : r < len
     down = λ x c node there is part. rw (f.down x c node there is part, down_told x c node there is part) (entered_both (f.begins x) (has_mark entered x) null f.ends (has_mark ended) node c);
     up = λ x node there is. rw (f.up x node there is, up_told x node there is) (ended_both (other x) (took x) null f.ends (has_mark ended) node);
     leaves = λ c. search (rules, ltb-true, lt-ltb, has.leaf c, f.leaves c, laid c, down.inside c, InTree-inside nodes arena r c, inside, all c);
-    ended_is = λ c. search (rules, ltb-true, lt-ltb, last_told c, f.ended_is c, up.inside c, InTree-inside nodes arena r c, inside, is_tree);
+    ended_is = λ c. search (rules, ltb-true, lt-ltb, kept.own, kept.others c, cases_eq c r, f.ended_is c, up.inside c, InTree-inside nodes arena r c, inside, is_tree);
   }

@@ -46,15 +46,8 @@ module _ (nodes : List Node) (w : List ℕ) (r : ℕ) (s : Starts) (arena : IsAr
     ended_is (Seq a b) is takes nulls ends =
         let truth = either-iff _ _ _ _ (ends b.index (inr refl)) (both-iff _ _ _ _ (ends a.index (inl refl)) (nulls b.index (inr refl))) in (
           λ h. search (rules, truth.0 h, after_seq, with_seq, close_at nodes w x (Seq a b) arena is, Matches-forward),
-          λ h. let at = open_at nodes w x (Seq a b) arena is h.0 j h.3 in search (
-            rules,
-            cases_eq at.0 j,
-            h.1,
-            truth.1,
-            with_whole x a.index h.0 (Seq a b) is refl h.2,
-            after_left x b.index h.0 at.0 a b is refl h.2 at.1,
-            Matches-forward (tree_at nodes b.index) w at.0 j at.2,
-          ),
+          λ h. let at = open_at nodes w x (Seq a b) arena is h.0 j h.3 in let same = cases_eq at.0 j in
+              search (rules, h.1, truth.1, with_whole x a.index h.0 (Seq a b) is refl h.2, after_left x b.index h.0 at.0 a b is refl h.2 at.1, Matches-forward (tree_at nodes b.index) w at.0 j at.2),
         )
     ended_is (Alt a b) is takes nulls ends =
         let truth = either-iff _ _ _ _ (ends a.index (inl refl)) (ends b.index (inr refl)) in
@@ -142,16 +135,15 @@ range_of nodes x low node is small down up c = (λ h. search (rules, cases_eq c 
 pub part_mirror : (node : Node) (c : ℕ) → IsPart node c ↔ IsPart (mirror_node node) c
 part_mirror node c = search rules
 
-in_mirror : (e : WrittenExpression) (r c : ℕ) → InTree e.nodes r c → InTree (seen true e).nodes r c
-in_mirror e r c (is_tree _ at) = is_tree c at
-in_mirror e r c (part_of y _ node is part up) = search (rules, part_of, seen-node true e y node is, part_mirror, in_mirror e r y up)
-
-out_of_mirror : (e : WrittenExpression) (r c : ℕ) → InTree (seen true e).nodes r c → InTree e.nodes r c
-out_of_mirror e r c (is_tree _ at) = is_tree c at
-out_of_mirror e r c (part_of y _ node is part up) = search (rules, part_of, old_node e.nodes y node is, part_mirror, out_of_mirror e r y up)
+in_other : (nodes others : List Node) → ((y c : ℕ) (node : Node) → slice_get nodes y ≡ Some node → IsPart node c → (other : Node) × (slice_get others y ≡ Some other) × IsPart other c) → (r c : ℕ) → InTree nodes r c → InTree others r c
+in_other nodes others same r c (is_tree _ at) = is_tree c at
+in_other nodes others same r c (part_of y _ node is part up) = let other = same y c node is part in part_of y c other.0 other.1 other.2 (in_other nodes others same r y up)
 
 pub mirror_range : (e : WrittenExpression) (low r : ℕ) → IsNodeRange e.nodes low r → IsNodeRange (seen true e).nodes low r
-mirror_range e low r range c = search (rules, range c, in_mirror e r c, out_of_mirror e r c)
+mirror_range e low r range c = (
+  λ h. in_other e.nodes _ (λ y n node is part. search (rules, seen-node true e y node is, part_mirror)) r c ((range c).0 h),
+  λ h. (range c).1 (in_other _ e.nodes (λ y n node is part. search (rules, old_node e.nodes y node is, part_mirror)) r c h),
+)
 
 -- what the row of a kept pass backwards shows
 pub behind_reaches : (e : WrittenExpression) (w : List ℕ) (r x p d : ℕ) (u t : Starts) (entered ended : ℕ → Bool) → IsArena e.nodes → Opposite (length w) u t → t.last ≤ length w → p + d ≡ length w →

@@ -53,14 +53,11 @@ returns-in-Star-clause-followed c =
     let f = (goal.at.returns-in-Star-clause-followed c).After-look in
     let is_ended = c.set-in-Star-2.ensures.marks ∙ ap (λ l. slice_set l c.parent-parent.result true) (c.set-in-Star.ensures.keeps.same 1 (λ e. omega (arith, e))) in
     let is_after = c.set-in-Star-2.ensures.keeps.same 0 (λ e. omega (arith, e)) ∙ c.set-in-Star.ensures.marks in
-    let own = rw c.in-Star.is at (part f) in (
-      c.parent-parent.result,
-      c.look.result,
-      c.look.ensures.node,
-      part f,
-      ends f _ is_ended (rw c.in-Star.is (eq-eqb c.in-Star.field-0.index c.args.y own)),
-      adds_one _ _ c.args.y _ is_after (room f 0 c.args.y (omega arith) (omega (arith, c.requires.there, c.requires.root))) (rw c.in-Star.is (own, eq-eqb c.in-Star.field-0.index c.args.y own)) (λ n told. sym (rw c.in-Star.is at told.0) ∙ own),
-    )
+    let own = rw c.in-Star.is at (part f) in
+    let end = ends f _ is_ended (rw c.in-Star.is (eq-eqb c.in-Star.field-0.index c.args.y own)) in
+    let room' = room f 0 c.args.y (omega arith) (omega (arith, c.requires.there, c.requires.root)) in
+    let begin = adds_one _ _ c.args.y (StartsAfter (null c.args.act) c.look.result c.args.y) is_after room' (rw c.in-Star.is (own, eq-eqb c.in-Star.field-0.index c.args.y own)) (λ n told. sym (rw c.in-Star.is at told.0) ∙ own) in
+    (c.parent-parent.result, c.look.result, c.look.ensures.node, part f, end, begin)
 
 pub returns-in_default-clause-followed : goal.returns-in_default-clause-followed
 returns-in_default-clause-followed c =
