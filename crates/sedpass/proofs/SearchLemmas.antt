@@ -9,10 +9,6 @@ use Rattle.sedpass.proofs.ForwardLemmas.{root_spans}
 pub none_more : (e : Tree) (w : List ℕ) (from i : ℕ) → NoneIn e w from i → IsLongestFrom e w i None → NoneIn e w from (i + 1)
 none_more e w from i none longest h k low high span = search rules
 
--- and places after those that begin none
-pub none_on : (e : Tree) (w : List ℕ) (from k i : ℕ) → NoneIn e w from k → NoneIn e w k i → NoneIn e w from i
-none_on e w from k i none more h l low high span = search rules
-
 module _ (p : WrittenExpression) (w : List ℕ) (arena : IsArena p.nodes) where
   abbrev pub all : Starts
   all = starts_to 0 (length w)
@@ -38,10 +34,10 @@ module _ (p : WrittenExpression) (w : List ℕ) (arena : IsArena p.nodes) where
   -- a pass from where one begins ceases to meet the kept one at its longest end
   pub longest_kept : (start stop k : ℕ) → start ≤ length w → Matches (expression_tree p) w start k → CeasesAt p.nodes w (root_of p) all (root_of p) start stop → IsLongestFrom (expression_tree p) w start (Some stop)
   longest_kept start stop k low span ceases =
-      let e = expression_tree p in
       let stop_is = stops_at p.nodes w (root_of p) (root_of p) all arena (omega (arith, arena.nonempty)) (omega arith) (IsStart all)
-      (λ q. (last-leaves p.nodes w (root_of p) all arena (root_of p) q (all_of _ refl), CanLeave-last p.nodes w (root_of p) all arena (root_of p) q (all_of _ refl))) start stop k (Matches-forward e w start k span) ((root_spans p w start k).1 span) (omega (arith, Matches-within e w start k low span)) ceases in
-      search (rules, stop_is, root_spans, Matches-within e w start)
+      (λ q. (last-leaves p.nodes w (root_of p) all arena (root_of p) q (all_of _ refl), CanLeave-last p.nodes w (root_of p) all arena (root_of p) q (all_of _ refl)))
+      start stop k (Matches-forward (expression_tree p) w start k span) ((root_spans p w start k).1 span) (omega (arith, Matches-within (expression_tree p) w start k low span)) ceases in
+      search (rules, stop_is, root_spans, Matches-within (expression_tree p) w start)
 
 -- what a kept pass over all places says
 pub shown_whole : (P : ℕ → Starts → Type 0) (p : WrittenExpression) (w : List ℕ) (t : Table) (k : Kept) → IsKept p w t k → IsTrue t.way.all_starts → P k.region.root (ends_shown t.way.all_starts k.region.end) → P (root_of p) (starts_to 0 (length w))

@@ -1,12 +1,11 @@
-use Rattle.sedpass.proofs.Words.{ap, arith, length, mul-le-mul_left, ◌-◌, ◌≤◌, Matches-forward, expression_tree}
+use Rattle.sedpass.proofs.Words.{ap, arith, length, mul-le-mul_left, rules, ◌-◌, ◌≤◌, Matches-forward, expression_tree}
 use Rattle.sedpass.proofs.SearchLemmas.{hit_cost, later_answer, owed_either, owed_later, owed_trying, tired_cost, tired_each, trials_each, tried_left}
 use Rattle.sedpass.specs.declared.search.Trials.TheVariants.{Tired}
 use Rattle.sedpass.proofs.search.next_match.Goals as goal
 
 pub returns-in-Hit-clause-answer : goal.returns-in-Hit-clause-answer
 returns-in-Hit-clause-answer c =
-    let answer = c.in-Hit.ensures.made.answer in
-    (answer.0, tt, (Matches-forward (expression_tree c.args.subject.prepared.now) c.args.subject.text.now _ _ answer.0.spans, answer.1))
+    search (rules, c.in-Hit.ensures.made.answer, Matches-forward (expression_tree c.args.subject.prepared.now) c.args.subject.text.now)
 
 pub returns-in-Hit-clause-cost : goal.returns-in-Hit-clause-cost
 returns-in-Hit-clause-cost c =
@@ -38,8 +37,7 @@ returns-in-Nothing-clause-each c =
 
 pub returns-in-Tired-clause-answer : goal.returns-in-Tired-clause-answer
 returns-in-Tired-clause-answer c =
-    let made = c.in-Tired.ensures.made.answer in
-    later_answer (expression_tree c.args.subject.prepared.now) c.args.subject.text.now c.args.from c.in-Tired.later _ made.0 made.2 c.next_kept.ensures.next.answer
+    search (rules, later_answer, c.in-Tired.ensures.made.answer, c.next_kept.ensures.next.answer)
 
 pub returns-in-Tired-clause-cost : goal.returns-in-Tired-clause-cost
 returns-in-Tired-clause-cost c =

@@ -1,12 +1,11 @@
-use Rattle.sedpass.proofs.Words.{arith, length, max, mul-le-mul_left, rules, ◌*◌, ◌+◌, ◌-◌, ◌/◌, ◌≤◌, mul-sub, TakesAtLeast, Matches-forward, Matches-within, NoneIn, expression_tree}
-use Rattle.sedpass.proofs.SearchLemmas.{none_more, none_on}
+use Rattle.sedpass.proofs.Words.{cases_lt, arith, length, max, mul-le-mul_left, rules, ◌*◌, ◌+◌, ◌-◌, ◌/◌, ◌≤◌, mul-sub, TakesAtLeast, Matches-forward, Matches-within, NoneIn, expression_tree}
+use Rattle.sedpass.proofs.SearchLemmas.{none_more}
 use Rattle.sedpass.proofs.search.try_all.Goals.{After-run-passed}
 use Rattle.sedpass.proofs.search.try_all.Goals as goal
 
 -- none begins before the place that is tried, which is the first at which one can begin,
 before : (c : After-run-passed) → NoneIn (expression_tree c.args.subject.prepared.now) c.args.subject.text.now c.args.from c.in-Some.first
-before c = none_on (expression_tree c.args.subject.prepared.now) c.args.subject.text.now c.args.from c.loop-start.start c.in-Some.first c.loop-start.invariant.none
-    (c.in-Some.ensures.narrowed (expression_tree c.args.subject.prepared.now) c.hints-hints.ensures).2
+before c h l low high span = search (rules, c.loop-start.invariant.none h l, (c.in-Some.ensures.narrowed (expression_tree c.args.subject.prepared.now) c.hints-hints.ensures).2 h l, cases_lt h c.loop-start.start)
 
 -- the places that trials went over in no match are few,
 few : (c : After-run-passed) → c.loop-start.tried ≤ max c.args.tried.now (length c.args.subject.text.now / 8)
