@@ -70,10 +70,11 @@ pub tried_left : (m n tried tried' s t a b : ℕ) → tried ≤ n → tried' ≤
 tried_left m n tried tried' s t a b few few' pays = omega (arith, mul-sub, mul-le-mul_left m few, mul-le-mul_left m few')
 
 -- a hit
-pub hit_cost : (m n from i j tried tried' s t : ℕ) → 1 ≤ m → from ≤ i → i ≤ j → j ≤ n → tried ≤ n → tried' ≤ 2 * n + 1 → t + (40 * m * tried + 3 * from) ≤ s + (40 * m * (tried' + (j + 1 - i)) + 3 * (i + 1)) →
-    t + (40 * m * (2 * n + 1 - tried') + 142 * m * (n - j)) ≤ s + (40 * m * (2 * n + 1 - tried) + 142 * m * (n - from) + 43 * m)
-hit_cost m n from i j tried tried' s t some low on within few few' pays =
-    omega (arith, mul-sub, mul-sub m (j + 1) i, mul-le-mul_right (i - from) some, mul-le-mul_left m low, mul-le-mul_left m on, mul-le-mul_left m within, mul-le-mul_left m few, mul-le-mul_left m few')
+pub hit_cost : (m n from i j s t : ℕ) (old new : Seeking) → 1 ≤ m → from ≤ i → i ≤ j → j ≤ n → old.tried ≤ n → new.tried ≤ 2 * n + 1 → new.kept.region.end ≤ n → t + (40 * m * old.tried + 3 * from) ≤ s + (40 * m * (new.tried + (j + 1 - i)) + 3 * (i + 1)) →
+    t + owed_seeking m n new j ≤ s + (owed_seeking m n old from + 43 * m)
+hit_cost m n from i j s t old new some low on within few few' inside pays =
+    rw (owed_trying m n from old few)
+    (omega (arith, owed_either m n j new inside, mul-sub, mul-sub m (j + 1) i, mul-le-mul_right (i - from) some, mul-le-mul_left m low, mul-le-mul_left m on, mul-le-mul_left m within, mul-le-mul_left m few, mul-le-mul_left m few'))
 
 -- and of one search, whatever was found out before it
 few_tried : (m n x tried z : ℕ) → z ≤ max tried (n / 8) + x → 40 * m * z ≤ 40 * m * tried + 5 * (m * n) + 40 * m * x
