@@ -42,8 +42,6 @@ edges_more p w all_starts root end width block old new leaf last some keeps copi
       | inr ge ↦ let e : b ≡ block = elim (cases_lt b block) [ inl lt ↦ absurd (omega (arith, mul-le-mul_right width lt, after)) | inr le ↦ omega arith ] in rw (e, copied.0, copied.1) here
     ]
 
--- Costs.
-
 -- the room, over two calls
 pub space_same : (k : Kept) → SameSpace k k
 space_same k = search rules
@@ -102,11 +100,12 @@ pub edge_room : (p : WrittenExpression) (w : List ℕ) (t : Table) (k : Kept) (p
     (2 * block + 1 < length k.edges) × (length p.nodes ≤ length (row_of k.edges (2 * block))) × (length p.nodes ≤ length (row_of k.edges (2 * block + 1)))
 edge_room p w t k place region below =
     let low = region.room.blocks ((place - 1) / (t.room - 1)) (omega (arith, div-mul-le_self (place - 1) (t.room - 1), below, region.inside)) in
-    (low, region.room.marks _ (omega (arith, low)), region.room.marks _ low)-- the edges of a table, as a pass left them
+    (low, region.room.marks _ (omega (arith, low)), region.room.marks _ low)
+
+-- the edges of a table, as a pass left them
 pub edges_same : (p : WrittenExpression) (w : List ℕ) (t after : Table) (k other : Kept) (place lower : ℕ) → SameShape t after → other.edges ≡ k.edges → other.region.root ≡ k.region.root → other.region.end ≡ k.region.end → place ≤ lower →
     EdgesFrom p w t k place → EdgesFrom p w after other lower
 edges_same p w t after k other place lower shape edges root end up old b above before = search rules
-
 
 -- no block ends between the last one's beginning and the region's end
 pub edges_none : (p : WrittenExpression) (w : List ℕ) (t : Table) (k : Kept) (block : ℕ) → k.region.end ≤ block * (t.room - 1) + (t.room - 1) → EdgesFrom p w t k (block * (t.room - 1))
@@ -126,7 +125,6 @@ pub first_at : (p : WrittenExpression) (w : List ℕ) (t : Table) (k : Kept) (wa
 first_at p w t k way place kind a region same at begins ends first =
     let row = rw region.room.mirrored at first.1 in
     rw (same, at) (first.0, row (reverse w) (starts_shown t.way.all_starts (length w) k.region.end) (search (rules, region.inside, length-reverse w)) (grind arith))
-
 
 -- What the marks say.
 
@@ -161,8 +159,6 @@ shown_as P p w t after k other keeps shown = search rules
 
 -- A pass forwards beside the kept one.
 
--- Where they meet.
-
 -- two rows show by a mark that they have in common whether the passes meet at the place, as its state is read
 pub meet_read : (p : WrittenExpression) (w : List ℕ) (t forward_one : Table) (k : Kept) (a i place offset n front_row s behind_row : ℕ) (met : Bool) → IsKept p w t k → k.region.from ≤ place → place < k.region.to → Follows p w forward_one a i place offset →
     n ≡ length p.nodes → front_row ≡ leaves_row (offset / 2 ^ forward_one.layout.shift) → s ≡ slice_index_or k.states.items place s → behind_row ≡ ends_row s →
@@ -180,8 +176,7 @@ pub meet_end : (p : WrittenExpression) (w : List ℕ) (t : Table) (k : Kept) (a 
 meet_end p w t k a i kept met =
     omega (arith, set_early p.nodes w k.region.root met.0 k.region.end (ends_shown t.way.all_starts k.region.end) met.1 kept.region.table.expr.arena met.2 met.4)
 
--- How the pass forwards goes on.
-
+-- how the pass forwards goes on
 pub follows_next : (p : WrittenExpression) (w : List ℕ) (t after : Table) (a i place byte offset next : ℕ) (edge : Bool) → IsExpr p.nodes p.groups → (state_of (length p.nodes) t (offset / 2 ^ t.layout.shift)).root < length p.nodes → t.way.mirrored ≡ false → t.way.all_starts ≡ false → SameShape t after → i ≤ place → slice_get w place ≡ Some byte →
     (IsTrue edge ↔ (place + 1 ≡ length w)) →
     LeadsOn p t.way (state_of (length p.nodes) t (offset / 2 ^ t.layout.shift)) byte edge (state_of (length p.nodes) after (next / 2 ^ after.layout.shift)) →

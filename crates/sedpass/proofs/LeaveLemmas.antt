@@ -1,5 +1,5 @@
 -- How a part is left, by what follows it in its node, and what a node is left to that nothing follows.
-use Rattle.sedpass.proofs.Words.{rules, ◌≡◌, ℕ, ◌+◌, ◌-◌, ◌<◌, ◌≤◌, ◌⊎◌, ◌↔◌, true, List, length, reverse, Some, refl, inl, arith, slice_get, IsArena, IsPart, HasTwoParts, WrittenExpression, tree_at, mirror_node, seen, seen-node, old_node, Node, Seq, Alt, Group, Star, Opt, Starts, no_copy, HasSpan, BeginsWith, IsStart, Enters, at_root, with_whole, after_left, again, CanEnd, Matches-forward, close_at, same_node, HasSpan-mirror, EndsWith, CanLeave, at_end, with_end, before_right, before_copies, ReachesEnd, EndsPastIn, IsLastPart, IsLastIn, all_of, last_of}
+use Rattle.sedpass.proofs.Words.{rules, ◌≡◌, ℕ, ◌+◌, ◌-◌, ◌<◌, ◌≤◌, ◌⊎◌, ◌↔◌, true, List, length, reverse, Some, refl, inl, arith, slice_get, IsArena, IsPart, WrittenExpression, tree_at, mirror_node, seen, seen-node, old_node, Node, Seq, Alt, Group, Star, Opt, Starts, no_copy, HasSpan, BeginsWith, IsStart, Enters, at_root, with_whole, after_left, again, CanEnd, Matches-forward, close_at, same_node, HasSpan-mirror, EndsWith, CanLeave, at_end, with_end, before_right, before_copies, ReachesEnd, EndsPastIn, IsLastPart, IsLastIn, all_of, last_of}
 
 -- the starts s, counted from the end of n bytes, are the places t
 abbrev pub Opposite : ℕ → Starts → Starts → Type 0
@@ -40,10 +40,6 @@ module _ (nodes : List Node) (w : List ℕ) (r : ℕ) (t : Starts) (arena : IsAr
   CanLeave-all x i (before_right z _ _ k a b is' left l at) = grind (arith, CanLeave-all z k l, arena.below z x (Seq a b), Matches-forward (tree_at nodes b.index) w i k)
   CanLeave-all x i (before_copies z _ _ k a first is' inner l at) = grind (arith, CanLeave-all z k l, arena.below z x (Star a first), Matches-forward (tree_at nodes z) w i k)
 
-  -- a part that ends wherever its node does is left where the node is
-  OutOf-last : (y c i : ℕ) (node : Node) → HasTwoParts node → IsLastPart node c → OutOf nodes w r t y c i node → CanLeave nodes w r t y i
-  OutOf-last y c i node two last out = grind arith
-
   pub last_inside : (x : ℕ) → IsLastIn nodes r x → x ≤ r
   last_inside x (all_of _ same) = omega arith
   last_inside x (last_of y _ node is last up) = search (rules, last_inside y up, arena.below y x node is, EndsWith-part node x, IsLastPart-ends node x last)
@@ -55,7 +51,7 @@ module _ (nodes : List Node) (w : List ℕ) (r : ℕ) (t : Starts) (arena : IsAr
 
   pub last-leaves : (x i : ℕ) → IsLastIn nodes r x → CanLeave nodes w r t x i → IsStart t i
   last-leaves x i (all_of _ same) l = (CanLeave-all x i l).1 same
-  last-leaves x i (last_of y _ node is last up) l = search (rules, last-leaves y i up, OutOf-last y x i node (arena.distinct y node is) last, CanLeave-part y (last_inside y up) x i node is, EndsWith-part node x, IsLastPart-ends)
+  last-leaves x i (last_of y _ node is last up) l = grind (arith, last-leaves y i up, arena.distinct y node is, CanLeave-part y (last_inside y up) x i node is, EndsWith-part node x, IsLastPart-ends node x)
 
 -- a node that is last in r is marked exactly where it matches up to one of the ends
 pub reaches_ends : (nodes : List Node) (w : List ℕ) (r x p : ℕ) (t : Starts) → IsArena nodes → IsLastIn nodes r x →
@@ -78,7 +74,6 @@ module _ (e : WrittenExpression) (w : List ℕ) (r : ℕ) (s t : Starts) (arena 
   -- the node as it is, of the mirrored one
   unmirrored : (y : ℕ) (node : Node) → slice_get (seen true e).nodes y ≡ Some node → slice_get e.nodes y ≡ Some (mirror_node node)
   unmirrored y node is = search (rules, old_node, twice)
-
 
   span_in : (x i k d g : ℕ) → i + d ≡ length w → k + g ≡ length w → HasSpan e.nodes w x i k ↔ HasSpan (seen true e).nodes (reverse w) x g d
   span_in x i k d g = HasSpan-mirror e (seen true e) w (reverse w) x i k d g refl refl

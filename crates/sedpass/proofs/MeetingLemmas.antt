@@ -37,6 +37,7 @@ module _ (nodes : List Node) (w : List ℕ) (r : ℕ) (t : Starts) (a : ℕ) (s 
   -- a match of a from a start up to p ends at q or later, where a is left
   abbrev Onwards : ℕ → ℕ → Type 0
   Onwards p q = (i : ℕ) × (k : ℕ) × IsStart s i × (i ≤ p) × (q ≤ k) × HasSpan nodes w a i k × CanLeave nodes w r t a k
+
   -- sound: a node in a that is entered at p, spans p to q and is left at q is in a match of a, at whose end a is left
   pub meets_on : (x p : ℕ) → Enters nodes w a s x p → (q : ℕ) → HasSpan nodes w x p q → CanLeave nodes w r t x q → Onwards p q
   meets_on x p (at_root _ _ last begin) q at leaves = search (rules, at, leaves, begin)
@@ -68,11 +69,13 @@ module _ (nodes : List Node) (w : List ℕ) (r : ℕ) (t : Starts) (a : ℕ) (s 
             (x, members, is, rw (← same) enters, (k, rw (← same) at, leaves, inl high))
         by on (Seq b c) is i k enters leaves at low high =
             let f = open_at nodes w x (Seq b c) arena is i k at in
-            search (rules, cases_lt p f.0, on b.index (arena.below x b.index (Seq b c) is (inl refl)) i f.0 (with_whole x b.index i (Seq b c) is refl enters) (before_right x b.index f.0 k b c is refl leaves f.2) f.1,
-            on c.index (arena.below x c.index (Seq b c) is (inr refl)) f.0 k (after_left x c.index i f.0 b c is refl enters f.1) (with_end x c.index k (Seq b c) is refl leaves) f.2)
+            let first = on b.index (arena.below x b.index (Seq b c) is (inl refl)) i f.0 (with_whole x b.index i (Seq b c) is refl enters) (before_right x b.index f.0 k b c is refl leaves f.2) f.1 in
+            let second = on c.index (arena.below x c.index (Seq b c) is (inr refl)) f.0 k (after_left x c.index i f.0 b c is refl enters f.1) (with_end x c.index k (Seq b c) is refl leaves) f.2 in
+            search (rules, cases_lt p f.0, first, second)
         by on (Alt b c) is i k enters leaves at low high =
-            search (rules, open_at nodes w x (Alt b c) arena is i k at, on b.index (arena.below x b.index (Alt b c) is (inl refl)) i k (with_whole x b.index i (Alt b c) is (inl refl) enters) (with_end x b.index k (Alt b c) is (inl refl) leaves),
-            on c.index (arena.below x c.index (Alt b c) is (inr refl)) i k (with_whole x c.index i (Alt b c) is (inr refl) enters) (with_end x c.index k (Alt b c) is (inr refl) leaves))
+            let left = on b.index (arena.below x b.index (Alt b c) is (inl refl)) i k (with_whole x b.index i (Alt b c) is (inl refl) enters) (with_end x b.index k (Alt b c) is (inl refl) leaves) in
+            let right = on c.index (arena.below x c.index (Alt b c) is (inr refl)) i k (with_whole x c.index i (Alt b c) is (inr refl) enters) (with_end x c.index k (Alt b c) is (inr refl) leaves) in
+            search (rules, open_at nodes w x (Alt b c) arena is i k at, left, right)
         by on (Group g b) is i k enters leaves at low high =
             search (rules, on b.index, arena.below x b.index (Group g b) is, with_whole, with_end, open_at nodes w x (Group g b) arena is i k at)
         by on (Star b first) is i k enters leaves at low high =
@@ -211,14 +214,10 @@ module _ (nodes : List Node) (w : List ℕ) (r j x : ℕ) (a b : NodeId) (arena 
             let at = (star_copies nodes w y c i q arena of).1 (run_copies nodes w r c (one_start j) members arena is_set (q - i) i q (omega arith) marked) in
             (meets-cut nodes w r j x a b arena last is i q low).0 (search (rules, is_set, again, of.2, of.3, star.2 i, at_root, at, h)),
         λ g.
-            let l = g.0 in
-            let leaves = star.3 l ((left_leaves nodes w r j x a b arena last is l).1 g.3) in
-            let copies = (star_copies nodes w y c i l arena of).0 (star.4 i l g.2) in
-            CopiesLead-cross (HasSpan nodes w c) (λ u. Unit {0}) (ReachesEnd nodes w r (one_start j) c q) q l
-            (λ u v _ copy rest up on.
-            let same : u ≡ q = omega (arith, (open_at nodes w c (Set members) arena is_set u v copy).3) in
-            (v, rw (← same) copy, before_copies y c v l of.0 of.1 of.2 of.3 leaves ((star_copies nodes w y c v l arena of).1 rest), inl on))
-            (search rules) i copies tt low g.1,
+            let leaves = star.3 g.0 ((left_leaves nodes w r j x a b arena last is g.0).1 g.3) in
+            CopiesLead-cross (HasSpan nodes w c) (λ u. Unit {0}) (ReachesEnd nodes w r (one_start j) c q) q g.0
+            (λ u v _ copy rest up on. search (rules, (open_at nodes w c (Set members) arena is_set u v copy).3, before_copies y c v g.0 of.0 of.1 of.2 of.3 leaves ((star_copies nodes w y c v g.0 arena of).1 rest)))
+            (search rules) i ((star_copies nodes w y c i g.0 arena of).0 (star.4 i g.0 g.2)) tt low g.1,
       )
 
   -- the greatest cut after a repetition of one set is the first place at which the set isn't marked

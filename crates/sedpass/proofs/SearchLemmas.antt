@@ -9,10 +9,6 @@ use Rattle.sedpass.proofs.ForwardLemmas.{root_spans}
 pub none_more : (e : Tree) (w : List ℕ) (from i : ℕ) → NoneIn e w from i → IsLongestFrom e w i None → NoneIn e w from (i + 1)
 none_more e w from i none longest h k low high span = search rules
 
--- and places after those that begin none
-pub none_on : (e : Tree) (w : List ℕ) (from k i : ℕ) → NoneIn e w from k → NoneIn e w k i → NoneIn e w from i
-none_on e w from k i none more h l low high span = search rules
-
 module _ (p : WrittenExpression) (w : List ℕ) (arena : IsArena p.nodes) where
   abbrev pub all : Starts
   all = starts_to 0 (length w)
@@ -38,10 +34,10 @@ module _ (p : WrittenExpression) (w : List ℕ) (arena : IsArena p.nodes) where
   -- a pass from where one begins ceases to meet the kept one at its longest end
   pub longest_kept : (start stop k : ℕ) → start ≤ length w → Matches (expression_tree p) w start k → CeasesAt p.nodes w (root_of p) all (root_of p) start stop → IsLongestFrom (expression_tree p) w start (Some stop)
   longest_kept start stop k low span ceases =
-      let e = expression_tree p in
       let stop_is = stops_at p.nodes w (root_of p) (root_of p) all arena (omega (arith, arena.nonempty)) (omega arith) (IsStart all)
-      (λ q. (last-leaves p.nodes w (root_of p) all arena (root_of p) q (all_of _ refl), CanLeave-last p.nodes w (root_of p) all arena (root_of p) q (all_of _ refl))) start stop k (Matches-forward e w start k span) ((root_spans p w start k).1 span) (omega (arith, Matches-within e w start k low span)) ceases in
-      search (rules, stop_is, root_spans, Matches-within e w start)
+      (λ q. (last-leaves p.nodes w (root_of p) all arena (root_of p) q (all_of _ refl), CanLeave-last p.nodes w (root_of p) all arena (root_of p) q (all_of _ refl)))
+      start stop k (Matches-forward (expression_tree p) w start k span) ((root_spans p w start k).1 span) (omega (arith, Matches-within (expression_tree p) w start k low span)) ceases in
+      search (rules, stop_is, root_spans, Matches-within (expression_tree p) w start)
 
 -- what a kept pass over all places says
 pub shown_whole : (P : ℕ → Starts → Type 0) (p : WrittenExpression) (w : List ℕ) (t : Table) (k : Kept) → IsKept p w t k → IsTrue t.way.all_starts → P k.region.root (ends_shown t.way.all_starts k.region.end) → P (root_of p) (starts_to 0 (length w))
@@ -74,10 +70,11 @@ pub tried_left : (m n tried tried' s t a b : ℕ) → tried ≤ n → tried' ≤
 tried_left m n tried tried' s t a b few few' pays = omega (arith, mul-sub, mul-le-mul_left m few, mul-le-mul_left m few')
 
 -- a hit
-pub hit_cost : (m n from i j tried tried' s t : ℕ) → 1 ≤ m → from ≤ i → i ≤ j → j ≤ n → tried ≤ n → tried' ≤ 2 * n + 1 → t + (40 * m * tried + 3 * from) ≤ s + (40 * m * (tried' + (j + 1 - i)) + 3 * (i + 1)) →
-    t + (40 * m * (2 * n + 1 - tried') + 142 * m * (n - j)) ≤ s + (40 * m * (2 * n + 1 - tried) + 142 * m * (n - from) + 43 * m)
-hit_cost m n from i j tried tried' s t some low on within few few' pays =
-    omega (arith, mul-sub, mul-sub m (j + 1) i, mul-le-mul_right (i - from) some, mul-le-mul_left m low, mul-le-mul_left m on, mul-le-mul_left m within, mul-le-mul_left m few, mul-le-mul_left m few')
+pub hit_cost : (m n from i j s t : ℕ) (old new : Seeking) → 1 ≤ m → from ≤ i → i ≤ j → j ≤ n → old.tried ≤ n → new.tried ≤ 2 * n + 1 → new.kept.region.end ≤ n → t + (40 * m * old.tried + 3 * from) ≤ s + (40 * m * (new.tried + (j + 1 - i)) + 3 * (i + 1)) →
+    t + owed_seeking m n new j ≤ s + (owed_seeking m n old from + 43 * m)
+hit_cost m n from i j s t old new some low on within few few' inside pays =
+    rw (owed_trying m n from old few)
+    (omega (arith, owed_either m n j new inside, mul-sub, mul-sub m (j + 1) i, mul-le-mul_right (i - from) some, mul-le-mul_left m low, mul-le-mul_left m on, mul-le-mul_left m within, mul-le-mul_left m few, mul-le-mul_left m few'))
 
 -- and of one search, whatever was found out before it
 few_tried : (m n x tried z : ℕ) → z ≤ max tried (n / 8) + x → 40 * m * z ≤ 40 * m * tried + 5 * (m * n) + 40 * m * x

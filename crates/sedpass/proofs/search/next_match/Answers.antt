@@ -1,21 +1,20 @@
-use Rattle.sedpass.proofs.Words.{ap, arith, length, mul-le-mul_left, ◌-◌, ◌≤◌, Matches-forward, expression_tree}
-use Rattle.sedpass.proofs.SearchLemmas.{hit_cost, later_answer, owed_either, owed_later, owed_trying, tired_cost, tired_each, trials_each, tried_left}
+use Rattle.sedpass.proofs.Words.{ap, arith, length, mul-le-mul_left, rules, ◌-◌, ◌≤◌, Matches-forward, expression_tree}
+use Rattle.sedpass.proofs.SearchLemmas.{hit_cost, later_answer, owed_later, owed_trying, tired_cost, tired_each, trials_each, tried_left}
 use Rattle.sedpass.specs.declared.search.Trials.TheVariants.{Tired}
 use Rattle.sedpass.proofs.search.next_match.Goals as goal
 
 pub returns-in-Hit-clause-answer : goal.returns-in-Hit-clause-answer
 returns-in-Hit-clause-answer c =
-    let answer = c.in-Hit.ensures.made.answer in
-    (answer.0, tt, (Matches-forward (expression_tree c.args.subject.prepared.now) c.args.subject.text.now _ _ answer.0.spans, answer.1))
+    search (rules, c.in-Hit.ensures.made.answer, Matches-forward (expression_tree c.args.subject.prepared.now) c.args.subject.text.now)
 
 pub returns-in-Hit-clause-cost : goal.returns-in-Hit-clause-cost
 returns-in-Hit-clause-cost c =
     let made = c.in-Hit.ensures.made in
     let on = Matches-forward (expression_tree c.args.subject.prepared.now) c.args.subject.text.now _ _ made.answer.0.spans in
     let low : c.args.seeking.now.tried ≤ length c.args.subject.text.now = grind (arith, made.enough) in
-    let paid = hit_cost _ _ _ _ _ _ _ _ _ c.requires.ready.forward_one.table.expr.arena.nonempty made.answer.0.after on made.answer.1 low (omega (arith, made.few, low)) made.cost.1 in
-    let less = owed_either (length c.args.subject.prepared.now.nodes) (length c.args.subject.text.now) c.in-Hit.end (record c.args.seeking.now { tried = c.try_all.new.tried }) c.requires.ready.serves.kept.region.inside in
-    rw (owed_trying _ _ c.args.from c.args.seeking.now low) (made.cost.0, omega (arith, paid, less))
+    let paid = hit_cost _ _ _ _ _ _ _ c.args.seeking.now (record c.args.seeking.now { tried = c.try_all.new.tried })
+    c.requires.ready.forward_one.table.expr.arena.nonempty made.answer.0.after on made.answer.1 low (omega (arith, made.few, low)) c.requires.ready.serves.kept.region.inside made.cost.1 in
+    (made.cost.0, paid)
 
 pub returns-in-Hit-clause-each : goal.returns-in-Hit-clause-each
 returns-in-Hit-clause-each c =
@@ -38,8 +37,7 @@ returns-in-Nothing-clause-each c =
 
 pub returns-in-Tired-clause-answer : goal.returns-in-Tired-clause-answer
 returns-in-Tired-clause-answer c =
-    let made = c.in-Tired.ensures.made.answer in
-    later_answer (expression_tree c.args.subject.prepared.now) c.args.subject.text.now c.args.from c.in-Tired.later _ made.0 made.2 c.next_kept.ensures.next.answer
+    search (rules, later_answer, c.in-Tired.ensures.made.answer, c.next_kept.ensures.next.answer)
 
 pub returns-in-Tired-clause-cost : goal.returns-in-Tired-clause-cost
 returns-in-Tired-clause-cost c =

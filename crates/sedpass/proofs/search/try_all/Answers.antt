@@ -1,18 +1,13 @@
-use Rattle.sedpass.proofs.Words.{arith, length, max, mul-le-mul_left, rules, ◌*◌, ◌+◌, ◌-◌, ◌/◌, ◌≤◌, mul-sub, TakesAtLeast, Matches-forward, Matches-within, NoneIn, expression_tree}
-use Rattle.sedpass.proofs.SearchLemmas.{none_more, none_on}
+use Rattle.sedpass.proofs.Words.{cases_lt, arith, length, mul-le-mul_left, rules, ◌*◌, ◌+◌, ◌-◌, ◌≤◌, mul-sub, TakesAtLeast, Matches-forward, Matches-within, NoneIn, expression_tree}
+use Rattle.sedpass.proofs.SearchLemmas.{none_more}
 use Rattle.sedpass.proofs.search.try_all.Goals.{After-run-passed}
 use Rattle.sedpass.proofs.search.try_all.Goals as goal
 
 -- none begins before the place that is tried, which is the first at which one can begin,
 before : (c : After-run-passed) → NoneIn (expression_tree c.args.subject.prepared.now) c.args.subject.text.now c.args.from c.in-Some.first
-before c = none_on (expression_tree c.args.subject.prepared.now) c.args.subject.text.now c.args.from c.loop-start.start c.in-Some.first c.loop-start.invariant.none
-    (c.in-Some.ensures.narrowed (expression_tree c.args.subject.prepared.now) c.hints-hints.ensures).2
+before c h l low high span = search (rules, c.loop-start.invariant.none h l, (c.in-Some.ensures.narrowed (expression_tree c.args.subject.prepared.now) c.hints-hints.ensures).2 h l, cases_lt h c.loop-start.start)
 
--- the places that trials went over in no match are few,
-few : (c : After-run-passed) → c.loop-start.tried ≤ max c.args.tried.now (length c.args.subject.text.now / 8)
-few c = c.loop-start.invariant.few (omega (arith, c.if-tried-most.false))
-
--- and those before no more than the text has
+-- the trials before went over no more places than the text has
 enough : (c : After-run-passed) → c.args.tried.now ≤ length c.args.subject.text.now
 enough c = grind (arith, c.loop-start.invariant.first, c.if-tried-most.false)
 
@@ -37,7 +32,7 @@ returns-in-Some-end-clause-made c =
     let on = Matches-forward e w c.in-Some.first c.in-Some-end.end long.0 in
     let less = mul-le-mul_left {m = c.run-passed.result.place + 1 - c.in-Some.first} {n = (c.run-passed.result.place - c.in-Some-end.end) + (c.in-Some-end.end + 1 - c.in-Some.first)} (length c.args.subject.prepared.now.nodes) (omega (arith, on, run.after)) in
     let within = Matches-within e w c.in-Some.first c.in-Some-end.end (omega (arith, run.after, run.within)) long.0 in
-    rw c.saturating_sub.ensures (search (rules, before here, few here, enough here, paid here, less, long, reached, on, within, i, next, run))
+    rw c.saturating_sub.ensures (search (rules, before here, i.few (omega (arith, c.if-tried-most.false)), enough here, paid here, less, long, reached, on, within, i, next, run))
 
 pub loop-start-preserved : goal.loop-start-preserved
 unfolding TakesAtLeast
@@ -46,4 +41,5 @@ loop-start-preserved c =
     let next = c.in-Some.ensures in
     let run = c.run-passed.ensures in
     let i = c.loop-start.invariant in
-    search (rules, none_more (expression_tree c.args.subject.prepared.now) c.args.subject.text.now c.args.from c.in-Some.first (before here) (search (rules, run.longest i.forward_one.single)), few here, enough here, paid here, i, next, run)
+    let none = none_more (expression_tree c.args.subject.prepared.now) c.args.subject.text.now c.args.from c.in-Some.first (before here) (search (rules, run.longest i.forward_one.single)) in
+    search (rules, none, i.few (omega (arith, c.if-tried-most.false)), enough here, paid here, i, next, run)

@@ -1,4 +1,4 @@
-use Rattle.sedpass.proofs.Words.{arith, length, rules, subst, ℕ, ◌<◌, ◌≡◌, ◌≤◌, TakesAtLeast, one_start, Follows, KeepsRegion, Meet, ends_shown, MeetsAt}
+use Rattle.sedpass.proofs.Words.{arith, length, rules, ℕ, ◌<◌, ◌≡◌, ◌≤◌, TakesAtLeast, one_start, KeepsRegion, Meet, MeetsAt}
 use Rattle.sedpass.proofs.ForwardLemmas.{forward_one_still}
 use Rattle.sedpass.proofs.KeptLemmas.{coded, follows_first, holds_then, keeps_then, meet_end, shown_as}
 use Rattle.sedpass.proofs.OwedLemmas.{owed_falls}
@@ -9,17 +9,11 @@ use Rattle.sedpass.proofs.kept.Kept.cut.Goals as goal
 keeps : (c : After-meet-reached) → KeepsRegion c.args.subject.prepared.now c.args.subject.text.now c.args.table.now c.ready-to.new.table c.args.self.now c.ready-to.new.self
 keeps c = keeps_then _ _ _ _ _ _ _ _ c.loop-place.invariant.keeps c.ready-to.ensures.keeps
 
--- what was met on the way
-reached : (c : After-meet-reached) → Follows c.args.subject.prepared.now c.args.subject.text.now c.meet-reached.new.forward_one c.args.a c.args.from c.meet-reached.result.0 c.meet-reached.result.1
-    × Meet c.args.subject.prepared.now c.args.subject.text.now c.ready-to.new.table c.ready-to.new.self c.args.a c.args.from c.loop-place.place c.meet-reached.result.0
-    × (c.meet-reached.result.0 < c.ready-to.new.self.region.to → MeetsAt c.args.subject.prepared.now.nodes c.args.subject.text.now c.ready-to.new.self.region.root
-    (ends_shown c.ready-to.new.table.way.all_starts c.ready-to.new.self.region.end) c.args.a (one_start c.args.from) c.meet-reached.result.0 → ⊥)
-reached c = c.meet-reached.ensures.meets c.args.a c.args.from (omega (arith, c.requires.a, (keeps c).same.root)) c.loop-place.invariant.order.0 c.loop-place.invariant.follows
-
 -- the passes meet at each place up to the one reached
 meets : (c : After-meet-reached) → Meet c.args.subject.prepared.now c.args.subject.text.now c.args.table.now c.args.self.now c.args.a c.args.from c.args.from c.meet-reached.result.0
 meets c = holds_then _ c.args.from c.loop-place.place c.meet-reached.result.0 c.loop-place.invariant.meets
-    (shown_as (λ r t. (q : ℕ) → c.loop-place.place ≤ q → q < c.meet-reached.result.0 → MeetsAt c.args.subject.prepared.now.nodes c.args.subject.text.now r t c.args.a (one_start c.args.from) q) _ _ _ _ _ _ (keeps c) (reached c).1)
+    (shown_as (λ r t. (q : ℕ) → c.loop-place.place ≤ q → q < c.meet-reached.result.0 → MeetsAt c.args.subject.prepared.now.nodes c.args.subject.text.now r t c.args.a (one_start c.args.from) q) _ _ _ _ _ _ (keeps c)
+    (c.meet-reached.ensures.meets c.args.a c.args.from (omega (arith, c.requires.a, (keeps c).same.root)) c.loop-place.invariant.order.0 c.loop-place.invariant.follows).1)
 
 pub loop-place-init : goal.loop-place-init
 unfolding TakesAtLeast
@@ -48,7 +42,8 @@ loop-place-preserved c =
     let here = (goal.at.loop-place-preserved c).After-meet-reached in
     let at : stop ≡ c.ready-to.new.self.region.to = omega (arith, meet.order.1, c.if-place-to.false, ready.to.0) in
     let up : c.loop-place.place < stop = omega (arith, ready.to, at) in
-    search (rules, old, ready, meet, meet.whole at, at, up, keeps here, reached here, meets here, owed_falls (length c.args.subject.prepared.now.nodes) c.ready-to.new.self.region c.loop-place.place stop (omega (arith, up)), ready.cost)
+    let reached = c.meet-reached.ensures.meets c.args.a c.args.from (omega (arith, c.requires.a, (keeps here).same.root)) c.loop-place.invariant.order.0 c.loop-place.invariant.follows in
+    search (rules, old, ready, meet, meet.whole at, at, up, keeps here, reached, meets here, owed_falls (length c.args.subject.prepared.now.nodes) c.ready-to.new.self.region c.loop-place.place stop (omega (arith, up)), ready.cost)
 
 pub returns-then-place-to-clause-keeps : goal.returns-then-place-to-clause-keeps
 returns-then-place-to-clause-keeps c = keeps (goal.at.returns-then-place-to-clause-keeps c).After-meet-reached
@@ -59,7 +54,7 @@ returns-then-place-to-clause-ceases c =
       omega (arith, c.loop-place.invariant.order.0, c.meet-reached.ensures.order.0),
       meets here,
       shown_as (λ r t. MeetsAt c.args.subject.prepared.now.nodes c.args.subject.text.now r t c.args.a (one_start c.args.from) c.meet-reached.result.0 → ⊥) _ _ _ _ _ _ (keeps here)
-          ((reached here).2 (omega (arith, c.if-place-to.true, c.ready-to.ensures.to.0))),
+          ((c.meet-reached.ensures.meets c.args.a c.args.from (omega (arith, c.requires.a, (keeps here).same.root)) c.loop-place.invariant.order.0 c.loop-place.invariant.follows).2 (omega (arith, c.if-place-to.true, c.ready-to.ensures.to.0))),
     )
 
 pub returns-then-place-to-clause-cost : goal.returns-then-place-to-clause-cost
@@ -71,8 +66,4 @@ pub returns-clause-ceases : goal.returns-clause-ceases
 returns-clause-ceases c =
     let last = c.loop-place.invariant in
     let at : c.args.self.now.region.end ≡ c.loop-place.place = omega (arith, last.keeps.same.end, last.order.1, c.loop-place-test.false) in
-    let end = meet_end _ _ c.args.table.now c.args.self.now c.args.a c.args.from c.requires.kept in (
-      last.order.0,
-      last.meets,
-      subst (λ y. MeetsAt c.args.subject.prepared.now.nodes c.args.subject.text.now c.args.self.now.region.root (ends_shown c.args.table.now.way.all_starts c.args.self.now.region.end) c.args.a (one_start c.args.from) y → ⊥) at end,
-    )
+    (last.order.0, last.meets, rw (← at) (meet_end _ _ c.args.table.now c.args.self.now c.args.a c.args.from c.requires.kept))

@@ -10,9 +10,8 @@ returns-then-place-self-clause-there c = (coded c.offset_of.result c.first-code.
 
 pub returns-then-place-self-clause-at : goal.returns-then-place-self-clause-at
 returns-then-place-self-clause-at c =
-    let codes = c.first-code.ensures.codes in
-    first_at _ _ c.args.table.now c.args.self.now _ _ c.kind_of-kind.result _ c.requires.region codes.adds.shape.0 c.if-place-self.true c.kind_of-kind.ensures.begin (rw c.len.ensures.is at c.kind_of-kind.ensures.end)
-    (coded c.offset_of.result codes c.offset_of.ensures).1
+    first_at _ _ c.args.table.now c.args.self.now _ _ c.kind_of-kind.result _ c.requires.region c.first-code.ensures.codes.adds.shape.0 c.if-place-self.true c.kind_of-kind.ensures.begin (rw c.len.ensures.is at c.kind_of-kind.ensures.end)
+    (coded c.offset_of.result c.first-code.ensures.codes c.offset_of.ensures).1
 
 -- only the row that is made has changed
 keeps : (c : After-copy-2) → KeepsRows (IsApart 2 c.args.table.now.count) c.args.table.now.rows c.copy-2.new.self

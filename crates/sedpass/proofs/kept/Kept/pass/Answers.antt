@@ -42,6 +42,4 @@ loop-place-preserved-then-table-epoch c =
     }
 
 pub overflow_cast-state_at : goal.overflow_cast-state_at
-overflow_cast-state_at c =
-    let codes = c.next-code.ensures.codes in
-    omega (arith, c.state_at.ensures, (coded c.offset_of-offset.result codes c.offset_of-offset.ensures).0.0, codes.table.room)
+overflow_cast-state_at c = omega (arith, c.state_at.ensures, (coded c.offset_of-offset.result c.next-code.ensures.codes c.offset_of-offset.ensures).0.0, c.next-code.ensures.codes.table.room)
