@@ -32,7 +32,14 @@ returns-in-Some-end-clause-made c =
     let on = Matches-forward e w c.in-Some.first c.in-Some-end.end long.0 in
     let less = mul-le-mul_left {m = c.run-passed.result.place + 1 - c.in-Some.first} {n = (c.run-passed.result.place - c.in-Some-end.end) + (c.in-Some-end.end + 1 - c.in-Some.first)} (length c.args.subject.prepared.now.nodes) (omega (arith, on, run.after)) in
     let within = Matches-within e w c.in-Some.first c.in-Some-end.end (omega (arith, run.after, run.within)) long.0 in
-    rw c.saturating_sub.ensures (search (rules, before here, i.few (omega (arith, c.if-tried-most.false)), enough here, paid here, less, long, reached, on, within, i, next, run))
+    rw c.saturating_sub.ensures (record {
+      answer = (record { after = omega (arith, i.after, next.lies.0); spans = long.0; longest = long.1; leftmost = before here }, within);
+      few = omega (arith, i.few (omega (arith, c.if-tried-most.false)), reached, run.within, i.after, next.lies.0, on);
+      cost = omega (arith, i.cost, next.cost.0, run.cost.0, paid here, less);
+      counts = omega (arith, i.counts, next.counts, run.counts, reached, on);
+      enough = λ over. absurd (omega (arith, enough here));
+      none = search rules;
+    })
 
 pub loop-start-preserved : goal.loop-start-preserved
 unfolding TakesAtLeast
