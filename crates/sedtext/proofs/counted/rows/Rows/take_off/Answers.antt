@@ -27,7 +27,7 @@ loop-x-preserved c =
     let other = c.read.ensures ∙ is _ others.2 in
     rw c.set.ensures.all (
       row_more c.self.inside _ c.self.view_is c.self.invariant _ _ _ _ _ _ _ c.reach.ensures.same c.requires.row (c.requires.inside _ c.requires.row) (omega arith)
-      (rw (← word, ← one, ← other) (λ i low. rw (← both_bits _ _ i) (other_bits _ _ i (omega (arith, and_le_l c.read-these.result c.read.result, c.read-these.type_inv)) low))) c.loop-x.invariant.0,
+          (rw (← word, ← one, ← other) (λ i low. rw (← both_bits _ _ i) (other_bits _ _ i (omega (arith, and_le_l c.read-these.result c.read.result, c.read-these.type_inv)) low))) c.loop-x.invariant.0,
       c.set.ensures.there ∙ c.loop-x.invariant.1,
       lacks_later c.self.inside _ c.self.view_is c.self.invariant _ _ _ _ _ c.loop-x.x _ _ _ _ c.reach.ensures.same others c.requires.inside word one other c.read-word.type_inv c.lowest.ensures.inside c.if-lowest-ne0.false c.loop-x.invariant.2,
     )
