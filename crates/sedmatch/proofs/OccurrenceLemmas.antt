@@ -39,7 +39,9 @@ behind_paid m n at old new s t (Some f) low lies pays = (pays.0, omega (arith, p
 -- two searches, of which the first one found the null string at the place
 pub both_paid : (m n at : ℕ) (old mid new : Seeking) (s u t : ℕ) (first r : Option (ℕ × ℕ)) → first ≡ Some (at, at) → CostsWithin s u (owed_seeking m n old at + 43 * m) (owed_after_search (owed_seeking m n mid) first) →
     CostsWithin u t (owed_seeking m n mid (at + 1) + 43 * m) (owed_after_search (owed_seeking m n new) r) → CostsWithin s t (owed_seeking m n old at + 86 * m) (owed_after_search (owed_seeking m n new) r)
-both_paid m n at old mid new s u t first r is one two = let one = rw is at one in let falls = search_falls m n mid at (at + 1) (omega arith) in (omega (arith, one.0, two.0), omega (arith, falls, one.1, two.1))
+both_paid m n at old mid new s u t first r is one two =
+    let falls = search_falls m n mid at (at + 1) (omega arith) in
+    let one = rw is at one in (omega (arith, one.0, two.0), omega (arith, falls, one.1, two.1))
 
 pub one_square : (m n at : ℕ) → 1 ≤ m → search_cost m n at ≤ 64 * m * m * (n + 1) * (n + 1)
 one_square m n at some = omega (arith, search_long m n at, mul-le-mul_left m (square n), mul-le-mul_left (m * (64 * (n + 1) * (n + 1))) some)
@@ -106,15 +108,8 @@ first_paid m n start old new s a t None looks pays = (omega (arith, looks.0, pay
 first_paid m n start old new s a t (Some f) looks pays =
     (omega (arith, looks.0, pays.0), omega (arith, search_falls m n old 0 start (omega arith), looks.1, pays.1, mul-le-mul_left {m = n + 1 - f.1} {n = n + 1 - 0} (86 * m) (omega arith)))
 
-one_pays : (m n : ℕ) → 1 ≤ m → 43 * m * (n + 1) ≤ 64 * m * m * (n + 1) * (n + 1)
-one_pays m n some =
-    let enough : 43 ≤ 64 * (m * (n + 1)) = omega (arith, mul-le-mul_left (n + 1) some) in
-    omega (arith, mul-le-mul_left (m * (n + 1)) enough)
-
-square_pays : (m n : ℕ) → 1 ≤ m → 16 ≤ n → 236 * m * (n + 1) ≤ 64 * m * m * (n + 1) * (n + 1)
-square_pays m n some long =
-    let enough : 236 ≤ 64 * (m * (n + 1)) = omega (arith, mul-le-mul_left (n + 1) some, long) in
-    omega (arith, mul-le-mul_left (m * (n + 1)) enough)
+pays : (m n k : ℕ) → k ≤ 64 * (m * (n + 1)) → k * m * (n + 1) ≤ 64 * m * m * (n + 1) * (n + 1)
+pays m n k enough = omega (arith, mul-le-mul_left (m * (n + 1)) enough)
 
 pub first_square : (m n start s a t : ℕ) → 1 ≤ m → CostsWithin s a n 0 → Takes a t (search_cost m n start) → Takes s t (64 * m * m * (n + 1) * (n + 1))
 first_square m n start s a t some looks each =
@@ -124,17 +119,13 @@ first_square m n start s a t some looks each =
 pub first_due : (m n : ℕ) (last : Option ℕ) (old mid new : Occurrences) (r : Option (ℕ × ℕ)) (s t : ℕ) → 1 ≤ m → (last ≡ None → IsTrue old.is_fresh) →
     (IsTrue old.is_fresh → owed_behind m n mid.seeking 0 + 43 * m ≤ 308 * m * (n + 1)) → new.is_fresh ≡ false → CostsWithin s t (owed_search m n last mid.seeking) (owed_after_search (owed_behind m n new.seeking) r) →
     (last ≡ None → Takes s t (193 * m * (n + 1))) → last ≡ None → TakesFirst m n new s t r
-first_due m n None old mid new None s t some fresh begun used cost first none = ((cost.0, omega (arith, cost.1, begun (fresh refl), mul-le-mul_left (n + 1) some)), first refl)
-first_due m n None old mid new (Some f) s t some fresh begun used cost first none = ((cost.0, grind (arith, cost.1, begun (fresh refl), mul-le-mul_left (n + 1) some, owed_as m n f.1 new)), first refl)
+first_due m n None old mid new r s t some fresh begun used cost first none = ((cost.0, grind (arith, cost.1, begun (fresh refl), mul-le-mul_left (n + 1) some, owed_as m n)), first refl)
 first_due m n (Some q) old mid new r s t some fresh begun used cost first none = search rules
 
 -- a look whether there is any match is paid for before the first search
 pub looked_first : (m n : ℕ) (old new : Occurrences) (s a t : ℕ) (r : Option (ℕ × ℕ)) → 1 ≤ m → 16 ≤ n → Takes s a (43 * m * (n + 1)) → TakesFirst m n new a t r →
     CostsWithin s t (owed m n None old) (owed_after m n r new) × Takes s t (64 * m * m * (n + 1) * (n + 1))
-looked_first m n old new s a t r some long look first = (
-  (omega (arith, look.0, first.0.0), omega (arith, look.1, first.0.1)),
-  (omega (arith, look.0, first.1.0), omega (arith, look.1, first.1.1, square_pays m n some long)),
-)
+looked_first m n old new s a t r some long look first = grind (arith, pays m n 236 (omega (arith, mul-le-mul_left (n + 1) some, long)))
 
 -- it showed that there is none
 pub none_shown : (e : WrittenExpression) (w : List ℕ) (last : Option ℕ) (o : Occurrences) (s t : ℕ) → 1 ≤ length e.nodes → (last ≡ None) × (SomeFound (expression_tree e) w 0 → ⊥) → IsLook (length e.nodes) (length w) last s t →
@@ -143,16 +134,9 @@ none_shown e w last o s t some (is, none) look =
     let m = length e.nodes in
     let n = length w in
     let cost : Takes s t (43 * m * (n + 1)) = elim look [ inl l ↦ l.2 | inr same ↦ (omega (arith, same), omega (arith, same)) ] in
-    let pays : 43 * m * (n + 1) ≤ 64 * m * m * (n + 1) * (n + 1) = one_pays m n some in
-    rw is (record {
-      next = answer_found (expression_tree e) w 0 None (omega arith) (tt, λ i k low inside is. none (i, k, low, inside, is), tt);
-      occurs = tt;
-      serves = ((refl, λ text es sought room. room), tt);
-      cost = (cost.0, omega (arith, cost.1));
-      once = (cost.0, omega (arith, cost.1, pays));
-      counts = tt;
-      passes = λ early. tt;
-    })
+    let paid = pays m n 43 (omega (arith, mul-le-mul_left (n + 1) some)) in
+    let next = answer_found (expression_tree e) w 0 None (omega arith) (tt, λ i k low inside is. none (i, k, low, inside, is), tt) in
+    rw is (search (rules, next, cost, paid))
 
 -- the first search came after it
 pub after_look : (e : WrittenExpression) (w : List ℕ) (last : Option ℕ) (old new : Occurrences) (r : Option (ℕ × ℕ)) (s a t : ℕ) → 1 ≤ length e.nodes → IsLook (length e.nodes) (length w) last s a →

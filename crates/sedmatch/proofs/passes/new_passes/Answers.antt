@@ -1,9 +1,6 @@
 use Rattle.sedmatch.proofs.Words.{rules}
 use Rattle.sedmatch.proofs.passes.new_passes.Goals as goal
 
-pub of-requires-then-states-min : goal.of-requires-then-states-min
-of-requires-then-states-min c = search (rules, c.fit.ensures.analysis, c.in_ok-hints.ensures)
-
 pub returns : goal.returns
 returns c = (
   search (rules, c.fit.ensures.analysis, c.in_ok-hints.ensures),

@@ -1,4 +1,5 @@
-use Rattle.std.proofs.Common.{ℕ, zero, suc, ◌+◌, ◌-◌, ◌*◌, ◌≤◌, arith, mul-le-mul_left, mul-le-mul_right, length, rules}
+use Rattle.std.proofs.Common.{ℕ, ◌+◌, ◌-◌, ◌*◌, ◌≤◌, arith, mul-le-mul_left, mul-le-mul_right, length, rules}
+use Rattle.std.proofs.lemmas.Grind.{common_steps}
 use Rattle.sedre.specs.Tree.{expression_tree}
 use Rattle.sedmatch.specs.Passes.{AnswersGroups}
 use Rattle.sedtext.specs.Groups.{group_depth}
@@ -8,8 +9,7 @@ use Rattle.sedmatch.proofs.table_matcher.TableMatcher.groups_of.Goals.{in-Direct
 use Rattle.sedmatch.proofs.table_matcher.TableMatcher.groups_of.Goals as goal
 
 square : (n : ℕ) → 4 * n ≤ (n + 1) * (n + 1)
-square zero = omega arith
-square (suc n) = omega arith
+square n = grind (arith, common_steps)
 
 -- the groups of a match of so many bytes, in a text of n bytes
 groups_within : (m d n long : ℕ) → d + 1 ≤ m → long ≤ n → 172 * m * d * long + 2 * m ≤ 51 * m * m * (n + 1) * (n + 1)

@@ -7,7 +7,7 @@ loop-x-preserved c = record {
   steps = c.loop-x.invariant.steps;
   to = omega (arith, c.loop-x.invariant.to);
   clear = λ n low high.
-    grind (arith, c.loop-x.invariant.clear n, none_more c.self.inside _ c.self.view_is c.self.invariant _ _ ((c.loop-x.x - 1) / 64) _ _ _ c.requires.row c.requires.inside c.get.ensures c.highest_below.ensures.clear (omega arith) n);
+      grind (arith, c.loop-x.invariant.clear n, none_more c.self.inside _ c.self.view_is c.self.invariant _ _ ((c.loop-x.x - 1) / 64) _ _ _ c.requires.row c.requires.inside c.get.ensures c.highest_below.ensures.clear (omega arith) n);
 }
 
 pub returns-then-end-base-clause-clear : goal.returns-then-end-base-clause-clear

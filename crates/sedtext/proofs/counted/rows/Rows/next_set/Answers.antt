@@ -7,7 +7,7 @@ loop-x-preserved c = record {
   steps = c.loop-x.invariant.steps;
   from = omega (arith, c.loop-x.invariant.from, c.lowest_from.ensures.order);
   clear = λ n from high under.
-    grind (arith, c.loop-x.invariant.clear n, none_more c.self.inside _ c.self.view_is c.self.invariant _ _ (c.loop-x.x / 64) _ _ _ c.requires.row c.requires.inside c.get.ensures c.lowest_from.ensures.clear c.lowest_from.ensures.order.1 n);
+      grind (arith, c.loop-x.invariant.clear n, none_more c.self.inside _ c.self.view_is c.self.invariant _ _ (c.loop-x.x / 64) _ _ _ c.requires.row c.requires.inside c.get.ensures c.lowest_from.ensures.clear c.lowest_from.ensures.order.1 n);
 }
 
 pub returns-then-next-x-clause-clear : goal.returns-then-next-x-clause-clear
