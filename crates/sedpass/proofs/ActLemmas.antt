@@ -1,6 +1,5 @@
 -- How the marks of a place are found by those that are set: upwards from the leaves that took the byte, and downwards from what begins.
 use Rattle.sedpass.proofs.Words.{AddsMarks, AreTakers, Bool, CanEnd, EndsAfter, EndsUpTo, Enters, EntersDownTo, HasSpan, InTree, IsArena, IsNodeRange, IsPart, IsSetAt, IsTrue, List, Node, NodeId, Option, Seq, Some, Star, Starts, StartsAfter, StartsWith, TakenBy, and_from, and_parts, arith, cases_eq, cases_lt, ended_by, entered_by, eq-eqb, eqb, eqb-true, false, get_or-set_other, get_or-set_same, has_mark, inl, inr, is_tree, le-leb, leb-true, length, lt-ltb, ltb-true, nat_le, nat_lt, ne_eqb, node_at, part_of, refl, rules, same_Some, slice_get, slice_get_within, slice_set, sym, true, true≢false, ℕ, ◌&&◌, ◌+◌, ◌<◌, ◌||◌, ◌↔◌, ◌∙◌, ◌≡◌, ◌≤◌, ◌⊎◌, MarkLeaves}
-use Rattle.std.proofs.lemmas.Bool.{false_from_ne_true}
 use Rattle.sedpass.proofs.RowLemmas.{InTree-inside, copy_part, right_part, with_node}
 
 -- more marks say more
@@ -28,32 +27,25 @@ set_here marks after p v is long = search (rules, get_or-set_same)
 pub set_other : (marks after : List Bool) (p : ℕ) (v : Bool) → after ≡ slice_set marks p v → (c : ℕ) → (c ≡ p → ⊥) → has_mark after c ≡ has_mark marks c
 set_other marks after p v is c ne = search (rules, get_or-set_other)
 
-pub set_more : (marks after : List Bool) (p : ℕ) → after ≡ slice_set marks p true → p < length marks → (c : ℕ) → IsTrue (has_mark marks c) → IsTrue (has_mark after c)
-set_more marks after p is long c h = search (rules, set_here, set_other, cases_eq c p)
-
-pub set_was : (marks after : List Bool) (p : ℕ) → after ≡ slice_set marks p true → (c : ℕ) → IsTrue (has_mark after c) → (c ≡ p) ⊎ IsTrue (has_mark marks c)
-set_was marks after p is c h = search (rules, set_other, cases_eq c p)
-
--- none, one or two marks are added
+-- no mark is added, or one
 pub adds_none : (marks : List Bool) (P : ℕ → Type 0) → ((c : ℕ) → P c → ⊥) → AddsMarks marks marks P
 adds_none marks P none c = (λ h. inl h, λ h. elim h [ inl old ↦ old | inr told ↦ absurd (none c told) ])
 
 pub adds_one : (marks after : List Bool) (p : ℕ) (P : ℕ → Type 0) → after ≡ slice_set marks p true → p < length marks → P p → ((c : ℕ) → P c → c ≡ p) → AddsMarks marks after P
-adds_one marks after p P is long here only c = search (rules, set_was, set_more, set_here, only)
+adds_one marks after p P is long here only c = search (rules, set_here, set_other, cases_eq c p, only c)
 
 one_node : (nodes : List Node) (p x : ℕ) (node other : Node) → slice_get nodes p ≡ Some node → slice_get nodes x ≡ Some other → x ≡ p → other ≡ node
 one_node nodes p x node other is is' e = search (rules, same_Some)
 
 -- where nothing is marked below y in r, and only leaves are above, those have ended alone
-no_part_ends : (took null f : ℕ → Bool) (x : ℕ) (node : Node) → ((n : ℕ) → IsPart node n → f n ≡ false) → IsTrue (ended_by (λ m. took x) null f node) → IsTrue (took x)
-no_part_ends took null f x node none h = search (rules, none, true≢false)
-
 pub leaves_end : (nodes : List Node) (r y : ℕ) (took null : ℕ → Bool) (ended : List Bool) → MarkLeaves nodes r ended → ((c : ℕ) → c < length nodes → has_mark ended c ≡ took c) → ((c : ℕ) → InTree nodes r c → c < y → has_mark ended c ≡ false) →
     EndsUpTo nodes r took null ended y
 leaves_end nodes r y took null ended only same none = record {
   inside = λ c lt h. (only c lt h).0;
   just = λ c node is h. search (rules, only c (slice_get_within nodes c node is) h, one_node, same, slice_get_within);
-  closed = λ c node there is h. search (rules, same c (slice_get_within nodes c node is), no_part_ends, ltb-true, none, part_of, false_from_ne_true);
+  closed = λ c node there is h.
+      let inner = λ (n : ℕ) (part : IsPart node n). none n (part_of c n node is part there) in
+      grind (arith, same c (slice_get_within nodes c node is), ltb-true, inner);
 }
 
 -- what a node says of where its parts begin
@@ -77,18 +69,12 @@ enters_none nodes r z null ended entered arena clear inside none = record {
   inside = λ c lt h. search (rules, clear, true≢false);
   root = clear r inside;
   just = λ q c node there is part h. search (rules, clear, arena.below, slice_get_within, true≢false);
-  closed = λ q c node there is part h.
-      let inner = λ (n : ℕ) (part : IsPart node n). none n (part_of q n node is part there) in
-      absurd (grind (arith, leb-true, ltb-true, InTree-inside nodes arena r q there, inner));
+  closed = λ q c node there is part h. absurd (grind (arith, leb-true, ltb-true, InTree-inside nodes arena r q there, none, λ (n : ℕ) (at : IsPart node n). none n (part_of q n node is at there)));
 }
 
 -- Besides the marks of a base, of the leaves from x on those are marked that were entered.
 pub record HasLeaves (nodes : List Node) (base entered leaves : List Bool) (x : ℕ) : Type 0 where
   pub leaf : (c : ℕ) → c < length nodes → IsTrue (has_mark leaves c) ↔ (IsTrue (has_mark base c) ⊎ ((x ≤ c) × IsTrue (has_mark entered c) × IsSetAt nodes c))
-
--- what a node says of its part is said by its beginning, or by what ended
-entered_split : (here : Bool) (null f : ℕ → Bool) (node : Node) (c : ℕ) → IsTrue (entered_by here null f node c) → IsTrue (entered_by false null f node c) ⊎ (IsTrue here × IsTrue (entered_by true null (λ n. false) node c))
-entered_split here null f node c h = search rules
 
 -- Downwards: the node x is entered, and none below it from y on.
 module _ (nodes : List Node) (r : ℕ) (arena : IsArena nodes) (entered after : List Bool) (x y : ℕ) (node : Node) (is : slice_get nodes x ≡ Some node) (here : IsTrue (has_mark entered x)) (null : ℕ → Bool)
@@ -108,7 +94,7 @@ module _ (nodes : List Node) (r : ℕ) (arena : IsArena nodes) (entered after : 
         inside = λ c lt h. search (rules, adds c, down.inside, part_of);
         root = still_marked r (InTree-inside nodes arena r x there) ∙ down.root;
         just = λ q c other there' is' part h. search (rules, adds c, adds q, down.just q c other there' is' part, arena.once q x c other node is' is part, one_node nodes x q node other is is');
-        closed = λ q c other there' is' part h. search (rules, entered_split, adds c, cases_eq q x, down.closed q c other there' is' part, still_above q, one_node nodes x q node other is is');
+        closed = λ q c other there' is' part h. search (rules, adds c, cases_eq q x, down.closed q c other there' is' part, still_above q, one_node nodes x q node other is is');
       }
 
   -- and the node itself, if it is a leaf
@@ -217,7 +203,7 @@ none_begins null y c node not_first no_star h = search (rules, eqb-true, true≢
 -- The second part begins where the first has ended, and their node ends where that one is null.
 module _ (null : ℕ → Bool) (a b : NodeId) (y : ℕ) (apart : a.index ≡ b.index → ⊥) (at : a.index ≡ y) where
   pub second_begins : (marks after : List Bool) → after ≡ slice_set marks b.index true → b.index < length marks → AddsMarks marks after (StartsAfter null (Seq a b) y)
-  second_begins marks after is long c = search (rules, set_was, set_more, set_here, eq-eqb, ne_eqb, true≢false)
+  second_begins marks after is long c = search (rules, set_here, set_other, cases_eq c b.index, eq-eqb, ne_eqb, true≢false)
 
   pub seq_ends : EndsAfter null (Seq a b) y ↔ IsTrue (null b.index)
   seq_ends = search (rules, eq-eqb, eqb-true)

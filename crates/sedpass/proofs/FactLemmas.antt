@@ -1,7 +1,6 @@
 -- What is found out of each node once, and what it means for passes.
 use Rattle.std.proofs.lemmas.List.{get_or_append_left}
-use Rattle.sedpass.proofs.Words.{SameNulls, cases_lt, not, null_at, ◌||◌, ◌∙◌, AreParents, IsPart, seen-node, slice_get_within, slice_index_or}
-use Rattle.sedpass.proofs.Words.{rules, ◌≡◌, ℕ, zero, suc, ◌+◌, ◌<◌, ◌≤◌, ◌⊎◌, ◌↔◌, Bool, true, false, ◌&&◌, List, [], ◌∷◌, ◌++◌, length, Some, IsTrue, refl, ap, inl, inr, arith, bit_and, bit_or, ◌||◌, slice_get, eqb, option_eq, bit_at_and, bit_at_or, bit_at-lt, cases_lt, same_Some, none-some, size, IsArena, IsExpr, IsPart, FollowsParts, mirror, seen, Node, Seq, Alt, Group, Star, Opt, tree_at-node, tree_at-mirror, seen-length, Matches, no_copy, IsPlace, Matches-forward, node_at, Facts, PlaceKind, Tree, byte_of, sequence, either_of, grouped, WrittenExpression, tree_of, tree_at, size_positive, nullable, null_in, null_at, is_one_set, IsFacts, AreFacts, IsShort, length_of, at_begin, at_edge, IsNodeRange, AreNull}
+use Rattle.sedpass.proofs.Words.{rules, ◌≡◌, ℕ, zero, suc, ◌+◌, ◌<◌, ◌≤◌, ◌⊎◌, ◌↔◌, Bool, true, false, ◌&&◌, List, [], ◌∷◌, ◌++◌, length, Some, IsTrue, refl, ap, inl, inr, arith, bit_and, bit_or, ◌||◌, slice_get, eqb, option_eq, bit_at_and, bit_at_or, bit_at-lt, cases_lt, same_Some, none-some, size, IsArena, IsExpr, IsPart, FollowsParts, mirror, seen, Node, Seq, Alt, Group, Star, Opt, tree_at-node, tree_at-mirror, seen-length, Matches, no_copy, IsPlace, Matches-forward, node_at, Facts, PlaceKind, Tree, byte_of, sequence, either_of, grouped, WrittenExpression, tree_of, tree_at, size_positive, nullable, null_in, null_at, is_one_set, IsFacts, AreFacts, IsShort, length_of, at_begin, at_edge, IsNodeRange, AreNull, SameNulls, not, ◌∙◌, AreParents, seen-node, slice_get_within, slice_index_or}
 use Rattle.sedpass.proofs.LengthLemmas.{sum_parts, same_parts}
 use Rattle.sedpass.proofs.RowLemmas.{part_mirror, range_of, mirror_range}
 use Rattle.sedpass.proofs.GroupSetLemmas.{two_bits}

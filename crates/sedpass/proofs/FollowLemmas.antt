@@ -1,5 +1,5 @@
 -- The row that follows from which leaves took a byte: that it is the place's, what two of them have together, and that scans find it.
-use Rattle.sedpass.proofs.Words.{cases_eq, IfSome, None, marks_of, row_of, AreNull, Bool, CanEnd, EndsUpTo, Enters, Enters-root, EntersDownTo, InTree, IsArena, IsPart, IsStart, IsTrue, List, Node, Set, Option, RowFollows, RowOfPlace, Some, Starts, Took, and_from, node_at, true≢false, ap, arith, at_root, bits, ended_by, entered_by, false, has_mark, is_tree, le-leb, length, lt-ltb, ltb-true, part_of, refl, rules, slice_get, suc, sym, ℕ, ◌+◌, ◌<◌, ◌∙◌, ◌||◌, ◌≡◌, ◌≤◌, ◌↔◌}
+use Rattle.sedpass.proofs.Words.{cases_eq, IfSome, None, marks_of, row_of, AreNull, Bool, CanEnd, EndsUpTo, Enters, Enters-root, EntersDownTo, InTree, IsArena, IsPart, IsStart, IsTrue, List, Node, Set, Option, RowFollows, RowOfPlace, Some, Starts, Took, and_from, node_at, true≢false, ap, arith, at_root, bits, ended_by, entered_by, false, has_mark, is_tree, le-leb, length, lt-ltb, ltb-true, part_of, refl, rules, slice_get, suc, ℕ, ◌+◌, ◌<◌, ◌∙◌, ◌||◌, ◌≡◌, ◌≤◌, ◌↔◌}
 use Rattle.sedpass.proofs.ActLemmas.{HasEnds, HasLeaves, ended_by_more, entered_by_more, entered_is, same_truth}
 use Rattle.sedpass.proofs.LeaveLemmas.{ends_at}
 use Rattle.sedpass.proofs.RowLemmas.{InTree-inside, ended_is, enters_tree}
@@ -29,21 +29,15 @@ module _ (nodes : List Node) (w : List ℕ) (r p : ℕ) (s : Starts) (arena : Is
     ends = λ c. search (rules, ends_at nodes w r c p s, f.ended_is c, up_below (c + 1) c (omega arith), at_root, Enters-root, nulls r inside, enters_tree, is_tree);
   }
 
--- null strings that are the same say the same
-ended_null : (took : List Bool → Bool) (null other f : ℕ → Bool) (node : Node) → ((c : ℕ) → IsPart node c → other c ≡ null c) → ended_by took other f node ≡ ended_by took null f node
-ended_null took null other f node same = grind (arith, same)
-
-entered_null : (here : Bool) (null other f : ℕ → Bool) (node : Node) (c : ℕ) → ((n : ℕ) → IsPart node n → other n ≡ null n) → entered_by here other f node c ≡ entered_by here null f node c
-entered_null here null other f node c same = grind (arith, same)
-
+-- where null strings are the same, and as many took the byte, the same follows
 same_follows : (nodes : List Node) (r : ℕ) (keeps first : Bool) (null same_null took other entered ended : ℕ → Bool) → ((x c : ℕ) (node : Node) → InTree nodes r x → slice_get nodes x ≡ Some node → IsPart node c → same_null c ≡ null c) → same_null r ≡ null r →
     ((c : ℕ) → InTree nodes r c → other c ≡ took c) → RowFollows nodes r keeps first null took entered ended → RowFollows nodes r keeps first same_null other entered ended
 same_follows nodes r keeps first null same_null took other entered ended nulls root same f = record {
   begins = f.begins;
   ends = f.ends;
   root = f.root;
-  down = λ x c node there is part. f.down x c node there is part ∙ sym (entered_null (f.begins x) null same_null f.ends node c (λ n at. nulls x n node there is at));
-  up = λ x node there is. rw (same x there) (f.up x node there is ∙ sym (ended_null (λ m. took x) null same_null f.ends node (λ n at. nulls x n node there is at)));
+  down = λ x c node there is part. let at = λ (n : ℕ). nulls x n node there is in rw (f.down x c node there is part) (search rules);
+  up = λ x node there is. let at = λ (n : ℕ). nulls x n node there is in rw (same x there, f.up x node there is) (search rules);
   leaves = f.leaves;
   ended_is = λ c. rw root (f.ended_is c);
 }

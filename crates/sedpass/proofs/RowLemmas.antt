@@ -7,10 +7,6 @@ use Rattle.sedpass.proofs.MeetingLemmas.{meets_whole}
 abbrev pub NoneEntered : List Node → List ℕ → ℕ → Starts → ℕ → Type 0
 NoneEntered nodes w r s p = (c : ℕ) (members : List Bool) → slice_get nodes c ≡ Some (Set members) → Enters nodes w r s c p → ⊥
 
--- a mark that isn't set, of what doesn't hold
-pub not_true : (A : Type 0) → (A → ⊥) → IsTrue false ↔ A
-not_true A none = (λ h. absurd (true≢false (sym h)), λ a. absurd (none a))
-
 module _ (nodes : List Node) (w : List ℕ) (r : ℕ) (s : Starts) (arena : IsArena nodes) where
   -- a whole node ends where its part does that is entered with it alone
   up_with : (x j c : ℕ) (node : Node) → x ≤ r → slice_get nodes x ≡ Some node → IsPart node c →
@@ -57,14 +53,14 @@ module _ (nodes : List Node) (w : List ℕ) (r : ℕ) (s : Starts) (arena : IsAr
         )
     ended_is (Group k a) is takes nulls ends =
         let part = ends a.index refl in
-        let whole = up_with x j a.index (Group k a) le is refl (λ i f. f) (λ i at. close_at nodes w x (Group k a) arena is i j at) in
-        (λ h. search rules, λ h. search (rules, open_at nodes w x (Group k a) arena is h.0 j h.3, with_whole x a.index h.0 (Group k a) is refl h.2))
+        let close = λ (i : ℕ). close_at nodes w x (Group k a) arena is i j in
+        (λ h. search (rules, up_with x j a.index (Group k a) le is), λ h. search (rules, open_at nodes w x (Group k a) arena is h.0 j h.3, with_whole x a.index h.0 (Group k a) is refl h.2))
     ended_is (Star a first) is takes nulls ends = let part = ends a.index refl in search (rules, one_copy x j a first le is, last_copy)
     ended_is (Opt a first) is takes nulls ends =
         let part = ends a.index refl in
-        let whole = up_with x j a.index (Opt a first) le is refl (λ i f. f) (λ i at. close_at nodes w x (Opt a first) arena is i j (inr at)) in
-        (λ h. search rules, λ h. search (rules, h.1, open_at nodes w x (Opt a first) arena is h.0 j h.3, with_whole x a.index h.0 (Opt a first) is refl h.2))
-    ended_is other is takes nulls ends = not_true _ (λ h. let at = open_at nodes w x other arena is h.0 j h.3 in omega arith)
+        let close = λ (i : ℕ). close_at nodes w x (Opt a first) arena is i j in
+        (λ h. search (rules, up_with x j a.index (Opt a first) le is), λ h. search (rules, h.1, open_at nodes w x (Opt a first) arena is h.0 j h.3, with_whole x a.index h.0 (Opt a first) is refl h.2))
+    ended_is other is takes nulls ends = search (rules, open_at nodes w x other arena is, true≢false)
 
   -- downwards: the mark of a part that is entered, by that of its node
   module _ (x p : ℕ) (le : x ≤ r) (here : Bool) (enters : IsTrue here ↔ Enters nodes w r s x p) where
