@@ -30,9 +30,7 @@ first_copy R j i (one_more _ l lt r rest) some = (l, lt, r, rest)
 module _ (nodes : List Node) (w : List ℕ) (r : ℕ) (t : Starts) (a : ℕ) (s : Starts) (arena : IsArena nodes) (within : a ≤ r) where
   -- the node with a part that begins where it does spans p to k, and is left there
   wider : (y x : ℕ) (node : Node) → slice_get nodes y ≡ Some node → BeginsWith node x → (p q : ℕ) → HasSpan nodes w x p q → OutOf nodes w r t y x q node → (k : ℕ) × (q ≤ k) × HasSpan nodes w y p k × CanLeave nodes w r t y k
-  wider y x (Star b first) is begins p q at out =
-      search (rules, out, CopiesLead-before (HasSpan nodes w b.index) out.0 q p, Matches-forward (tree_at nodes x) w p q, Matches-forward (tree_at nodes y) w q, open_at nodes w y (Star b first) arena is q, close_at nodes w y (Star b first) arena is p)
-  wider y x node is begins p q at out = grind (arith, arena.distinct y node is, close_at nodes w y node arena is p, Matches-forward)
+  wider y x node is begins p q at out = grind (arith, arena.distinct y node is, open_at nodes w y node arena is q, close_at nodes w y node arena is p, Matches-forward, CopiesLead-before)
 
   -- a match of a from a start up to p ends at q or later, where a is left
   abbrev Onwards : ℕ → ℕ → Type 0
