@@ -135,10 +135,9 @@ part_within nodes w r x c node arena last is part = omega (arith, slice_get_with
 module _ (nodes : List Node) (w : List ℕ) (r j x : ℕ) (a b : NodeId) (arena : IsArena nodes) (last : IsLastIn nodes r x) (is : slice_get nodes x ≡ Some (Seq a b)) where
   -- the left part is left exactly where the right one leads on to the end
   pub left_leaves : (k : ℕ) → CanLeave nodes w r (one_start j) a.index k ↔ HasSpan nodes w b.index k j
-  left_leaves k = (
-    λ l. grind (arith, arena.distinct x (Seq a b) is, last-leaves nodes w r (one_start j) arena x, CanLeave-part nodes w r (one_start j) arena x (last_inside nodes w r (one_start j) arena x last) a.index k (Seq a b) is (inl refl) l),
-    λ at. before_right x a.index k j a b is refl (CanLeave-last nodes w r (one_start j) arena x j last (omega arith, omega arith)) at,
-  )
+  left_leaves k =
+      let out = CanLeave-part nodes w r (one_start j) arena x (last_inside nodes w r (one_start j) arena x last) a.index k (Seq a b) is (inl refl) in
+      grind (arith, out, arena.distinct x (Seq a b) is, last-leaves nodes w r (one_start j) arena x, before_right, CanLeave-last nodes w r (one_start j) arena x j last)
 
   pub meets-cut : (i p : ℕ) → i ≤ p → MeetsAt nodes w r (one_start j) a.index (one_start i) p ↔ ((k : ℕ) × (p < k) × HasSpan nodes w a.index i k × HasSpan nodes w b.index k j)
   meets-cut =
@@ -159,10 +158,9 @@ module _ (nodes : List Node) (w : List ℕ) (r j x : ℕ) (a b : NodeId) (arena 
 module _ (nodes : List Node) (w : List ℕ) (r j x : ℕ) (a : NodeId) (first : Bool) (arena : IsArena nodes) (last : IsLastIn nodes r x) (is : slice_get nodes x ≡ Some (Star a first)) where
   -- a copy is left exactly where copies lead on to the end
   pub copy_leaves : (k : ℕ) → CanLeave nodes w r (one_start j) a.index k ↔ CopiesLead (HasSpan nodes w a.index) j k
-  copy_leaves k = (
-    λ l. grind (arith, last-leaves nodes w r (one_start j) arena x, CanLeave-part nodes w r (one_start j) arena x (last_inside nodes w r (one_start j) arena x last) a.index k (Star a first) is refl l, open_at nodes w x (Star a first) arena is k j),
-    λ copies. before_copies x a.index k j a first is refl (CanLeave-last nodes w r (one_start j) arena x j last (omega arith, omega arith)) (close_at nodes w x (Star a first) arena is k j copies),
-  )
+  copy_leaves k =
+      let out = CanLeave-part nodes w r (one_start j) arena x (last_inside nodes w r (one_start j) arena x last) a.index k (Star a first) is refl in
+      grind (arith, out, last-leaves nodes w r (one_start j) arena x, open_at nodes w x (Star a first) arena is k j, before_copies, CanLeave-last nodes w r (one_start j) arena x j last, close_at nodes w x (Star a first) arena is k j)
 
   -- a pass over a copy stops at the greatest end from which copies lead on
   pub stops_at_copy : (i p : ℕ) → HasSpan nodes w x i j → i < j → CeasesAt nodes w r (one_start j) a.index i p → NextCopy (HasSpan nodes w a.index) i j p
@@ -182,9 +180,7 @@ run_copies : (nodes : List Node) (w : List ℕ) (r c : ℕ) (t : Starts) (member
     (n i q : ℕ) → q ≡ i + n → ((l : ℕ) → i ≤ l → l < q → ReachesEnd nodes w r t c l) → CopiesLead (HasSpan nodes w c) q i
 run_copies nodes w r c t members arena is zero i q sum marked = search (rules, no_copy)
 run_copies nodes w r c t members arena is (suc n) i q sum marked =
-    let here = marked (i + n) (omega arith) (omega arith) in
-    let same : here.0 ≡ q = omega (arith, (open_at nodes w c (Set members) arena is (i + n) here.0 here.1).3) in
-    search (rules, CopiesLead-append (HasSpan nodes w c) (i + n) i q, run_copies nodes w r c t members arena is n i (i + n), marked, same, here)
+    grind (arith, marked (i + n), open_at nodes w c (Set members) arena is (i + n), CopiesLead-append (HasSpan nodes w c) (i + n) i q, run_copies nodes w r c t members arena is n i (i + n), marked)
 
 -- the repetition in a run: it is entered, left and spanned as the run is
 module _ (nodes : List Node) (w : List ℕ) (r : ℕ) (t : Starts) (root : ℕ) (s : Starts) (c : ℕ) (arena : IsArena nodes) where
