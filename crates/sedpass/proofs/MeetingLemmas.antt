@@ -96,9 +96,7 @@ meets-goes_on nodes w r a p s t arena inside within = (
 -- of the whole node r: exactly where a match of it goes on
 pub meets_whole : (nodes : List Node) (w : List ℕ) (r p : ℕ) (s t : Starts) → IsArena nodes → r < length nodes →
     MeetsAt nodes w r t r s p ↔ ((i : ℕ) × (k : ℕ) × IsStart s i × (i ≤ p) × (p < k) × HasSpan nodes w r i k × IsStart t k)
-meets_whole nodes w r p s t arena inside =
-    let both = meets-goes_on nodes w r r p s t arena inside (omega arith) in
-    (λ h. search (rules, both.0 h, last-leaves nodes w r t arena r (both.0 h).1, all_of), λ h. search (rules, both.1, h, CanLeave-last nodes w r t arena r h.1, all_of))
+meets_whole nodes w r p s t arena inside = grind (arith, meets-goes_on nodes w r r p s t arena inside, last-leaves nodes w r t arena r, CanLeave-last nodes w r t arena r, all_of)
 
 -- no set is marked at the last end or after it
 pub set_early : (nodes : List Node) (w : List ℕ) (r c p : ℕ) (t : Starts) (members : List Bool) → IsArena nodes → slice_get nodes c ≡ Some (Set members) → ReachesEnd nodes w r t c p → p < t.last
@@ -112,11 +110,7 @@ first_stop A B M i p k low left right on shows more over = grind (arith, shows p
 -- a pass over the node c, which is left exactly where Q, that goes on while the passes meet
 module _ (nodes : List Node) (w : List ℕ) (r c : ℕ) (t : Starts) (arena : IsArena nodes) (inside : c < length nodes) (within : c ≤ r) (Q : ℕ → Type 0) (leaves : (k : ℕ) → CanLeave nodes w r t c k ↔ Q k) where
   pub meets_from : (i p : ℕ) → i ≤ p → MeetsAt nodes w r t c (one_start i) p ↔ ((k : ℕ) × (p < k) × HasSpan nodes w c i k × Q k)
-  meets_from i p low =
-      let both = meets-goes_on nodes w r c p (one_start i) t arena inside within in (
-        λ h. let g = both.0 h in let same : g.0 ≡ i = omega (arith, g.2) in search (rules, rw same at g.5, g, leaves),
-        λ h. search (rules, both.1, h, leaves),
-      )
+  meets_from i p low = grind (arith, meets-goes_on nodes w r c p (one_start i) t arena inside within, leaves)
 
   -- it stops at the greatest end of a match from there
   pub stops_at : (i p k : ℕ) → i ≤ k → HasSpan nodes w c i k → Q k → CeasesAt nodes w r t c i p → HasSpan nodes w c i p × Q p × ((l : ℕ) → HasSpan nodes w c i l → Q l → l ≤ p)
@@ -124,9 +118,7 @@ module _ (nodes : List Node) (w : List ℕ) (r c : ℕ) (t : Starts) (arena : Is
 
 -- at the start of a pass over a part of r: exactly where the part is marked
 pub marked_meets : (nodes : List Node) (w : List ℕ) (r a p : ℕ) (t : Starts) → IsArena nodes → a < length nodes → a < r → MeetsAt nodes w r t a (one_start p) p ↔ ReachesEnd nodes w r t a p
-marked_meets nodes w r a p t arena inside within =
-    let both = meets_from nodes w r a t arena inside (omega arith) (CanLeave nodes w r t a) (λ k. (λ l. l, λ l. l)) p p (omega arith) in
-    (λ h. search (rules, both.0 h), λ h. search (rules, both.1, h))
+marked_meets nodes w r a p t arena inside within = grind (arith, meets-goes_on nodes w r a p (one_start p) t arena inside)
 
 -- a part of a node that nothing follows is in the arena, and no later than r
 pub part_within : (nodes : List Node) (w : List ℕ) (r x c : ℕ) (node : Node) → IsArena nodes → IsLastIn nodes r x → slice_get nodes x ≡ Some node → IsPart node c → (c < length nodes) × (c ≤ r)
@@ -148,8 +140,7 @@ module _ (nodes : List Node) (w : List ℕ) (r j x : ℕ) (a b : NodeId) (arena 
   cut_at : (i p : ℕ) (M : ℕ → Type 0) → HasSpan nodes w x i j → i ≤ p → ((q : ℕ) → i ≤ q → q ≤ p → M q ↔ ((l : ℕ) × (q < l) × HasSpan nodes w a.index i l × HasSpan nodes w b.index l j)) →
       ((q : ℕ) → i ≤ q → q < p → M q) → (M p → ⊥) → LastCut (HasSpan nodes w a.index) (HasSpan nodes w b.index) i j p
   cut_at i p M at low shows more over =
-      let f = open_at nodes w x (Seq a b) arena is i j at in
-      search (rules, first_stop (HasSpan nodes w a.index i) (λ k. HasSpan nodes w b.index k j) M i p f.0 (Matches-forward (tree_at nodes a.index) w i f.0 f.1) f.1 f.2 low shows more over)
+      grind (arith, open_at nodes w x (Seq a b) arena is i j at, first_stop (HasSpan nodes w a.index i) (λ k. HasSpan nodes w b.index k j) M i p, Matches-forward, low, shows, more, over)
 
   -- so a pass over a that goes on while they meet stops at the greatest cut
   pub stops_at_cut : (i p : ℕ) → HasSpan nodes w x i j → CeasesAt nodes w r (one_start j) a.index i p → LastCut (HasSpan nodes w a.index) (HasSpan nodes w b.index) i j p
