@@ -22,14 +22,10 @@ IsLastPart-ends : (node : Node) (c : ℕ) → IsLastPart node c → EndsWith nod
 IsLastPart-ends node c h = grind arith
 
 module _ (nodes : List Node) (w : List ℕ) (r : ℕ) (t : Starts) (arena : IsArena nodes) where
-  -- a part that ends where its node does
-  OutOf-with_end : (y c i : ℕ) (node : Node) → slice_get nodes y ≡ Some node → EndsWith node c → CanLeave nodes w r t y i → OutOf nodes w r t y c i node
-  OutOf-with_end y c i node is ends l = grind (arith, close_at nodes w y node arena is i i, no_copy)
-
   -- a part is left through its node alone
   pub CanLeave-part : (y : ℕ) → y ≤ r → (c i : ℕ) (node : Node) → slice_get nodes y ≡ Some node → IsPart node c → CanLeave nodes w r t c i → OutOf nodes w r t y c i node
   CanLeave-part y le c i node is part (at_end _ _ last stop) = search rules
-  CanLeave-part y le c i node is part (with_end z _ _ other is' ends l) = search (rules, same_node nodes arena z y c other node, EndsWith-part, OutOf-with_end)
+  CanLeave-part y le c i node is part (with_end z _ _ other is' ends l) = grind (arith, same_node nodes arena z y c other node, EndsWith-part, close_at nodes w y node arena is i i, no_copy)
   CanLeave-part y le c i node is part (before_right z _ _ k a b is' left l at) = search (rules, same_node nodes arena z y c (Seq a b) node is' is (inl left) part)
   CanLeave-part y le c i node is part (before_copies z _ _ k a first is' inner l at) = search (rules, same_node nodes arena z y c (Star a first) node is' is inner part)
 

@@ -30,9 +30,7 @@ first_copy R j i (one_more _ l lt r rest) some = (l, lt, r, rest)
 module _ (nodes : List Node) (w : List ℕ) (r : ℕ) (t : Starts) (a : ℕ) (s : Starts) (arena : IsArena nodes) (within : a ≤ r) where
   -- the node with a part that begins where it does spans p to k, and is left there
   wider : (y x : ℕ) (node : Node) → slice_get nodes y ≡ Some node → BeginsWith node x → (p q : ℕ) → HasSpan nodes w x p q → OutOf nodes w r t y x q node → (k : ℕ) × (q ≤ k) × HasSpan nodes w y p k × CanLeave nodes w r t y k
-  wider y x (Star b first) is begins p q at out =
-      search (rules, out, CopiesLead-before (HasSpan nodes w b.index) out.0 q p, Matches-forward (tree_at nodes x) w p q, Matches-forward (tree_at nodes y) w q, open_at nodes w y (Star b first) arena is q, close_at nodes w y (Star b first) arena is p)
-  wider y x node is begins p q at out = grind (arith, arena.distinct y node is, close_at nodes w y node arena is p, Matches-forward)
+  wider y x node is begins p q at out = grind (arith, arena.distinct y node is, open_at nodes w y node arena is q, close_at nodes w y node arena is p, Matches-forward, CopiesLead-before)
 
   -- a match of a from a start up to p ends at q or later, where a is left
   abbrev Onwards : ℕ → ℕ → Type 0
@@ -98,9 +96,7 @@ meets-goes_on nodes w r a p s t arena inside within = (
 -- of the whole node r: exactly where a match of it goes on
 pub meets_whole : (nodes : List Node) (w : List ℕ) (r p : ℕ) (s t : Starts) → IsArena nodes → r < length nodes →
     MeetsAt nodes w r t r s p ↔ ((i : ℕ) × (k : ℕ) × IsStart s i × (i ≤ p) × (p < k) × HasSpan nodes w r i k × IsStart t k)
-meets_whole nodes w r p s t arena inside =
-    let both = meets-goes_on nodes w r r p s t arena inside (omega arith) in
-    (λ h. search (rules, both.0 h, last-leaves nodes w r t arena r (both.0 h).1, all_of), λ h. search (rules, both.1, h, CanLeave-last nodes w r t arena r h.1, all_of))
+meets_whole nodes w r p s t arena inside = grind (arith, meets-goes_on nodes w r r p s t arena inside, last-leaves nodes w r t arena r, CanLeave-last nodes w r t arena r, all_of)
 
 -- no set is marked at the last end or after it
 pub set_early : (nodes : List Node) (w : List ℕ) (r c p : ℕ) (t : Starts) (members : List Bool) → IsArena nodes → slice_get nodes c ≡ Some (Set members) → ReachesEnd nodes w r t c p → p < t.last
@@ -114,11 +110,7 @@ first_stop A B M i p k low left right on shows more over = grind (arith, shows p
 -- a pass over the node c, which is left exactly where Q, that goes on while the passes meet
 module _ (nodes : List Node) (w : List ℕ) (r c : ℕ) (t : Starts) (arena : IsArena nodes) (inside : c < length nodes) (within : c ≤ r) (Q : ℕ → Type 0) (leaves : (k : ℕ) → CanLeave nodes w r t c k ↔ Q k) where
   pub meets_from : (i p : ℕ) → i ≤ p → MeetsAt nodes w r t c (one_start i) p ↔ ((k : ℕ) × (p < k) × HasSpan nodes w c i k × Q k)
-  meets_from i p low =
-      let both = meets-goes_on nodes w r c p (one_start i) t arena inside within in (
-        λ h. let g = both.0 h in let same : g.0 ≡ i = omega (arith, g.2) in search (rules, rw same at g.5, g, leaves),
-        λ h. search (rules, both.1, h, leaves),
-      )
+  meets_from i p low = grind (arith, meets-goes_on nodes w r c p (one_start i) t arena inside within, leaves)
 
   -- it stops at the greatest end of a match from there
   pub stops_at : (i p k : ℕ) → i ≤ k → HasSpan nodes w c i k → Q k → CeasesAt nodes w r t c i p → HasSpan nodes w c i p × Q p × ((l : ℕ) → HasSpan nodes w c i l → Q l → l ≤ p)
@@ -126,9 +118,7 @@ module _ (nodes : List Node) (w : List ℕ) (r c : ℕ) (t : Starts) (arena : Is
 
 -- at the start of a pass over a part of r: exactly where the part is marked
 pub marked_meets : (nodes : List Node) (w : List ℕ) (r a p : ℕ) (t : Starts) → IsArena nodes → a < length nodes → a < r → MeetsAt nodes w r t a (one_start p) p ↔ ReachesEnd nodes w r t a p
-marked_meets nodes w r a p t arena inside within =
-    let both = meets_from nodes w r a t arena inside (omega arith) (CanLeave nodes w r t a) (λ k. (λ l. l, λ l. l)) p p (omega arith) in
-    (λ h. search (rules, both.0 h), λ h. search (rules, both.1, h))
+marked_meets nodes w r a p t arena inside within = grind (arith, meets-goes_on nodes w r a p (one_start p) t arena inside)
 
 -- a part of a node that nothing follows is in the arena, and no later than r
 pub part_within : (nodes : List Node) (w : List ℕ) (r x c : ℕ) (node : Node) → IsArena nodes → IsLastIn nodes r x → slice_get nodes x ≡ Some node → IsPart node c → (c < length nodes) × (c ≤ r)
@@ -137,10 +127,9 @@ part_within nodes w r x c node arena last is part = omega (arith, slice_get_with
 module _ (nodes : List Node) (w : List ℕ) (r j x : ℕ) (a b : NodeId) (arena : IsArena nodes) (last : IsLastIn nodes r x) (is : slice_get nodes x ≡ Some (Seq a b)) where
   -- the left part is left exactly where the right one leads on to the end
   pub left_leaves : (k : ℕ) → CanLeave nodes w r (one_start j) a.index k ↔ HasSpan nodes w b.index k j
-  left_leaves k = (
-    λ l. grind (arith, arena.distinct x (Seq a b) is, last-leaves nodes w r (one_start j) arena x, CanLeave-part nodes w r (one_start j) arena x (last_inside nodes w r (one_start j) arena x last) a.index k (Seq a b) is (inl refl) l),
-    λ at. before_right x a.index k j a b is refl (CanLeave-last nodes w r (one_start j) arena x j last (omega arith, omega arith)) at,
-  )
+  left_leaves k =
+      let out = CanLeave-part nodes w r (one_start j) arena x (last_inside nodes w r (one_start j) arena x last) a.index k (Seq a b) is (inl refl) in
+      grind (arith, out, arena.distinct x (Seq a b) is, last-leaves nodes w r (one_start j) arena x, before_right, CanLeave-last nodes w r (one_start j) arena x j last)
 
   pub meets-cut : (i p : ℕ) → i ≤ p → MeetsAt nodes w r (one_start j) a.index (one_start i) p ↔ ((k : ℕ) × (p < k) × HasSpan nodes w a.index i k × HasSpan nodes w b.index k j)
   meets-cut =
@@ -151,8 +140,7 @@ module _ (nodes : List Node) (w : List ℕ) (r j x : ℕ) (a b : NodeId) (arena 
   cut_at : (i p : ℕ) (M : ℕ → Type 0) → HasSpan nodes w x i j → i ≤ p → ((q : ℕ) → i ≤ q → q ≤ p → M q ↔ ((l : ℕ) × (q < l) × HasSpan nodes w a.index i l × HasSpan nodes w b.index l j)) →
       ((q : ℕ) → i ≤ q → q < p → M q) → (M p → ⊥) → LastCut (HasSpan nodes w a.index) (HasSpan nodes w b.index) i j p
   cut_at i p M at low shows more over =
-      let f = open_at nodes w x (Seq a b) arena is i j at in
-      search (rules, first_stop (HasSpan nodes w a.index i) (λ k. HasSpan nodes w b.index k j) M i p f.0 (Matches-forward (tree_at nodes a.index) w i f.0 f.1) f.1 f.2 low shows more over)
+      grind (arith, open_at nodes w x (Seq a b) arena is i j at, first_stop (HasSpan nodes w a.index i) (λ k. HasSpan nodes w b.index k j) M i p, Matches-forward, low, shows, more, over)
 
   -- so a pass over a that goes on while they meet stops at the greatest cut
   pub stops_at_cut : (i p : ℕ) → HasSpan nodes w x i j → CeasesAt nodes w r (one_start j) a.index i p → LastCut (HasSpan nodes w a.index) (HasSpan nodes w b.index) i j p
@@ -161,10 +149,9 @@ module _ (nodes : List Node) (w : List ℕ) (r j x : ℕ) (a b : NodeId) (arena 
 module _ (nodes : List Node) (w : List ℕ) (r j x : ℕ) (a : NodeId) (first : Bool) (arena : IsArena nodes) (last : IsLastIn nodes r x) (is : slice_get nodes x ≡ Some (Star a first)) where
   -- a copy is left exactly where copies lead on to the end
   pub copy_leaves : (k : ℕ) → CanLeave nodes w r (one_start j) a.index k ↔ CopiesLead (HasSpan nodes w a.index) j k
-  copy_leaves k = (
-    λ l. grind (arith, last-leaves nodes w r (one_start j) arena x, CanLeave-part nodes w r (one_start j) arena x (last_inside nodes w r (one_start j) arena x last) a.index k (Star a first) is refl l, open_at nodes w x (Star a first) arena is k j),
-    λ copies. before_copies x a.index k j a first is refl (CanLeave-last nodes w r (one_start j) arena x j last (omega arith, omega arith)) (close_at nodes w x (Star a first) arena is k j copies),
-  )
+  copy_leaves k =
+      let out = CanLeave-part nodes w r (one_start j) arena x (last_inside nodes w r (one_start j) arena x last) a.index k (Star a first) is refl in
+      grind (arith, out, last-leaves nodes w r (one_start j) arena x, open_at nodes w x (Star a first) arena is k j, before_copies, CanLeave-last nodes w r (one_start j) arena x j last, close_at nodes w x (Star a first) arena is k j)
 
   -- a pass over a copy stops at the greatest end from which copies lead on
   pub stops_at_copy : (i p : ℕ) → HasSpan nodes w x i j → i < j → CeasesAt nodes w r (one_start j) a.index i p → NextCopy (HasSpan nodes w a.index) i j p
@@ -184,9 +171,7 @@ run_copies : (nodes : List Node) (w : List ℕ) (r c : ℕ) (t : Starts) (member
     (n i q : ℕ) → q ≡ i + n → ((l : ℕ) → i ≤ l → l < q → ReachesEnd nodes w r t c l) → CopiesLead (HasSpan nodes w c) q i
 run_copies nodes w r c t members arena is zero i q sum marked = search (rules, no_copy)
 run_copies nodes w r c t members arena is (suc n) i q sum marked =
-    let here = marked (i + n) (omega arith) (omega arith) in
-    let same : here.0 ≡ q = omega (arith, (open_at nodes w c (Set members) arena is (i + n) here.0 here.1).3) in
-    search (rules, CopiesLead-append (HasSpan nodes w c) (i + n) i q, run_copies nodes w r c t members arena is n i (i + n), marked, same, here)
+    grind (arith, marked (i + n), open_at nodes w c (Set members) arena is (i + n), CopiesLead-append (HasSpan nodes w c) (i + n) i q, run_copies nodes w r c t members arena is n i (i + n), marked)
 
 -- the repetition in a run: it is entered, left and spanned as the run is
 module _ (nodes : List Node) (w : List ℕ) (r : ℕ) (t : Starts) (root : ℕ) (s : Starts) (c : ℕ) (arena : IsArena nodes) where

@@ -29,10 +29,9 @@ returns-clause-there c = (coded c.offset_of-2.result c.intern-code.ensures.codes
 pub returns-clause-at : goal.returns-clause-at
 returns-clause-at c =
     let m = length c.args.subject.prepared.now.nodes in
-    let codes = c.intern-code.ensures.codes in
     let leaves = c.leaves_row-leaves.ensures in
     let ends = c.ends_row-ends.ensures in
     let copied = copied_rows m c.nodes-nodes.result _ _ c.copy.new.self c.copy-2.new.self _ _ c.nodes-nodes.ensures.value (λ e. omega (arith, e, leaves, ends)) c.copy.ensures.same c.copy-2.ensures.keeps c.copy-2.ensures.same in
     let edge = c.requires.edge (omega (arith, c.requires.place, c.if-place-self.false)) in
-    let has = (coded c.offset_of-2.result codes c.offset_of-2.ensures).1 in
-    (has.0, rw (codes.adds.shape.0, edge.0, has.1 ∙ ap (λ q. bits m (row_of c.copy-2.new.self q)) (sym leaves) ∙ copied.0, has.2 ∙ ap (λ q. bits m (row_of c.copy-2.new.self q)) (sym ends) ∙ copied.1) edge.1)
+    let has = (coded c.offset_of-2.result c.intern-code.ensures.codes c.offset_of-2.ensures).1 in
+    (has.0, rw (c.intern-code.ensures.codes.adds.shape.0, edge.0, has.1 ∙ ap (λ q. bits m (row_of c.copy-2.new.self q)) (sym leaves) ∙ copied.0, has.2 ∙ ap (λ q. bits m (row_of c.copy-2.new.self q)) (sym ends) ∙ copied.1) edge.1)

@@ -41,5 +41,4 @@ pub returns-clause-meets : goal.returns-clause-meets
 returns-clause-meets c a i low start follows =
     let old = c.loop-place.invariant in
     let at : c.loop-place.place ≡ c.args.self.now.region.to = omega (arith, old.order.1, c.loop-place-test.false) in
-    let on = old.meets a i low start follows in
-    (rw at at on.0, rw at at on.1, λ under met. absurd (omega arith))
+    search (rules, at, old.meets a i low start follows)
