@@ -2,7 +2,7 @@
 use Rattle.sedtext.proofs.Words.{◌&&◌, ◌+◌, ◌-◌, ◌<◌, ◌||◌, ◌↔◌, ◌≡◌, ◌≤◌, ◌⊎◌, and_from, and_parts, any, any_copies, arith, Bool, byte_of, Captures, cases_lt, cond_both, copies, CopiesLead, Decides-and}
 use Rattle.sedtext.proofs.Words.{Decides-below_or, Decides-eqb, Decides-or, either_of, eqb, first_copy, forget, found_from, greatest, greatest_cut, grouped, groups_after, is_some, IsLeftmostLongest, IsLongestFrom}
 use Rattle.sedtext.proofs.Words.{IsReport, IsTrue, last_start, LastCopy, LastCut, leftmost_longest, length, List, longest, ltb, ltb-true, Matches, nat_tests, no_copy, no_groups, None, none-some, NotFound, one_more}
-use Rattle.sedtext.proofs.Words.{one_or_none, only, Option, option_map, refl, reported_groups, same_from_decides, sequence, slice_get_within, Some, SomeFound, spans, SpansOfGroups, subst, suc, sym, then_copy, Tree, unwrap_or, zero, ℕ, ⊎_elim}
+use Rattle.sedtext.proofs.Words.{one_or_none, only, Option, option_map, refl, reported_groups, same_from_decides, sequence, slice_get_within, Some, SomeFound, spans, SpansOfGroups, suc, then_copy, Tree, unwrap_or, zero, ℕ}
 use Rattle.sedtext.proofs.SpanLemmas.{CopiesLead-forward, Matches-forward, Matches-within}
 use Rattle.sedtext.proofs.CapsLemmas.{Captures-unique}
 
@@ -33,10 +33,7 @@ module _ (step : ℕ → ℕ → Bool) (R : ℕ → ℕ → Type 0) (each : (i k
   copy-is b P i k on = grind (arith, nat_tests, each i k, on)
 
   copies-begin : (j i : ℕ) → CopiesLead R j i ↔ ((i ≡ j) ⊎ ((k : ℕ) × (k < j + 1) × ((i < k) × (R i k × CopiesLead R j k))))
-  copies-begin j i = (
-    λ at. grind (arith, CopiesLead-forward R j),
-    λ which. ⊎_elim (λ (e : i ≡ j). subst (CopiesLead R j) (sym e) no_copy) (λ more. one_more i more.0 more.2.0 more.2.1.0 more.2.1.1) which,
-  )
+  copies-begin j i = (λ at. grind (arith, CopiesLead-forward R j), λ which. grind (arith, no_copy, one_more))
 
   copies-iff : (n i j : ℕ) → j ≤ n + i → IsTrue (copies n step i j) ↔ CopiesLead R j i
   unfolding copies

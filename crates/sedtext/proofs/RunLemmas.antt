@@ -1,11 +1,7 @@
 -- Runs of bytes of a set.
-use Rattle.sedtext.proofs.Words.{◌≡◌, ◌≤◌, arith, Bool, byte_of, CopiesLead, IsRun, length, List, Matches, no_copy, one_more, SetRepeats, slice_get_within, ℕ}
+use Rattle.sedtext.proofs.Words.{◌≤◌, arith, Bool, byte_of, CopiesLead, IsRun, length, List, Matches, no_copy, one_more, SetRepeats, ℕ}
 use Rattle.sedtext.proofs.FixedRunLemmas.{repeated_in}
 use Rattle.sedtext.proofs.SpanLemmas.{CopiesLead-forward}
-
--- bytes of the set up to the text's end are a run
-pub run_ends : (members : List Bool) (v w : List ℕ) (from place : ℕ) → v ≡ w → place ≡ length v → SetRepeats members v from place → IsRun members w from (length v)
-run_ends members v w from place same end copies = grind (arith, slice_get_within)
 
 -- a run goes forward
 pub run_forward : (members : List Bool) (w : List ℕ) (i k : ℕ) → IsRun members w i k → i ≤ k
