@@ -1,5 +1,5 @@
 -- The tables by which all occurrences are found, and what the searches cost.
-use Rattle.sedmatch.proofs.Words.{rules, common_steps, ◌≡◌, [], ◌∷◌, ◌++◌, length-append, ℕ, ◌+◌, ◌-◌, ◌*◌, ◌<◌, ◌≤◌, ◌⊎◌, Bool, false, List, length, get_or, Option, Some, None, IfSome, IsTrue, refl, sym, ap, ◌∙◌, subst, arith, mul-le-mul_left, unwrap_or, slice_get, slice_set, if◌then◌else◌, gets, IfSome_then, slice_get_read, slice_get_within, WrittenExpression, expression_tree, CostsWithin, Takes, TakesAtLeast, if_occurs, OccursAfter, next_span, leftmost_longest, SameSpace, KeptRoom, ServesOn, owed_seeking, owed_after_search, search_cost, owed_behind, Seeking, Table, search_long, looks_later, looks_past, looks_to_end, searched_then, Occurrences, HasOwn, HasTable, IsReverseAny, IsReady, RoomAt, ServesFrom, AnswersNext, IsLook, SomeFound, TakesFirst, bytes_passed, inl, inr, least_since, owed, owed_after, owed_direct, owed_search, LiesOn, SpanAnswer, Tree, found-iff, nat_lt, not_found-iff, owed_falls, square, suc, zero}
+use Rattle.sedmatch.proofs.Words.{rules, common_steps, ◌≡◌, [], ◌∷◌, ◌++◌, length-append, ℕ, ◌+◌, ◌-◌, ◌*◌, ◌<◌, ◌≤◌, ◌⊎◌, Bool, false, List, length, get_or, Option, Some, None, IfSome, IsTrue, refl, sym, ap, ◌∙◌, subst, arith, mul-le-mul_left, unwrap_or, slice_get, slice_set, if◌then◌else◌, gets, IfSome_then, slice_get_read, slice_get_within, WrittenExpression, expression_tree, CanEndEarly, CostsWithin, Takes, TakesAtLeast, if_occurs, OccursAfter, next_span, leftmost_longest, SameSpace, KeptRoom, ServesOn, owed_seeking, owed_after_search, search_cost, owed_behind, Seeking, Table, search_long, looks_later, looks_past, looks_to_end, searched_then, Occurrences, HasOwn, HasTable, IsReverseAny, IsReady, RoomAt, ServesFrom, AnswersNext, IsLook, SomeFound, TakesFirst, bytes_passed, inl, inr, least_since, owed, owed_after, owed_direct, owed_search, LiesOn, SpanAnswer, Tree, found-iff, nat_lt, not_found-iff, owed_falls, square, suc, zero}
 use Rattle.sedmatch.proofs.RoomLemmas.{IsUsed, roomy}
 
 -- What is found.
@@ -8,9 +8,6 @@ use Rattle.sedmatch.proofs.RoomLemmas.{IsUsed, roomy}
 pub answer_found : (e : Tree) (w : List ℕ) (from : ℕ) (r : Option (ℕ × ℕ)) → from ≤ length w → SpanAnswer e w from r → r ≡ leftmost_longest e w from
 answer_found e w from r low is = grind (arith, common_steps, not_found-iff, found-iff)
 
-pub answer_lies : (e : Tree) (w : List ℕ) (from : ℕ) (r : Option (ℕ × ℕ)) → SpanAnswer e w from r → IfSome r (λ f. (from ≤ f.0) × (f.0 ≤ f.1) × (f.1 ≤ length w))
-answer_lies e w from r is = grind arith
-
 -- one byte further on, where the text goes on, and where it doesn't
 pub further_found : (n at : ℕ) (x : Option (ℕ × ℕ)) → at < n → x ≡ (if nat_lt at n then x else None)
 further_found n at x on = search rules
@@ -18,8 +15,8 @@ further_found n at x on = search rules
 pub further_none : (n at : ℕ) (x : Option (ℕ × ℕ)) → n ≤ at → None ≡ (if nat_lt at n then x else None)
 further_none n at x end = search rules
 
-pub lies_behind : (n at : ℕ) (r : Option (ℕ × ℕ)) → IfSome r (λ f. (at ≤ f.0) × (f.0 ≤ f.1) × (f.1 ≤ n)) → IfSome r (λ f. at ≤ f.0 → f.0 ≤ f.1 → at < f.1) → IfSome r (LiesOn n (Some at))
-lies_behind n at r lies after = grind arith
+pub lies_behind : (e : Tree) (w : List ℕ) (at : ℕ) (r : Option (ℕ × ℕ)) → SpanAnswer e w at r → IfSome r (λ f. at ≤ f.0 → f.0 ≤ f.1 → at < f.1) → IfSome r (LiesOn (length w) (Some at))
+lies_behind e w at r is after = grind arith
 
 pub lies_further : (e : Tree) (w : List ℕ) (at : ℕ) (r : Option (ℕ × ℕ)) → SpanAnswer e w (at + 1) r → IfSome r (LiesOn (length w) (Some at))
 lies_further e w at r is = grind arith
@@ -40,8 +37,7 @@ behind_paid m n at old new s t (Some f) low lies pays = (pays.0, omega (arith, p
 pub both_paid : (m n at : ℕ) (old mid new : Seeking) (s u t : ℕ) (first r : Option (ℕ × ℕ)) → first ≡ Some (at, at) → CostsWithin s u (owed_seeking m n old at + 43 * m) (owed_after_search (owed_seeking m n mid) first) →
     CostsWithin u t (owed_seeking m n mid (at + 1) + 43 * m) (owed_after_search (owed_seeking m n new) r) → CostsWithin s t (owed_seeking m n old at + 86 * m) (owed_after_search (owed_seeking m n new) r)
 both_paid m n at old mid new s u t first r is one two =
-    let falls = search_falls m n mid at (at + 1) (omega arith) in
-    let one = rw is at one in (omega (arith, one.0, two.0), omega (arith, falls, one.1, two.1))
+    grind (arith, search_falls m n mid at (at + 1))
 
 pub one_square : (m n at : ℕ) → 1 ≤ m → search_cost m n at ≤ 64 * m * m * (n + 1) * (n + 1)
 one_square m n at some = omega (arith, search_long m n at, mul-le-mul_left m (square n), mul-le-mul_left (m * (64 * (n + 1) * (n + 1))) some)
@@ -104,9 +100,8 @@ one_more es n own own' e o are inside here reverse_any push = record {
 
 pub first_paid : (m n start : ℕ) (old new : Seeking) (s a t : ℕ) (r : Option (ℕ × ℕ)) → CostsWithin s a n 0 → CostsWithin a t (owed_seeking m n old start + 43 * m) (owed_after_search (owed_seeking m n new) r) →
     CostsWithin s t (owed_search m n None old) (owed_after_search (owed_behind m n new) r)
-first_paid m n start old new s a t None looks pays = (omega (arith, looks.0, pays.0), omega (arith, search_falls m n old 0 start (omega arith), looks.1, pays.1))
-first_paid m n start old new s a t (Some f) looks pays =
-    (omega (arith, looks.0, pays.0), omega (arith, search_falls m n old 0 start (omega arith), looks.1, pays.1, mul-le-mul_left {m = n + 1 - f.1} {n = n + 1 - 0} (86 * m) (omega arith)))
+first_paid m n start old new s a t None looks pays = grind (arith, search_falls m n old 0 start)
+first_paid m n start old new s a t (Some f) looks pays = grind (arith, search_falls m n old 0 start, mul-le-mul_left {m = n + 1 - f.1} {n = n + 1 - 0} (86 * m) (omega arith))
 
 pays : (m n k : ℕ) → k ≤ 64 * (m * (n + 1)) → k * m * (n + 1) ≤ 64 * m * m * (n + 1) * (n + 1)
 pays m n k enough = omega (arith, mul-le-mul_left (m * (n + 1)) enough)
@@ -133,7 +128,7 @@ pub none_shown : (e : WrittenExpression) (w : List ℕ) (last : Option ℕ) (o :
 none_shown e w last o s t some (is, none) look =
     let m = length e.nodes in
     let n = length w in
-    let cost : Takes s t (43 * m * (n + 1)) = elim look [ inl l ↦ l.2 | inr same ↦ (omega (arith, same), omega (arith, same)) ] in
+    let cost : Takes s t (43 * m * (n + 1)) = grind (arith, look) in
     let paid = pays m n 43 (omega (arith, mul-le-mul_left (n + 1) some)) in
     let next = answer_found (expression_tree e) w 0 None (omega arith) (tt, λ i k low inside is. none (i, k, low, inside, is), tt) in
     rw is (search (rules, next, cost, paid))
@@ -144,15 +139,9 @@ pub after_look : (e : WrittenExpression) (w : List ℕ) (last : Option ℕ) (old
 after_look e w last old new r s a t some (inr same) first answers = rw (← same) answers
 after_look e w last old new r s a t some (inl look) first answers =
     let paid = looked_first (length e.nodes) (length w) old new s a t r some look.1 look.2 (first look.0) in
-    record {
-      next = answers.next;
-      occurs = answers.occurs;
-      serves = answers.serves;
-      cost = rw look.0 paid.0;
-      once = paid.1;
-      counts = IfSome_then r answers.counts (λ f h. least_since s a t (f.1 - f.0) look.2.0 h);
-      passes = λ early. IfSome_then r (answers.passes early) (λ f h. least_since s a t (bytes_passed last f) look.2.0 h);
-    }
+    let since = λ (x : ℕ). least_since s a t x look.2.0 in
+    let counts = IfSome_then r answers.counts (λ (f : ℕ × ℕ). since (f.1 - f.0)) in
+    rw look.0 (search (rules, answers, paid, counts, λ (early : CanEndEarly (expression_tree e)). IfSome_then r (answers.passes early) (λ (f : ℕ × ℕ). since (bytes_passed last f))))
 
 -- what a search by passes answers
 pub shows : (e : WrittenExpression) (w : List ℕ) (last : Option ℕ) (old mid new : Occurrences) (r : Option (ℕ × ℕ)) (s t : ℕ) → 1 ≤ length e.nodes → ServesFrom e w last old → IsReady e w old mid → IsReady e w mid new →
@@ -171,4 +160,4 @@ shows e w last old mid new r s t some serves ready searched same begun used next
     search (rules, next, occurs, serves', cost.0, cost', once, counts)
 
 -- what decides the next occurrence
-pub ruleset nexts = (answer_found, answer_lies, both_square, further_found, further_none, if_occurs, lies_behind, lies_further, looks_later, looks_past, looks_to_end, one_square, searched_then)
+pub ruleset nexts = (answer_found, both_square, further_found, further_none, if_occurs, lies_behind, lies_further, looks_later, looks_past, looks_to_end, one_square, searched_then)

@@ -1,5 +1,4 @@
-use Rattle.sedmatch.proofs.Words.{ℕ, ◌+◌, ◌-◌, ◌*◌, ◌≤◌, ◌↔◌, List, length, Bool, Some, IsTrue, arith, mul-le-mul_left, cases_lt, WrittenExpression, expression_tree, Takes, TakesAtLeast, CostsWithin, LooksPast, SomeFound, Narrowed, AnswersMatch, passes_later}
-use Rattle.sedmatch.proofs.Words.{refl, space_same}
+use Rattle.sedmatch.proofs.Words.{ℕ, ◌+◌, ◌-◌, ◌*◌, ◌≤◌, ◌↔◌, List, length, Bool, Some, IsTrue, arith, mul-le-mul_left, cases_lt, WrittenExpression, expression_tree, Takes, TakesAtLeast, CostsWithin, LooksPast, SomeFound, Narrowed, AnswersMatch, passes_later, refl, space_same}
 use Rattle.sedmatch.proofs.RoomLemmas.{desk_still, unused, used_so}
 use Rattle.sedmatch.proofs.passes.matches_by.Goals as goal
 

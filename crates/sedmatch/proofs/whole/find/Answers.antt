@@ -33,10 +33,9 @@ searched_desk c =
     let new = c.next_kept.new in
     let next = c.next_kept.ensures in
     let shapes = next.tables in
-    let desk = desk_still p d (record d { room = record d.room { kept = new.kept }; reverse_any = new.reverse_any; shared = record d.shared { forward_one = new.forward_one } }) c.scratch.invariant.0 refl refl
+    (desk_still p d (record d { room = record d.room { kept = new.kept }; reverse_any = new.reverse_any; shared = record d.shared { forward_one = new.forward_one } }) c.scratch.invariant.0 refl refl
     (space_then _ _ _ c.begin.ensures.space shapes.space) c.scratch.invariant.0.space.none (omega arith) (used p d.reverse_any c.fit-3.new.self new.reverse_any c.fit-3.ensures.room shapes.reverse_any_shape next.next.kept.region.table)
-    (unused p d.shared.forward_any) (unused p d.shared.reverse_one) (used p d.shared.forward_one c.fit-2.new.self new.forward_one c.fit-2.ensures.room shapes.forward_one_shape shapes.forward_one.table) (unused p d.shared.forward_part) in
-    desk.0
+    (unused p d.shared.forward_any) (unused p d.shared.reverse_one) (used p d.shared.forward_one c.fit-2.new.self new.forward_one c.fit-2.ensures.room shapes.forward_one_shape shapes.forward_one.table) (unused p d.shared.forward_part)).0
 
 pub shared_groups-groups-requires-clause-desk : goal.shared_groups-groups-requires-clause-desk
 shared_groups-groups-requires-clause-desk c = (searched_desk (goal.at.shared_groups-groups-requires-clause-desk c).After-next_kept, search rules, rw c.of.ensures.is (search rules))

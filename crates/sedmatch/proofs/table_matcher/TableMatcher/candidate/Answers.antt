@@ -22,8 +22,7 @@ module _ (before line behind : List ℕ) where
 shown_before : (P : List ℕ → ℕ → Type 0) (e : Tree) (w : List ℕ) (r : Option ℕ) → ((before line behind : List ℕ) (i : ℕ) → P line i → P (before ++ (line ++ behind)) (length before + i)) →
     ((v : List ℕ) (i j : ℕ) → i ≤ length v → Matches e v i j → (k : ℕ) × (k ≤ length v) × P v k) → FirstFrom (P w) 0 r → NoMatchBefore e w r
 shown_before P e w r there all none before line behind is ends found =
-    let here = all line found.0 found.1 found.3 found.4 in
-    grind (arith, is, none, ends, here, there before line behind here.0)
+    grind (arith, is, none, ends, all line found.0 found.1 found.3 found.4, there before line behind)
 
 pub returns-in-Stretch-clause-before : goal.returns-in-Stretch-clause-before
 returns-in-Stretch-clause-before c =
