@@ -1,6 +1,7 @@
 -- The tables by which all occurrences are found, and what the searches cost.
 use Rattle.sedmatch.proofs.Words.{rules, common_steps, ◌≡◌, [], ◌∷◌, ◌++◌, length-append, ℕ, ◌+◌, ◌-◌, ◌*◌, ◌<◌, ◌≤◌, ◌⊎◌, Bool, false, List, length, get_or, Option, Some, None, IfSome, IsTrue, refl, sym, ap, ◌∙◌, subst, arith, mul-le-mul_left, unwrap_or, slice_get, slice_set, if◌then◌else◌, gets, IfSome_then, slice_get_read, slice_get_within, WrittenExpression, expression_tree, CanEndEarly, CostsWithin, Takes, TakesAtLeast, if_occurs, OccursAfter, next_span, leftmost_longest, SameSpace, KeptRoom, ServesOn, owed_seeking, owed_after_search, search_cost, owed_behind, Seeking, Table, search_long, looks_later, looks_past, looks_to_end, searched_then, Occurrences, HasOwn, HasTable, IsReverseAny, IsReady, RoomAt, ServesFrom, AnswersNext, IsLook, SomeFound, TakesFirst, bytes_passed, inl, inr, least_since, owed, owed_after, owed_direct, owed_search, LiesOn, SpanAnswer, Tree, found-iff, nat_lt, not_found-iff, owed_falls, square, suc, zero}
-use Rattle.sedmatch.proofs.RoomLemmas.{IsUsed, roomy}
+use Rattle.sedmatch.proofs.RoomLemmas.{IsUsed, roomy, unused}
+use Rattle.sedpass.specs.Search.{SearchServes}
 
 -- What is found.
 
@@ -70,20 +71,21 @@ due_enough : (m n : ℕ) (last : Option ℕ) (old mid : Occurrences) → 1 ≤ m
     (IsTrue old.is_fresh → owed_behind m n mid.seeking 0 + 43 * m ≤ 308 * m * (n + 1)) → owed_search m n last mid.seeking ≤ owed m n last old
 due_enough m n None old mid some fresh same begun = omega (arith, begun (fresh refl), mul-le-mul_left (n + 1) some)
 due_enough m n (Some q) old mid some fresh same begun =
-    let rest : n + 1 - q ≤ n + 1 - 0 = omega arith in
-    grind (arith, search_falls m n mid.seeking 0 q, mul-le-mul_left (86 * m) rest, owed_as m n q old)
-
--- its own table, where it is in use
-pub own_is : (e : WrittenExpression) (w : List ℕ) (o : Occurrences) → HasTable e w o → IsTrue o.by_own → (v u : Option Table) → v ≡ get_or o.own.items o.number v → v ≡ u → slice_get o.own.items o.number ≡ Some u
-own_is e w o has by v u at is = grind (arith, common_steps, gets, has.own by)
-
-pub set_there : (own : List (Option Table)) (n : ℕ) (u v : Option Table) → slice_get own n ≡ Some u → slice_get (slice_set own n v) n ≡ Some v
-set_there own n u v is = grind (arith, common_steps, gets, slice_get_within)
+    grind (arith, search_falls m n mid.seeking 0 q, mul-le-mul_left {m = n + 1 - q} {n = n + 1 - 0} (86 * m) (omega arith), owed_as m n q old)
 
 -- a table of the list, after one was set for the expression, is an old one, or that
-pub own_set : (e : WrittenExpression) (own : List (Option Table)) (n : ℕ) (t : Table) → IsReverseAny e t → (x : ℕ) (u : Table) → slice_get (slice_set own n (Some t)) x ≡ Some (Some u) →
+own_set : (e : WrittenExpression) (own : List (Option Table)) (n : ℕ) (t : Table) → IsReverseAny e t → (x : ℕ) (u : Table) → slice_get (slice_set own n (Some t)) x ≡ Some (Some u) →
     (slice_get own x ≡ Some (Some u)) ⊎ ((x ≡ n) × IsReverseAny e u)
 own_set e own n t reverse_any x u is = grind (arith, common_steps, gets)
+
+-- its own table, in use, served and was set again
+pub own_ready : (e : WrittenExpression) (w : List ℕ) (o new : Occurrences) (t u : Table) (v : Option Table) → RoomAt (length w) o.number e o → HasTable e w o → IsTrue o.by_own → v ≡ get_or o.own.items o.number v → v ≡ Some t →
+    u.way ≡ t.way → SearchServes e w u new.seeking → SameSpace o.seeking.kept new.seeking.kept →
+    (new.number ≡ o.number) × (new.shared ≡ o.shared) × (new.by_own ≡ o.by_own) × (new.own.items ≡ slice_set o.own.items o.number (Some u)) → IsReady e w o new
+own_ready e w o new t u v at has by here is way serves space same =
+    let there : slice_get o.own.items o.number ≡ Some (Some t) = grind (arith, common_steps, gets, has.own by) in
+    let set : slice_get new.own.items new.number ≡ Some (Some u) = grind (arith, common_steps, gets, slice_get_within, same) in
+    still_ready e w o new same.0 space (rw same.1 (unused e o.shared)) (rw same.3 (own_set e o.own.items o.number u (way ∙ (at.own t there).0, serves.kept.region.table))) at (record { own = λ h. (u, set, serves); shared = λ h. cc })
 
 -- the tables of the first n of these expressions
 pub record AreFirst (es : List WrittenExpression) (n : ℕ) (own : List (Option Table)) : Type 0 where
@@ -129,9 +131,8 @@ none_shown e w last o s t some (is, none) look =
     let m = length e.nodes in
     let n = length w in
     let cost : Takes s t (43 * m * (n + 1)) = grind (arith, look) in
-    let paid = pays m n 43 (omega (arith, mul-le-mul_left (n + 1) some)) in
     let next = answer_found (expression_tree e) w 0 None (omega arith) (tt, λ i k low inside is. none (i, k, low, inside, is), tt) in
-    rw is (search (rules, next, cost, paid))
+    rw is (search (rules, next, cost, pays m n 43 (omega (arith, mul-le-mul_left (n + 1) some))))
 
 -- the first search came after it
 pub after_look : (e : WrittenExpression) (w : List ℕ) (last : Option ℕ) (old new : Occurrences) (r : Option (ℕ × ℕ)) (s a t : ℕ) → 1 ≤ length e.nodes → IsLook (length e.nodes) (length w) last s a →

@@ -26,5 +26,4 @@ pub desk_still : (p : WrittenExpression) (a b : Desk) → IsDesk a → b.max_tex
     IsUsed p a.reverse_any b.reverse_any → IsUsed p a.shared.forward_any b.shared.forward_any → IsUsed p a.shared.reverse_one b.shared.reverse_one → IsUsed p a.shared.forward_one b.shared.forward_one → IsUsed p a.shared.forward_part b.shared.forward_part →
     KeepsDesk a b
 desk_still p a b is text nodes space none tasks any one two three four =
-    let space' = space_again a.max_text (a.max_text / (a.shared.reverse_one.room - 1) + 1) a.max_nodes a.room b.room is.space space none tasks in
-    rw (text, nodes) (search (rules, is, any, one, two, three, four, roomy a.max_nodes p, rw (← two.0.1) at space', space.edges))
+    rw (text, nodes) (search (rules, is, any, one, two, three, four, roomy a.max_nodes p, rw (← two.0.1) at (space_again a.max_text _ a.max_nodes a.room b.room is.space space none tasks), space.edges))

@@ -12,7 +12,7 @@ module _ (m n p s t u : ℕ) (ready : Takes s t m) (sought : Takes t u (142 * m 
   bare_cost : StepsWithin s u (64 * m * (n + 1) * (n + 1)) × StepsWithin s u (143 * m * (n + 1))
   bare_cost = (omega (arith, most, mul-le-mul_left m (square n)), omega (arith, most))
 
-  none_cost : (k : ℕ) → Takes s u (64 * m * m * (n + 1) * (n + 1)) × StepsWithin s u (172 * m * (k + 1) * (n + 1))
+  none_cost : (k : ℕ) → Takes s u (64 * m * m * (n + 1) * (n + 1)) × StepsWithin s u (172 * m * (k + 1) * (n + 1)) × StepsWithin s u (64 * m * (n + 1) * (n + 1)) × StepsWithin s u (143 * m * (n + 1))
   none_cost k = grind (arith, bare_cost, mul-le-mul_right (64 * (n + 1) * (n + 1)) (square m))
 
   -- and its groups, of such a depth, for a match of l bytes
@@ -49,11 +49,9 @@ invariant_of-scratch-2 c = let desk = c.shared_groups-groups.ensures.desk in (de
 pub returns-in_err-span : goal.returns-in_err-span
 returns-in_err-span c =
     let sought = rw c.of.ensures.is at c.next_kept.ensures.each in
-    let bare = bare_cost _ _ _ _ _ _ c.fit.ensures.cost sought in
     let cost = none_cost _ _ _ _ _ _ c.fit.ensures.cost sought (group_depth (expression_tree c.args.expr.now)) in
-    let none : c.from_residual.result ≡ None = cc in
     let answer = rw (c.of.ensures.is, c.in_err-span.was) at c.next_kept.ensures.next.answer in
-    rw none (search (rules, bare, cost, sym ((not_found-iff (expression_tree c.args.expr.now) c.args.text.now c.args.from c.requires.from).1 answer.1)))
+    rw c.from_residual.ensures (search (rules, cost, sym ((not_found-iff (expression_tree c.args.expr.now) c.args.text.now c.args.from c.requires.from).1 answer.1)))
 
 pub returns : goal.returns
 returns c =
