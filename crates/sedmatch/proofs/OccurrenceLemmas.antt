@@ -37,8 +37,7 @@ behind_paid m n at old new s t (Some f) low lies pays = (pays.0, omega (arith, p
 -- two searches, of which the first one found the null string at the place
 pub both_paid : (m n at : ℕ) (old mid new : Seeking) (s u t : ℕ) (first r : Option (ℕ × ℕ)) → first ≡ Some (at, at) → CostsWithin s u (owed_seeking m n old at + 43 * m) (owed_after_search (owed_seeking m n mid) first) →
     CostsWithin u t (owed_seeking m n mid (at + 1) + 43 * m) (owed_after_search (owed_seeking m n new) r) → CostsWithin s t (owed_seeking m n old at + 86 * m) (owed_after_search (owed_seeking m n new) r)
-both_paid m n at old mid new s u t first r is one two =
-    grind (arith, search_falls m n mid at (at + 1))
+both_paid m n at old mid new s u t first r is one two = grind (arith, search_falls m n mid at (at + 1))
 
 pub one_square : (m n at : ℕ) → 1 ≤ m → search_cost m n at ≤ 64 * m * m * (n + 1) * (n + 1)
 one_square m n at some = omega (arith, search_long m n at, mul-le-mul_left m (square n), mul-le-mul_left (m * (64 * (n + 1) * (n + 1))) some)
@@ -70,13 +69,7 @@ owed_as m n q o b is = ap (λ (v : Bool). if v then 372 * m * (n + 1) + owed_dir
 due_enough : (m n : ℕ) (last : Option ℕ) (old mid : Occurrences) → 1 ≤ m → (last ≡ None → IsTrue old.is_fresh) → (old.is_fresh ≡ false → mid ≡ old) →
     (IsTrue old.is_fresh → owed_behind m n mid.seeking 0 + 43 * m ≤ 308 * m * (n + 1)) → owed_search m n last mid.seeking ≤ owed m n last old
 due_enough m n None old mid some fresh same begun = omega (arith, begun (fresh refl), mul-le-mul_left (n + 1) some)
-due_enough m n (Some q) old mid some fresh same begun =
-    grind (arith, search_falls m n mid.seeking 0 q, mul-le-mul_left {m = n + 1 - q} {n = n + 1 - 0} (86 * m) (omega arith), owed_as m n q old)
-
--- a table of the list, after one was set for the expression, is an old one, or that
-own_set : (e : WrittenExpression) (own : List (Option Table)) (n : ℕ) (t : Table) → IsReverseAny e t → (x : ℕ) (u : Table) → slice_get (slice_set own n (Some t)) x ≡ Some (Some u) →
-    (slice_get own x ≡ Some (Some u)) ⊎ ((x ≡ n) × IsReverseAny e u)
-own_set e own n t reverse_any x u is = grind (arith, common_steps, gets)
+due_enough m n (Some q) old mid some fresh same begun = grind (arith, search_falls m n mid.seeking 0 q, mul-le-mul_left {m = n + 1 - q} {n = n + 1 - 0} (86 * m) (omega arith), owed_as m n q old)
 
 -- its own table, in use, served and was set again
 pub own_ready : (e : WrittenExpression) (w : List ℕ) (o new : Occurrences) (t u : Table) (v : Option Table) → RoomAt (length w) o.number e o → HasTable e w o → IsTrue o.by_own → v ≡ get_or o.own.items o.number v → v ≡ Some t →
@@ -85,7 +78,9 @@ pub own_ready : (e : WrittenExpression) (w : List ℕ) (o new : Occurrences) (t 
 own_ready e w o new t u v at has by here is way serves space same =
     let there : slice_get o.own.items o.number ≡ Some (Some t) = grind (arith, common_steps, gets, has.own by) in
     let set : slice_get new.own.items new.number ≡ Some (Some u) = grind (arith, common_steps, gets, slice_get_within, same) in
-    still_ready e w o new same.0 space (rw same.1 (unused e o.shared)) (rw same.3 (own_set e o.own.items o.number u (way ∙ (at.own t there).0, serves.kept.region.table))) at (record { own = λ h. (u, set, serves); shared = λ h. cc })
+    let any : IsReverseAny e u = (way ∙ (at.own t there).0, serves.kept.region.table) in
+    let own : (x : ℕ) (y : Table) → slice_get new.own.items x ≡ Some (Some y) → (slice_get o.own.items x ≡ Some (Some y)) ⊎ ((x ≡ o.number) × IsReverseAny e y) = rw same.3 (λ x y is. grind (arith, common_steps, gets, any)) in
+    still_ready e w o new same.0 space (rw same.1 (unused e o.shared)) own at (record { own = λ h. (u, set, serves); shared = λ h. cc })
 
 -- the tables of the first n of these expressions
 pub record AreFirst (es : List WrittenExpression) (n : ℕ) (own : List (Option Table)) : Type 0 where

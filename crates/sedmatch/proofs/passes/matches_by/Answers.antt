@@ -11,12 +11,12 @@ shown_past e w from start s t u answered some is looks counts shows over cost = 
 pub returns-in-Some-own-clause-answered : goal.returns-in-Some-own-clause-answered
 returns-in-Some-own-clause-answered c =
     let done = rw c.of.ensures.is at c.matches_with.ensures in
-    shown_past _ _ _ c.in-Some.start _ _ _ _ c.of.ensures.expr.arena.nonempty (c.in-Some.ensures.narrowed (expression_tree c.args.expr.now) (rw c.of.ensures.is at c.hints.ensures)) c.in-Some.ensures.cost c.in-Some.ensures.counts done.matches done.passes done.cost
+    shown_past c.args.expr.now _ _ c.in-Some.start _ _ _ _ c.of.ensures.expr.arena.nonempty (c.in-Some.ensures.narrowed _ (rw c.of.ensures.is at c.hints.ensures)) c.in-Some.ensures.cost c.in-Some.ensures.counts done.matches done.passes done.cost
 
 pub returns-clause-answered : goal.returns-clause-answered
 returns-clause-answered c =
     let done = rw c.of.ensures.is at c.matches_with-2.ensures in
-    shown_past _ _ _ c.in-Some.start _ _ _ _ c.of.ensures.expr.arena.nonempty (c.in-Some.ensures.narrowed (expression_tree c.args.expr.now) (rw c.of.ensures.is at c.hints.ensures)) c.in-Some.ensures.cost c.in-Some.ensures.counts done.matches done.passes done.cost
+    shown_past c.args.expr.now _ _ c.in-Some.start _ _ _ _ c.of.ensures.expr.arena.nonempty (c.in-Some.ensures.narrowed _ (rw c.of.ensures.is at c.hints.ensures)) c.in-Some.ensures.cost c.in-Some.ensures.counts done.matches done.passes done.cost
 
 pub returns-clause-desk : goal.returns-clause-desk
 returns-clause-desk c =

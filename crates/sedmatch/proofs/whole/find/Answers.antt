@@ -48,8 +48,7 @@ invariant_of-scratch-2 c = let desk = c.shared_groups-groups.ensures.desk in (de
 
 pub returns-in_err-span : goal.returns-in_err-span
 returns-in_err-span c =
-    let sought = rw c.of.ensures.is at c.next_kept.ensures.each in
-    let cost = none_cost _ _ _ _ _ _ c.fit.ensures.cost sought (group_depth (expression_tree c.args.expr.now)) in
+    let cost = none_cost _ _ _ _ _ _ c.fit.ensures.cost (rw c.of.ensures.is at c.next_kept.ensures.each) (group_depth (expression_tree c.args.expr.now)) in
     let answer = rw (c.of.ensures.is, c.in_err-span.was) at c.next_kept.ensures.next.answer in
     rw c.from_residual.ensures (search (rules, cost, sym ((not_found-iff (expression_tree c.args.expr.now) c.args.text.now c.args.from c.requires.from).1 answer.1)))
 
