@@ -1,5 +1,5 @@
 -- Room to search, after other searches in it.
-use Rattle.sedmatch.proofs.Words.{rules, ◌≡◌, ℕ, ◌+◌, ◌-◌, ◌/◌, ◌≤◌, ◌⊎◌, ◌∙◌, List, [], arith, inl, inr, refl, vec_capacity, WrittenExpression, SameSpace, IsRoomy, IsTable, SameRoom, SameShape, Table, space_again, roomy_still, RoomFor, IsDesk, KeepsDesk, Occurrences, Desk}
+use Rattle.sedmatch.proofs.Words.{rules, ◌≡◌, ℕ, ◌≤◌, ◌⊎◌, ◌∙◌, List, [], arith, inl, inr, refl, vec_capacity, WrittenExpression, SameSpace, IsRoomy, IsTable, SameRoom, SameShape, Table, space_again, roomy_still, RoomFor, IsDesk, KeepsDesk, Occurrences, Desk}
 
 -- room for longer texts is room for shorter ones
 pub room_within : (text more : ℕ) (es : List WrittenExpression) (o : Occurrences) → text ≤ more → RoomFor more es o → RoomFor text es o

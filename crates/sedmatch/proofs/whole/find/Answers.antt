@@ -1,4 +1,4 @@
-use Rattle.sedmatch.proofs.Words.{◌≡◌, refl, ℕ, ◌+◌, ◌-◌, ◌*◌, ◌≤◌, None, length, rules, sym, arith, mul-le-mul_left, mul-le-mul_right, StepsWithin, Takes, expression_tree, least_less, least_since, least_up, found-iff, not_found-iff, report-iff, report_lies, space_then, enters_later, square, group_depth}
+use Rattle.sedmatch.proofs.Words.{refl, ℕ, ◌+◌, ◌-◌, ◌*◌, ◌≤◌, length, rules, sym, arith, mul-le-mul_left, mul-le-mul_right, StepsWithin, Takes, expression_tree, least_less, least_since, least_up, found-iff, not_found-iff, report-iff, report_lies, space_then, enters_later, square, group_depth}
 use Rattle.sedmatch.proofs.RoomLemmas.{desk_still, unused, used}
 use Rattle.sedmatch.specs.Passes.{IsDesk}
 use Rattle.sedmatch.proofs.whole.find.Goals.{After-next_kept}

@@ -1,4 +1,4 @@
-use Rattle.sedmatch.proofs.Words.{◌≡◌, ℕ, ◌+◌, ◌≤◌, Bool, List, Option, Some, arith, ◌++◌, length, length-append, rules, Tree, expression_tree, slice_get, get_or-append-add, get_or_append_left, slice_get_within, slice_get-get_or, get_or_from_slice_get, OccursAt, Matches, FirstFrom, PassesSieve, Sieve, NoMatchBefore, ComesFirst, IsAnalysis}
+use Rattle.sedmatch.proofs.Words.{◌≡◌, ℕ, ◌+◌, ◌≤◌, List, Option, Some, arith, ◌++◌, length, length-append, rules, Tree, expression_tree, slice_get, get_or-append-add, get_or_append_left, slice_get_within, slice_get-get_or, get_or_from_slice_get, OccursAt, Matches, FirstFrom, PassesSieve, NoMatchBefore, ComesFirst, IsAnalysis}
 use Rattle.sedmatch.proofs.table_matcher.TableMatcher.candidate.Goals as goal
 
 -- A part of a text.

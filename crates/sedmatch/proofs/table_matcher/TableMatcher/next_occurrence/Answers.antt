@@ -1,4 +1,4 @@
-use Rattle.sedmatch.proofs.Words.{ServesOn, ◌≡◌, ◌∙◌, ℕ, ◌+◌, ◌-◌, ◌*◌, ◌≤◌, Option, Some, None, IfSome, IsTrue, ap, arith, mul-add, rules, mul-le-mul_right, Takes, CostsWithin, expression_tree, LiesOn, owed, owed_after, owed_direct, AnswersNext, Occurrences, owed_after_search, if_occurs}
+use Rattle.sedmatch.proofs.Words.{ServesOn, ◌≡◌, ℕ, ◌+◌, ◌-◌, ◌*◌, ◌≤◌, Option, Some, None, IfSome, IsTrue, arith, mul-add, rules, mul-le-mul_right, Takes, CostsWithin, expression_tree, LiesOn, owed, owed_after, owed_direct, AnswersNext, Occurrences, owed_after_search, if_occurs}
 use Rattle.sedmatch.proofs.OccurrenceLemmas.{search_falls, owed_as}
 use Rattle.sedmatch.proofs.table_matcher.TableMatcher.next_occurrence.Goals as goal
 
