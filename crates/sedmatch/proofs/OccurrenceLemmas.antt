@@ -1,15 +1,13 @@
 -- The tables by which all occurrences are found, and what the searches cost.
-use Rattle.sedmatch.proofs.Words.{rules, common_steps, ◌≡◌, [], ◌∷◌, ◌++◌, length-append, ℕ, ◌+◌, ◌-◌, ◌*◌, ◌<◌, ◌≤◌, ◌⊎◌, Bool, false, List, length, get_or, Option, Some, None, IfSome, IsTrue, refl, sym, ap, ◌∙◌, subst, arith, mul-le-mul_left, unwrap_or, slice_get, slice_set, if◌then◌else◌, gets, IfSome_then, slice_get_read, slice_get_within, WrittenExpression, expression_tree, CostsWithin, Takes, TakesAtLeast, if_occurs, OccursAfter, next_span, leftmost_longest, SameSpace, KeptRoom, ServesOn, owed_seeking, owed_after_search, search_cost, owed_behind, Seeking, Table, search_long, looks_later, looks_past, looks_to_end, searched_then, Occurrences, HasOwn, HasTable, IsReverseAny, IsReady, RoomAt, ServesFrom, AnswersNext, IsLook, SomeFound, TakesFirst, bytes_passed, inl, inr, least_since, owed, owed_after, owed_direct, owed_search, LiesOn, SpanAnswer, Tree, found-iff, nat_lt, not_found-iff, owed_falls, square, suc, zero}
-use Rattle.sedmatch.proofs.RoomLemmas.{IsUsed, roomy}
+use Rattle.sedmatch.proofs.Words.{rules, common_steps, ◌≡◌, [], ◌∷◌, ◌++◌, length-append, ℕ, ◌+◌, ◌-◌, ◌*◌, ◌<◌, ◌≤◌, ◌⊎◌, Bool, false, List, length, get_or, Option, Some, None, IfSome, IsTrue, refl, sym, ap, ◌∙◌, subst, arith, mul-le-mul_left, unwrap_or, slice_get, slice_set, if◌then◌else◌, gets, IfSome_then, slice_get_read, slice_get_within, WrittenExpression, expression_tree, CanEndEarly, CostsWithin, Takes, TakesAtLeast, if_occurs, OccursAfter, next_span, leftmost_longest, SameSpace, KeptRoom, ServesOn, owed_seeking, owed_after_search, search_cost, owed_behind, Seeking, Table, search_long, looks_later, looks_past, looks_to_end, searched_then, Occurrences, HasOwn, HasTable, IsReverseAny, IsReady, RoomAt, ServesFrom, AnswersNext, IsLook, SomeFound, TakesFirst, bytes_passed, inl, inr, least_since, owed, owed_after, owed_direct, owed_search, LiesOn, SpanAnswer, Tree, found-iff, nat_lt, not_found-iff, owed_falls, square, suc, zero}
+use Rattle.sedmatch.proofs.RoomLemmas.{IsUsed, roomy, unused}
+use Rattle.sedpass.specs.Search.{SearchServes}
 
 -- What is found.
 
 -- the answer of a search is the match that is computed
 pub answer_found : (e : Tree) (w : List ℕ) (from : ℕ) (r : Option (ℕ × ℕ)) → from ≤ length w → SpanAnswer e w from r → r ≡ leftmost_longest e w from
 answer_found e w from r low is = grind (arith, common_steps, not_found-iff, found-iff)
-
-pub answer_lies : (e : Tree) (w : List ℕ) (from : ℕ) (r : Option (ℕ × ℕ)) → SpanAnswer e w from r → IfSome r (λ f. (from ≤ f.0) × (f.0 ≤ f.1) × (f.1 ≤ length w))
-answer_lies e w from r is = grind arith
 
 -- one byte further on, where the text goes on, and where it doesn't
 pub further_found : (n at : ℕ) (x : Option (ℕ × ℕ)) → at < n → x ≡ (if nat_lt at n then x else None)
@@ -18,8 +16,8 @@ further_found n at x on = search rules
 pub further_none : (n at : ℕ) (x : Option (ℕ × ℕ)) → n ≤ at → None ≡ (if nat_lt at n then x else None)
 further_none n at x end = search rules
 
-pub lies_behind : (n at : ℕ) (r : Option (ℕ × ℕ)) → IfSome r (λ f. (at ≤ f.0) × (f.0 ≤ f.1) × (f.1 ≤ n)) → IfSome r (λ f. at ≤ f.0 → f.0 ≤ f.1 → at < f.1) → IfSome r (LiesOn n (Some at))
-lies_behind n at r lies after = grind arith
+pub lies_behind : (e : Tree) (w : List ℕ) (at : ℕ) (r : Option (ℕ × ℕ)) → SpanAnswer e w at r → IfSome r (λ f. at ≤ f.0 → f.0 ≤ f.1 → at < f.1) → IfSome r (LiesOn (length w) (Some at))
+lies_behind e w at r is after = grind arith
 
 pub lies_further : (e : Tree) (w : List ℕ) (at : ℕ) (r : Option (ℕ × ℕ)) → SpanAnswer e w (at + 1) r → IfSome r (LiesOn (length w) (Some at))
 lies_further e w at r is = grind arith
@@ -39,9 +37,7 @@ behind_paid m n at old new s t (Some f) low lies pays = (pays.0, omega (arith, p
 -- two searches, of which the first one found the null string at the place
 pub both_paid : (m n at : ℕ) (old mid new : Seeking) (s u t : ℕ) (first r : Option (ℕ × ℕ)) → first ≡ Some (at, at) → CostsWithin s u (owed_seeking m n old at + 43 * m) (owed_after_search (owed_seeking m n mid) first) →
     CostsWithin u t (owed_seeking m n mid (at + 1) + 43 * m) (owed_after_search (owed_seeking m n new) r) → CostsWithin s t (owed_seeking m n old at + 86 * m) (owed_after_search (owed_seeking m n new) r)
-both_paid m n at old mid new s u t first r is one two =
-    let falls = search_falls m n mid at (at + 1) (omega arith) in
-    let one = rw is at one in (omega (arith, one.0, two.0), omega (arith, falls, one.1, two.1))
+both_paid m n at old mid new s u t first r is one two = grind (arith, search_falls m n mid at (at + 1))
 
 pub one_square : (m n at : ℕ) → 1 ≤ m → search_cost m n at ≤ 64 * m * m * (n + 1) * (n + 1)
 one_square m n at some = omega (arith, search_long m n at, mul-le-mul_left m (square n), mul-le-mul_left (m * (64 * (n + 1) * (n + 1))) some)
@@ -73,21 +69,18 @@ owed_as m n q o b is = ap (λ (v : Bool). if v then 372 * m * (n + 1) + owed_dir
 due_enough : (m n : ℕ) (last : Option ℕ) (old mid : Occurrences) → 1 ≤ m → (last ≡ None → IsTrue old.is_fresh) → (old.is_fresh ≡ false → mid ≡ old) →
     (IsTrue old.is_fresh → owed_behind m n mid.seeking 0 + 43 * m ≤ 308 * m * (n + 1)) → owed_search m n last mid.seeking ≤ owed m n last old
 due_enough m n None old mid some fresh same begun = omega (arith, begun (fresh refl), mul-le-mul_left (n + 1) some)
-due_enough m n (Some q) old mid some fresh same begun =
-    let rest : n + 1 - q ≤ n + 1 - 0 = omega arith in
-    grind (arith, search_falls m n mid.seeking 0 q, mul-le-mul_left (86 * m) rest, owed_as m n q old)
+due_enough m n (Some q) old mid some fresh same begun = grind (arith, search_falls m n mid.seeking 0 q, mul-le-mul_left {m = n + 1 - q} {n = n + 1 - 0} (86 * m) (omega arith), owed_as m n q old)
 
--- its own table, where it is in use
-pub own_is : (e : WrittenExpression) (w : List ℕ) (o : Occurrences) → HasTable e w o → IsTrue o.by_own → (v u : Option Table) → v ≡ get_or o.own.items o.number v → v ≡ u → slice_get o.own.items o.number ≡ Some u
-own_is e w o has by v u at is = grind (arith, common_steps, gets, has.own by)
-
-pub set_there : (own : List (Option Table)) (n : ℕ) (u v : Option Table) → slice_get own n ≡ Some u → slice_get (slice_set own n v) n ≡ Some v
-set_there own n u v is = grind (arith, common_steps, gets, slice_get_within)
-
--- a table of the list, after one was set for the expression, is an old one, or that
-pub own_set : (e : WrittenExpression) (own : List (Option Table)) (n : ℕ) (t : Table) → IsReverseAny e t → (x : ℕ) (u : Table) → slice_get (slice_set own n (Some t)) x ≡ Some (Some u) →
-    (slice_get own x ≡ Some (Some u)) ⊎ ((x ≡ n) × IsReverseAny e u)
-own_set e own n t reverse_any x u is = grind (arith, common_steps, gets)
+-- its own table, in use, served and was set again
+pub own_ready : (e : WrittenExpression) (w : List ℕ) (o new : Occurrences) (t u : Table) (v : Option Table) → RoomAt (length w) o.number e o → HasTable e w o → IsTrue o.by_own → v ≡ get_or o.own.items o.number v → v ≡ Some t →
+    u.way ≡ t.way → SearchServes e w u new.seeking → SameSpace o.seeking.kept new.seeking.kept →
+    (new.number ≡ o.number) × (new.shared ≡ o.shared) × (new.by_own ≡ o.by_own) × (new.own.items ≡ slice_set o.own.items o.number (Some u)) → IsReady e w o new
+own_ready e w o new t u v at has by here is way serves space same =
+    let there : slice_get o.own.items o.number ≡ Some (Some t) = grind (arith, common_steps, gets, has.own by) in
+    let set : slice_get new.own.items new.number ≡ Some (Some u) = grind (arith, common_steps, gets, slice_get_within, same) in
+    let any : IsReverseAny e u = (way ∙ (at.own t there).0, serves.kept.region.table) in
+    let own : (x : ℕ) (y : Table) → slice_get new.own.items x ≡ Some (Some y) → (slice_get o.own.items x ≡ Some (Some y)) ⊎ ((x ≡ o.number) × IsReverseAny e y) = rw same.3 (λ x y is. grind (arith, common_steps, gets, any)) in
+    still_ready e w o new same.0 space (rw same.1 (unused e o.shared)) own at (record { own = λ h. (u, set, serves); shared = λ h. cc })
 
 -- the tables of the first n of these expressions
 pub record AreFirst (es : List WrittenExpression) (n : ℕ) (own : List (Option Table)) : Type 0 where
@@ -104,9 +97,8 @@ one_more es n own own' e o are inside here reverse_any push = record {
 
 pub first_paid : (m n start : ℕ) (old new : Seeking) (s a t : ℕ) (r : Option (ℕ × ℕ)) → CostsWithin s a n 0 → CostsWithin a t (owed_seeking m n old start + 43 * m) (owed_after_search (owed_seeking m n new) r) →
     CostsWithin s t (owed_search m n None old) (owed_after_search (owed_behind m n new) r)
-first_paid m n start old new s a t None looks pays = (omega (arith, looks.0, pays.0), omega (arith, search_falls m n old 0 start (omega arith), looks.1, pays.1))
-first_paid m n start old new s a t (Some f) looks pays =
-    (omega (arith, looks.0, pays.0), omega (arith, search_falls m n old 0 start (omega arith), looks.1, pays.1, mul-le-mul_left {m = n + 1 - f.1} {n = n + 1 - 0} (86 * m) (omega arith)))
+first_paid m n start old new s a t None looks pays = grind (arith, search_falls m n old 0 start)
+first_paid m n start old new s a t (Some f) looks pays = grind (arith, search_falls m n old 0 start, mul-le-mul_left {m = n + 1 - f.1} {n = n + 1 - 0} (86 * m) (omega arith))
 
 pays : (m n k : ℕ) → k ≤ 64 * (m * (n + 1)) → k * m * (n + 1) ≤ 64 * m * m * (n + 1) * (n + 1)
 pays m n k enough = omega (arith, mul-le-mul_left (m * (n + 1)) enough)
@@ -133,10 +125,9 @@ pub none_shown : (e : WrittenExpression) (w : List ℕ) (last : Option ℕ) (o :
 none_shown e w last o s t some (is, none) look =
     let m = length e.nodes in
     let n = length w in
-    let cost : Takes s t (43 * m * (n + 1)) = elim look [ inl l ↦ l.2 | inr same ↦ (omega (arith, same), omega (arith, same)) ] in
-    let paid = pays m n 43 (omega (arith, mul-le-mul_left (n + 1) some)) in
+    let cost : Takes s t (43 * m * (n + 1)) = grind (arith, look) in
     let next = answer_found (expression_tree e) w 0 None (omega arith) (tt, λ i k low inside is. none (i, k, low, inside, is), tt) in
-    rw is (search (rules, next, cost, paid))
+    rw is (search (rules, next, cost, pays m n 43 (omega (arith, mul-le-mul_left (n + 1) some))))
 
 -- the first search came after it
 pub after_look : (e : WrittenExpression) (w : List ℕ) (last : Option ℕ) (old new : Occurrences) (r : Option (ℕ × ℕ)) (s a t : ℕ) → 1 ≤ length e.nodes → IsLook (length e.nodes) (length w) last s a →
@@ -144,15 +135,9 @@ pub after_look : (e : WrittenExpression) (w : List ℕ) (last : Option ℕ) (old
 after_look e w last old new r s a t some (inr same) first answers = rw (← same) answers
 after_look e w last old new r s a t some (inl look) first answers =
     let paid = looked_first (length e.nodes) (length w) old new s a t r some look.1 look.2 (first look.0) in
-    record {
-      next = answers.next;
-      occurs = answers.occurs;
-      serves = answers.serves;
-      cost = rw look.0 paid.0;
-      once = paid.1;
-      counts = IfSome_then r answers.counts (λ f h. least_since s a t (f.1 - f.0) look.2.0 h);
-      passes = λ early. IfSome_then r (answers.passes early) (λ f h. least_since s a t (bytes_passed last f) look.2.0 h);
-    }
+    let since = λ (x : ℕ). least_since s a t x look.2.0 in
+    let counts = IfSome_then r answers.counts (λ (f : ℕ × ℕ). since (f.1 - f.0)) in
+    rw look.0 (search (rules, answers, paid, counts, λ (early : CanEndEarly (expression_tree e)). IfSome_then r (answers.passes early) (λ (f : ℕ × ℕ). since (bytes_passed last f))))
 
 -- what a search by passes answers
 pub shows : (e : WrittenExpression) (w : List ℕ) (last : Option ℕ) (old mid new : Occurrences) (r : Option (ℕ × ℕ)) (s t : ℕ) → 1 ≤ length e.nodes → ServesFrom e w last old → IsReady e w old mid → IsReady e w mid new →
@@ -171,4 +156,4 @@ shows e w last old mid new r s t some serves ready searched same begun used next
     search (rules, next, occurs, serves', cost.0, cost', once, counts)
 
 -- what decides the next occurrence
-pub ruleset nexts = (answer_found, answer_lies, both_square, further_found, further_none, if_occurs, lies_behind, lies_further, looks_later, looks_past, looks_to_end, one_square, searched_then)
+pub ruleset nexts = (answer_found, both_square, further_found, further_none, if_occurs, lies_behind, lies_further, looks_later, looks_past, looks_to_end, one_square, searched_then)

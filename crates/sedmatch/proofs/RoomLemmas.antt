@@ -1,5 +1,5 @@
 -- Room to search, after other searches in it.
-use Rattle.sedmatch.proofs.Words.{rules, ◌≡◌, ℕ, ◌+◌, ◌-◌, ◌/◌, ◌≤◌, ◌⊎◌, ◌∙◌, List, [], arith, inl, inr, refl, vec_capacity, WrittenExpression, SameSpace, IsRoomy, IsTable, SameRoom, SameShape, Table, space_again, roomy_still, RoomFor, IsDesk, KeepsDesk, Occurrences, Desk}
+use Rattle.sedmatch.proofs.Words.{rules, ◌≡◌, ℕ, ◌≤◌, ◌⊎◌, ◌∙◌, List, [], arith, inl, inr, refl, vec_capacity, WrittenExpression, SameSpace, IsRoomy, IsTable, SameRoom, SameShape, Table, space_again, roomy_still, RoomFor, IsDesk, KeepsDesk, Occurrences, Desk}
 
 -- room for longer texts is room for shorter ones
 pub room_within : (text more : ℕ) (es : List WrittenExpression) (o : Occurrences) → text ≤ more → RoomFor more es o → RoomFor text es o
@@ -26,5 +26,4 @@ pub desk_still : (p : WrittenExpression) (a b : Desk) → IsDesk a → b.max_tex
     IsUsed p a.reverse_any b.reverse_any → IsUsed p a.shared.forward_any b.shared.forward_any → IsUsed p a.shared.reverse_one b.shared.reverse_one → IsUsed p a.shared.forward_one b.shared.forward_one → IsUsed p a.shared.forward_part b.shared.forward_part →
     KeepsDesk a b
 desk_still p a b is text nodes space none tasks any one two three four =
-    let space' = space_again a.max_text (a.max_text / (a.shared.reverse_one.room - 1) + 1) a.max_nodes a.room b.room is.space space none tasks in
-    rw (text, nodes) (search (rules, is, any, one, two, three, four, roomy a.max_nodes p, rw (← two.0.1) at space', space.edges))
+    rw (text, nodes) (search (rules, is, any, one, two, three, four, roomy a.max_nodes p, rw (← two.0.1) at (space_again a.max_text _ a.max_nodes a.room b.room is.space space none tasks), space.edges))

@@ -2,10 +2,6 @@
 use Rattle.sedmatch.proofs.Words.{◌<◌, add-one, common_steps, ◌≡◌, ℕ, max, ◌+◌, ◌≤◌, ◌↔◌, Bool, List, length, Option, Some, None, sym, arith, ◌⊎◌, ◌∷◌, drop, drop-cons, suc, take, ap, ◌∙◌, cases_lt, WrittenExpression, expression_tree, slice_get_within, IfSome, slice_index_or, FirstFrom, MemberAt, ComesFirst, FirstOf, Follow, StretchSpans, behind_first, AtEnd, Stretch, CopiesLead-forward, repeated_cut, take_all, IsExpr, Node, AreAlternatives, ChainLeads, IsChain, LinkLeads, Link, IsDirect}
 use Rattle.sedmatch.specs.declared.direct.DirectForm.TheVariants.{Stretch as StretchForm}
 
--- i is the first place from p on from which the text is of bytes that follow
-abbrev pub FollowFrom : Option (List Bool) → List ℕ → ℕ → ℕ → Type 0
-FollowFrom rest w p i = (p ≤ i) × (i ≤ length w) × Follow rest w i (length w) × ((h : ℕ) → p ≤ h → h < i → Follow rest w h (length w) → ⊥)
-
 -- a chain and the link before it
 pub one_link_more : (links : List Link) (x next : ℕ) (link : Link) (behind stretch : Stretch) → next ≡ x + 1 → next ≤ length links → link ≡ slice_index_or links x link →
     ((nodes : List Node) (w : List ℕ) (i j : ℕ) → StretchSpans stretch stretch.ends w i j ↔ ((k : ℕ) × LinkLeads nodes w link i k × StretchSpans behind behind.ends w k j)) →
@@ -37,6 +33,6 @@ follow_cut None w i m j low high on = omega (arith, low, high, on)
 follow_cut (Some members) w i m j low high on = (repeated_cut members w m j i low high on).1
 
 -- at the end of the text: what follows begins at b there, and what comes first is sought from the first place from which it reaches b
-module _ (s : Stretch) (w : List ℕ) (p b from start : ℕ) (follow : FollowFrom s.rest w p b) (reaches : (i : ℕ) → b ≤ behind_first s.first i ↔ start ≤ i) (from_is : from ≡ max start p) where
-  pub end_one : (i k : ℕ) → k ≡ length w → FirstFrom (ComesFirst s.first w) from (Some i) → behind_first s.first i ≤ length w → FirstOf (StretchSpans s (Some AtEnd) w) (length w) p (Some (i, k))
-  end_one i k end here inside = grind (arith, follow_cut, first_forward, cases_lt)
+pub end_one : (s : Stretch) (w : List ℕ) (p b from start i k : ℕ) → (p ≤ b) × (b ≤ length w) × Follow s.rest w b (length w) × ((h : ℕ) → p ≤ h → h < b → Follow s.rest w h (length w) → ⊥) → ((i : ℕ) → b ≤ behind_first s.first i ↔ start ≤ i) →
+    from ≡ max start p → k ≡ length w → FirstFrom (ComesFirst s.first w) from (Some i) → behind_first s.first i ≤ length w → FirstOf (StretchSpans s (Some AtEnd) w) (length w) p (Some (i, k))
+end_one s w p b from start i k follow reaches from_is end here inside = grind (arith, follow_cut, first_forward, cases_lt)

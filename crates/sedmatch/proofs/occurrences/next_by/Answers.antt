@@ -1,6 +1,5 @@
-use Rattle.sedmatch.proofs.Words.{◌∙◌, Some, inl, inr, refl, sym, true≢false}
-use Rattle.sedmatch.proofs.OccurrenceLemmas.{first_due, own_is, own_set, set_there, shows, still_ready}
-use Rattle.sedmatch.proofs.RoomLemmas.{unused}
+use Rattle.sedmatch.proofs.Words.{◌∙◌, inl, inr, refl, sym, true≢false}
+use Rattle.sedmatch.proofs.OccurrenceLemmas.{first_due, own_ready, shows, still_ready}
 use Rattle.sedmatch.proofs.occurrences.next_by.Goals as goal
 
 pub returns-then-not-occurrences-clause-answered : goal.returns-then-not-occurrences-clause-answered
@@ -16,18 +15,12 @@ returns-then-not-occurrences-clause-answered c =
 
 pub returns-clause-answered : goal.returns-clause-answered
 returns-clause-answered c =
-    let p = c.args.prepared.now in
-    let mid = c.make_ready.new.self in
     let first = c.make_ready.ensures in
-    let table = c.next_with-2.new.reverse_any in
     let done = c.next_with-2.ensures in
     let tables = done.searched.tables in
-    let serves = done.searched.serves in
-    let is = own_is p c.args.text.now mid first.ready.table c.if-not-occurrences.false _ _ c.index_mut.ensures.value c.in-Some.is in
-    let there = set_there mid.own.items mid.number (Some c.in-Some.reverse) (Some table) is in
-    shows _ _ _ _ mid _ _ _ _ c.requires.forward_one.table.expr.arena.nonempty c.requires.serves first.ready
-    (still_ready p c.args.text.now mid _ refl tables.space (unused p mid.shared) (own_set p mid.own.items mid.number table (tables.reverse_any_shape.0 ∙ (first.ready.room.own c.in-Some.reverse is).0, serves.kept.region.table)) first.ready.room
-    (record { own = λ h. (table, there, serves); shared = λ h. absurd (true≢false (sym c.if-not-occurrences.false ∙ h)) })) first.same first.owed first.used done.next done.occurs done.cost done.once done.counts
+    shows _ _ _ _ c.make_ready.new.self _ _ _ _ c.requires.forward_one.table.expr.arena.nonempty c.requires.serves first.ready
+    (own_ready c.args.prepared.now c.args.text.now c.make_ready.new.self _ c.in-Some.reverse c.next_with-2.new.reverse_any _ first.ready.room first.ready.table c.if-not-occurrences.false c.index_mut.ensures.value c.in-Some.is
+    tables.reverse_any_shape.0 done.searched.serves tables.space (refl, refl, refl, refl)) first.same first.owed first.used done.next done.occurs done.cost done.once done.counts
 
 pub returns-then-not-occurrences-clause-first : goal.returns-then-not-occurrences-clause-first
 returns-then-not-occurrences-clause-first c =

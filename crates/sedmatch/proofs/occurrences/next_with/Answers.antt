@@ -1,5 +1,5 @@
 use Rattle.sedmatch.proofs.Words.{None, length, refl, arith, expression_tree, later_answer, searched_then}
-use Rattle.sedmatch.proofs.OccurrenceLemmas.{answer_found, answer_lies, behind_paid, both_paid, lies_behind, lies_further, first_paid, first_square}
+use Rattle.sedmatch.proofs.OccurrenceLemmas.{answer_found, behind_paid, both_paid, lies_behind, lies_further, first_paid, first_square}
 use Rattle.sedmatch.proofs.occurrences.next_with.Goals as goal
 
 pub returns-in_err-start-clause-next : goal.returns-in_err-start-clause-next
@@ -26,7 +26,7 @@ returns-then-not-is_null_at-clause-cost c =
     let at = c.in-Some.at in
     let r = c.next_match-first.result in
     let one = c.next_match-first.ensures in
-    let lies = lies_behind (length w) at r (answer_lies (expression_tree c.args.prepared.now) w at r one.answer) (c.if-not-is_null_at.ensures.after refl) in
+    let lies = lies_behind (expression_tree c.args.prepared.now) w at r one.answer (c.if-not-is_null_at.ensures.after refl) in
     rw c.in-Some.is (behind_paid _ (length w) at c.args.seeking.now c.next_match-first.new.seeking _ _ r (rw c.in-Some.is at c.requires.last) lies (one.cost.0, omega (arith, one.cost)))
 
 pub returns-clause-cost : goal.returns-clause-cost

@@ -1,5 +1,4 @@
-use Rattle.sedmatch.proofs.Words.{ℕ, ◌+◌, ◌-◌, ◌*◌, ◌≤◌, ◌↔◌, List, length, Bool, Some, IsTrue, arith, mul-le-mul_left, cases_lt, WrittenExpression, expression_tree, Takes, TakesAtLeast, CostsWithin, LooksPast, SomeFound, Narrowed, AnswersMatch, passes_later}
-use Rattle.sedmatch.proofs.Words.{refl, space_same}
+use Rattle.sedmatch.proofs.Words.{ℕ, ◌+◌, ◌-◌, ◌*◌, ◌≤◌, ◌↔◌, List, length, Bool, Some, IsTrue, arith, mul-le-mul_left, cases_lt, WrittenExpression, expression_tree, Takes, TakesAtLeast, CostsWithin, LooksPast, SomeFound, Narrowed, AnswersMatch, passes_later, refl, space_same}
 use Rattle.sedmatch.proofs.RoomLemmas.{desk_still, unused, used_so}
 use Rattle.sedmatch.proofs.passes.matches_by.Goals as goal
 
@@ -12,14 +11,12 @@ shown_past e w from start s t u answered some is looks counts shows over cost = 
 pub returns-in-Some-own-clause-answered : goal.returns-in-Some-own-clause-answered
 returns-in-Some-own-clause-answered c =
     let done = rw c.of.ensures.is at c.matches_with.ensures in
-    let narrowed = c.in-Some.ensures.narrowed (expression_tree c.args.expr.now) (rw c.of.ensures.is at c.hints.ensures) in
-    shown_past _ _ _ c.in-Some.start _ _ _ _ c.of.ensures.expr.arena.nonempty narrowed c.in-Some.ensures.cost c.in-Some.ensures.counts done.matches done.passes done.cost
+    shown_past c.args.expr.now _ _ c.in-Some.start _ _ _ _ c.of.ensures.expr.arena.nonempty (c.in-Some.ensures.narrowed _ (rw c.of.ensures.is at c.hints.ensures)) c.in-Some.ensures.cost c.in-Some.ensures.counts done.matches done.passes done.cost
 
 pub returns-clause-answered : goal.returns-clause-answered
 returns-clause-answered c =
     let done = rw c.of.ensures.is at c.matches_with-2.ensures in
-    let narrowed = c.in-Some.ensures.narrowed (expression_tree c.args.expr.now) (rw c.of.ensures.is at c.hints.ensures) in
-    shown_past _ _ _ c.in-Some.start _ _ _ _ c.of.ensures.expr.arena.nonempty narrowed c.in-Some.ensures.cost c.in-Some.ensures.counts done.matches done.passes done.cost
+    shown_past c.args.expr.now _ _ c.in-Some.start _ _ _ _ c.of.ensures.expr.arena.nonempty (c.in-Some.ensures.narrowed _ (rw c.of.ensures.is at c.hints.ensures)) c.in-Some.ensures.cost c.in-Some.ensures.counts done.matches done.passes done.cost
 
 pub returns-clause-desk : goal.returns-clause-desk
 returns-clause-desk c =

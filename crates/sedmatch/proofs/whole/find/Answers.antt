@@ -1,4 +1,4 @@
-use Rattle.sedmatch.proofs.Words.{◌≡◌, refl, ℕ, ◌+◌, ◌-◌, ◌*◌, ◌≤◌, None, length, rules, sym, arith, mul-le-mul_left, mul-le-mul_right, StepsWithin, Takes, expression_tree, least_less, least_since, least_up, found-iff, not_found-iff, report-iff, report_lies, space_then, enters_later, square, group_depth}
+use Rattle.sedmatch.proofs.Words.{refl, ℕ, ◌+◌, ◌-◌, ◌*◌, ◌≤◌, length, rules, sym, arith, mul-le-mul_left, mul-le-mul_right, StepsWithin, Takes, expression_tree, least_less, least_since, least_up, found-iff, not_found-iff, report-iff, report_lies, space_then, enters_later, square, group_depth}
 use Rattle.sedmatch.proofs.RoomLemmas.{desk_still, unused, used}
 use Rattle.sedmatch.specs.Passes.{IsDesk}
 use Rattle.sedmatch.proofs.whole.find.Goals.{After-next_kept}
@@ -12,7 +12,7 @@ module _ (m n p s t u : ℕ) (ready : Takes s t m) (sought : Takes t u (142 * m 
   bare_cost : StepsWithin s u (64 * m * (n + 1) * (n + 1)) × StepsWithin s u (143 * m * (n + 1))
   bare_cost = (omega (arith, most, mul-le-mul_left m (square n)), omega (arith, most))
 
-  none_cost : (k : ℕ) → Takes s u (64 * m * m * (n + 1) * (n + 1)) × StepsWithin s u (172 * m * (k + 1) * (n + 1))
+  none_cost : (k : ℕ) → Takes s u (64 * m * m * (n + 1) * (n + 1)) × StepsWithin s u (172 * m * (k + 1) * (n + 1)) × StepsWithin s u (64 * m * (n + 1) * (n + 1)) × StepsWithin s u (143 * m * (n + 1))
   none_cost k = grind (arith, bare_cost, mul-le-mul_right (64 * (n + 1) * (n + 1)) (square m))
 
   -- and its groups, of such a depth, for a match of l bytes
@@ -33,10 +33,9 @@ searched_desk c =
     let new = c.next_kept.new in
     let next = c.next_kept.ensures in
     let shapes = next.tables in
-    let desk = desk_still p d (record d { room = record d.room { kept = new.kept }; reverse_any = new.reverse_any; shared = record d.shared { forward_one = new.forward_one } }) c.scratch.invariant.0 refl refl
+    (desk_still p d (record d { room = record d.room { kept = new.kept }; reverse_any = new.reverse_any; shared = record d.shared { forward_one = new.forward_one } }) c.scratch.invariant.0 refl refl
     (space_then _ _ _ c.begin.ensures.space shapes.space) c.scratch.invariant.0.space.none (omega arith) (used p d.reverse_any c.fit-3.new.self new.reverse_any c.fit-3.ensures.room shapes.reverse_any_shape next.next.kept.region.table)
-    (unused p d.shared.forward_any) (unused p d.shared.reverse_one) (used p d.shared.forward_one c.fit-2.new.self new.forward_one c.fit-2.ensures.room shapes.forward_one_shape shapes.forward_one.table) (unused p d.shared.forward_part) in
-    desk.0
+    (unused p d.shared.forward_any) (unused p d.shared.reverse_one) (used p d.shared.forward_one c.fit-2.new.self new.forward_one c.fit-2.ensures.room shapes.forward_one_shape shapes.forward_one.table) (unused p d.shared.forward_part)).0
 
 pub shared_groups-groups-requires-clause-desk : goal.shared_groups-groups-requires-clause-desk
 shared_groups-groups-requires-clause-desk c = (searched_desk (goal.at.shared_groups-groups-requires-clause-desk c).After-next_kept, search rules, rw c.of.ensures.is (search rules))
@@ -49,12 +48,9 @@ invariant_of-scratch-2 c = let desk = c.shared_groups-groups.ensures.desk in (de
 
 pub returns-in_err-span : goal.returns-in_err-span
 returns-in_err-span c =
-    let sought = rw c.of.ensures.is at c.next_kept.ensures.each in
-    let bare = bare_cost _ _ _ _ _ _ c.fit.ensures.cost sought in
-    let cost = none_cost _ _ _ _ _ _ c.fit.ensures.cost sought (group_depth (expression_tree c.args.expr.now)) in
-    let none : c.from_residual.result ≡ None = cc in
+    let cost = none_cost _ _ _ _ _ _ c.fit.ensures.cost (rw c.of.ensures.is at c.next_kept.ensures.each) (group_depth (expression_tree c.args.expr.now)) in
     let answer = rw (c.of.ensures.is, c.in_err-span.was) at c.next_kept.ensures.next.answer in
-    rw none (search (rules, bare, cost, sym ((not_found-iff (expression_tree c.args.expr.now) c.args.text.now c.args.from c.requires.from).1 answer.1)))
+    rw c.from_residual.ensures (search (rules, cost, sym ((not_found-iff (expression_tree c.args.expr.now) c.args.text.now c.args.from c.requires.from).1 answer.1)))
 
 pub returns : goal.returns
 returns c =

@@ -1,11 +1,5 @@
-use Rattle.std.proofs.Common.{ℕ, ◌+◌, ◌-◌, ◌*◌, ◌≤◌, arith, mul-le-mul_left, mul-le-mul_right, length, rules}
-use Rattle.std.proofs.lemmas.Grind.{common_steps}
-use Rattle.sedre.specs.Tree.{expression_tree}
+use Rattle.sedmatch.proofs.Words.{ℕ, ◌+◌, ◌-◌, ◌*◌, ◌≤◌, arith, expression_tree, group_depth, length, mul-le-mul_left, mul-le-mul_right, report-iff, report_lies, rules, common_steps}
 use Rattle.sedmatch.specs.Passes.{AnswersGroups}
-use Rattle.sedtext.specs.Groups.{group_depth}
-use Rattle.sedtext.proofs.MatchingLemmas.{report-iff}
-use Rattle.sedtext.proofs.PartLemmas.{report_lies}
-use Rattle.sedmatch.proofs.table_matcher.TableMatcher.groups_of.Goals.{in-Direct, in-Passes}
 use Rattle.sedmatch.proofs.table_matcher.TableMatcher.groups_of.Goals as goal
 
 square : (n : ℕ) → 4 * n ≤ (n + 1) * (n + 1)
@@ -19,10 +13,10 @@ groups_within m d n long deep few =
 answered : (c : goal.Joined-self) → AnswersGroups c.args.self.now c.args.text.now (c.args.start, c.args.end) c.args.steps.now c.match-self.steps c.match-self.result
 answered c =
     elim c.match-self.branch [
-      | in-Direct w ↦
+      | goal.in-Direct w ↦
           let is = rw (c.self.view_is, w.in-Direct.is) at c.self.invariant in
           rw (w.result-is, w.steps-is) (w.whole_alone.ensures c.args.self.now c.args.text.now c.args.steps.now is.2 is.1 c.requires.spans)
-      | in-Passes w ↦ rw (w.result-is, w.steps-is) (rw c.self.view_is at w.groups_by.ensures.answered)
+      | goal.in-Passes w ↦ rw (w.result-is, w.steps-is) (rw c.self.view_is at w.groups_by.ensures.answered)
     ]
 
 pub returns : goal.returns

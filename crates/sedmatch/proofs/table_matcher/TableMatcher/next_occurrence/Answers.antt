@@ -1,4 +1,4 @@
-use Rattle.sedmatch.proofs.Words.{ServesOn, ◌≡◌, ◌∙◌, ℕ, ◌+◌, ◌-◌, ◌*◌, ◌≤◌, Option, Some, None, IfSome, IsTrue, ap, arith, mul-add, rules, mul-le-mul_right, Takes, CostsWithin, expression_tree, LiesOn, owed, owed_after, owed_direct, AnswersNext, Occurrences, owed_after_search, if_occurs}
+use Rattle.sedmatch.proofs.Words.{ServesOn, ◌≡◌, ℕ, ◌+◌, ◌-◌, ◌*◌, ◌≤◌, Option, Some, None, IfSome, IsTrue, arith, mul-add, rules, mul-le-mul_right, Takes, CostsWithin, expression_tree, LiesOn, owed, owed_after, owed_direct, AnswersNext, Occurrences, owed_after_search, if_occurs}
 use Rattle.sedmatch.proofs.OccurrenceLemmas.{search_falls, owed_as}
 use Rattle.sedmatch.proofs.table_matcher.TableMatcher.next_occurrence.Goals as goal
 
@@ -9,8 +9,7 @@ direct_owed m n None o r s t some fresh lies pays = grind (arith, mul-le-mul_rig
 direct_owed m n (Some q) o None s t some fresh lies pays = grind (arith, mul-le-mul_right (n + 1 - q) some, owed_as m n q o)
 direct_owed m n (Some q) o (Some f) s t some fresh lies pays =
     let rest : n + 1 - q ≡ n + 1 - f.1 + (f.1 - q) = omega arith in
-    let all = ap (λ x. 86 * m * x) rest ∙ mul-add (86 * m) (n + 1 - f.1) (f.1 - q) in
-    grind (arith, rest, all, mul-le-mul_right (f.1 - q) some, search_falls m n o.seeking q f.1 (omega arith), owed_as)
+    grind (arith, rest, mul-add (86 * m) (n + 1 - f.1) (f.1 - q), mul-le-mul_right (f.1 - q) some, search_falls m n o.seeking q f.1 (omega arith), owed_as)
 
 -- and one call by itself
 direct_once : (m n : ℕ) (last : Option ℕ) (r : Option (ℕ × ℕ)) (s t : ℕ) → 1 ≤ m → CostsWithin s t (owed_direct n last) (owed_after_search (λ q. owed_direct n (Some q)) r) → Takes s t (64 * m * m * (n + 1) * (n + 1))
