@@ -1,7 +1,7 @@
 -- The groups that are given as due, as the state of a decision; what nodes and regions cost.
-use Rattle.sedpass.proofs.Words.{rules, ◌≡◌, ℕ, zero, suc, ◌+◌, ◌-◌, ◌*◌, ◌<◌, ◌≤◌, ◌&&◌, not, Bool, true, false, List, [], ◌∷◌, length, Option, None, Some, refl, sym, ◌∙◌, arith, IfSome, eqb, replicate, slice_get, slice_set, slice_index_or, vec_capacity, cases_eq, eqb_tells, get_or-set_other, cases_lt, or_cases, expression_tree, size, group_depth, sequence, either_of, grouped, any_copies, one_or_none, ext_get_or, length-set, mul-le-mul_right, Tree, WrittenExpression, tree_at, IsArena, IsExpr, AreRanges, Node, NodeId, Seq, Group, Star, tree_at-node, LastCut, LastCopy, SpansOfGroups, HasSpan, one_start, node_at, Matches-forward, Decided, GroupSet, Matched, Kept, Subject, Facts, spans_in, flags_of, known_groups, HasBlank, IsAtEnd, HasDesk, AreTables, HasSpace, nodes_in, subject_text, NodeMatches, SameSpace, ends_shown, IsFacts, is_one_set, repeated_set, reported, then_some, holds, IsRunOf, repeated, in_group, IsSetAt, root_of, has_group, settle, IsFirstState, GroupRoom, Tables}
+use Rattle.sedpass.proofs.Words.{rules, ◌≡◌, ℕ, zero, suc, ◌+◌, ◌-◌, ◌*◌, ◌<◌, ◌≤◌, ◌&&◌, not, Bool, true, false, List, [], ◌∷◌, length, Option, None, Some, refl, sym, ◌∙◌, arith, IfSome, eqb, replicate, slice_get, slice_set, slice_index_or, vec_capacity, cases_eq, eqb_tells, get_or-set_other, cases_lt, or_cases, expression_tree, size, group_depth, sequence, either_of, grouped, any_copies, one_or_none, ext_get_or, length-set, mul-le-mul_right, Tree, WrittenExpression, tree_at, IsArena, IsExpr, AreRanges, Node, NodeId, Seq, Group, Star, tree_at-node, LastCut, LastCopy, SpansOfGroups, HasSpan, one_start, node_at, Matches-forward, Decided, GroupSet, Matched, Kept, Subject, Facts, spans_in, flags_of, known_groups, HasBlank, IsAtEnd, HasDesk, AreTables, HasSpace, nodes_in, subject_text, NodeMatches, SameSpace, ends_shown, IsFacts, is_one_set, repeated_set, reported, then_some, is_some, holds, IsRunOf, repeated, in_group, IsSetAt, root_of, has_group, settle, IsFirstState, GroupRoom, Tables}
 use Rattle.sedpass.proofs.LengthLemmas.{all_long, copies_long, AllLong}
-use Rattle.sedpass.proofs.OneGroupLemmas.{copy_spans, left, set_due}
+use Rattle.sedpass.proofs.OneGroupLemmas.{copy_spans, set_due}
 use Rattle.sedpass.proofs.TurnLemmas.{opened}
 use Rattle.sedpass.proofs.TableLemmas.{same_all}
 
@@ -24,14 +24,13 @@ depth_few e groups expr = search (rules, (depths (expression_tree e) 0).0, expr.
 
 -- what is due and is not taken is due still
 pub flags_left : (old other new : GroupSet) (n : ℕ) (x : Bool) (v : Option (ℕ × ℕ)) → holds old 0 ≡ false → holds other n ≡ (reported n && x) → holds new n ≡ (holds old n && not (holds other n)) →
-    slice_index_or (flags_of new) n false ≡ left (slice_index_or (flags_of old) n false) (then_some x v)
+    slice_index_or (flags_of new) n false ≡ (not (is_some (then_some x v)) && slice_index_or (flags_of old) n false)
 flags_left old other new n x v whole is without = grind (arith, cases_eq n 0, flags_at old n, flags_at new n)
 
 -- a span more
 found_set : (g : SpansOfGroups) (k : ℕ) (v : Option (ℕ × ℕ)) → spans_in (slice_set g k v) ≤ spans_in g + 1
-found_set [] k v = omega arith
 found_set (x ∷ g) (suc k) v = search (rules, found_set g k v)
-found_set (x ∷ g) k v = search rules
+found_set g k v = search rules
 
 -- a group that is due is settled
 pub settled : (t : Decided) (one new : GroupSet) (k : ℕ) (v : Option (ℕ × ℕ)) → HasBlank t → holds t.due k ≡ true → ((n : ℕ) → holds one n ≡ (reported n && eqb k n)) → ((n : ℕ) → holds new n ≡ (holds t.due n && not (holds one n))) →

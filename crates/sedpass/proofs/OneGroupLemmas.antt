@@ -1,23 +1,17 @@
 -- What becomes of one group of a match while all are decided from its end; so decided, they are those decided from the left.
-use Rattle.sedpass.proofs.Words.{rules, ◌≡◌, ℕ, suc, ◌<◌, ◌≤◌, Bool, true, false, List, [], ◌∷◌, length, Option, None, Some, refl, inl, inr, arith, replicate, eqb, slice_get, slice_set, slice_index_or, option_or, then_some, cond, cases_Bool, cases_lt, get_or-set_same, get_or-set_other, length-set, slice_get_past, unwrap_or-slice_get, Tree, null_string, byte_of, text_begin, text_end, sequence, either_of, grouped, any_copies, one_or_none, SpansOfGroups, forget, no_groups, groups_after, Captures, LastCopy, LastCut, only, then_copy, IsReport, Matches, groups_after-is, get_or_past, eqb_tells, Captures-unique, GroupState, is_due, settle, drop_groups, GroupIsIn, WalkEnters, IsFirstState, has_group, NoneDue, EntersGroups, TakesAtLeast, NoGroups}
+use Rattle.sedpass.proofs.Words.{rules, ◌≡◌, ℕ, suc, ◌<◌, ◌≤◌, Bool, true, false, List, [], ◌∷◌, length, Option, None, Some, refl, inl, inr, arith, replicate, eqb, slice_get, slice_set, slice_index_or, option_or, then_some, is_some, not, ◌&&◌, cond, cases_Bool, cases_lt, get_or-set_same, get_or-set_other, length-set, slice_get_past, unwrap_or-slice_get, Tree, null_string, byte_of, text_begin, text_end, sequence, either_of, grouped, any_copies, one_or_none, SpansOfGroups, forget, no_groups, groups_after, Captures, LastCopy, LastCut, only, then_copy, IsReport, Matches, groups_after-is, get_or_past, eqb_tells, Captures-unique, GroupState, is_due, settle, drop_groups, GroupIsIn, WalkEnters, IsFirstState, has_group, NoneDue, EntersGroups, TakesAtLeast, NoGroups}
 
 abbrev Span : Type 0
 Span = Option (ℕ × ℕ)
 
 -- the entry of the group, if there is one, after nothing or this is done to it
 abbrev pub lay : Option Span → Option Span → Option Span
-lay None d = None
-lay (Some v) None = Some v
 lay (Some v) (Some u) = Some u
-
--- whether it is due after that
-abbrev pub left : Bool → Option Span → Bool
-left b None = b
-left b (Some u) = false
+lay x d = x
 
 -- this becomes of group k from one state to the other
 pub record Takes (k : ℕ) (d : Option Span) (old new : GroupState) : Type 0 where
-  pub due : is_due new k ≡ left (is_due old k) d
+  pub due : is_due new k ≡ (not (is_some d) && is_due old k)
   pub span : slice_get new.spans k ≡ cond (is_due old k) (lay (slice_get old.spans k) d) (slice_get old.spans k)
   pub long : length new.due ≡ length old.due
 
@@ -32,7 +26,7 @@ set_at n k v [] = refl
 set_at (suc n) (suc k) v (x ∷ g) = search (rules, eqb_tells n k, eqb_tells (suc n) (suc k), set_at n k v g)
 set_at n k v (x ∷ g) = search rules
 
-pub set_due : (n k : ℕ) (v : Span) (due : List Bool) → slice_index_or (slice_set due n false) k false ≡ left (slice_index_or due k false) (then_some (eqb n k) v)
+pub set_due : (n k : ℕ) (v : Span) (due : List Bool) → slice_index_or (slice_set due n false) k false ≡ (not (is_some (then_some (eqb n k) v)) && slice_index_or due k false)
 set_due n k v due = search (rules, eqb_tells n k, cases_lt n (length due), get_or-set_same, get_or-set_other, get_or_past, length-set)
 
 pub settle_takes : (n k : ℕ) (v : Span) (s : GroupState) → Takes k (then_some (eqb n k) v) s (settle n v s)
@@ -70,7 +64,7 @@ module _ (k : ℕ) (w : List ℕ) where
   enclosed : (n : ℕ) (a : Tree) (i j : ℕ) (g : SpansOfGroups) (old mid new : GroupState) → new ≡ drop_groups a mid → Ends a i j (forget (grouped n a) g) (settle n (Some (i, j)) old) mid → Ends (grouped n a) i j g old new
   enclosed n a i j g old mid new is one =
       let v = Some (i, j) in
-      (slice_set one.0 n v, (one.0, one.1, refl), option_or (then_some (eqb n k) v) (option_or one.2 (then_some (has_group a k) None)), search (rules, drops (grouped n a) k g, set_at n k v one.0), search (rules, one.4, settle_takes n k v old, (drops a k g).1 mid))
+      (slice_set one.0 n v, (one.0, one.1, refl), option_or (then_some (eqb n k) v) (option_or one.2 (then_some (has_group a k) None)), search (rules, drops (grouped n a) k g, set_at), search (rules, one.4, settle_takes n k v old, (drops a k g).1 mid))
 
   walked : (e : Tree) (i j n : ℕ) (old new : GroupState) → Matches e w i j → WalkEnters e w i j old new n → (g : SpansOfGroups) → Ends e i j g old new
   walked null_string i j n old new spans walk g = (g, refl, None, search rules, search rules)

@@ -63,7 +63,8 @@ seq_turned s here a b k state r r' before after stands ends cut cost looks =
       goes = search (rules, last_of here.node b.index (Seq a b) stands.is refl ends.0);
       cost = λ some. (
         cost.0,
-        parts_paid (length (nodes_in s)) _ _ _ here.start k here.stop _ _ _ _ _ before after some (omega (arith, depth)) (omega (arith, depth)) (search (rules, Matches-forward, cut.left)) (search (rules, Matches-forward, cut.right)) (omega (arith, long s here (Seq a b) stands)) cost.1,
+        parts_paid (length (nodes_in s)) _ _ _ here.start k here.stop _ _ _ _ _ before after some (omega (arith, depth)) (omega (arith, depth))
+            (search (rules, Matches-forward, cut.left)) (search (rules, Matches-forward, cut.right)) (omega (arith, long s here (Seq a b) stands)) cost.1,
       );
       looks = looks;
     }
@@ -99,8 +100,7 @@ pub star_turned : (s : Subject) (here : Matched) (a : NodeId) (first : Bool) (c 
     r'.root ≡ a.index → r'.end ≡ here.stop → Takes before after (owed_region (length (nodes_in s)) r here.start + 72 * length (nodes_in s) * (here.stop - here.start) + 1) → LooksAt s here (Star a first) None before after →
     NodeTurned s here (Star a first) state state r r' (Two (record { node = a.index; start = c; stop = here.stop }) (Forget a.index)) before after
 star_turned s here a first c state r r' before after stands copy root end cost looks =
-    let R = HasSpan (nodes_in s) (subject_text s) a.index in
-    let spans : (here.start ≤ c) × (c ≤ here.stop) × R c here.stop = search (rules, copy_spans R here.stop here.start c) in
+    let spans : (here.start ≤ c) × (c ≤ here.stop) × HasSpan (nodes_in s) (subject_text s) a.index c here.stop = search (rules, copy_spans) in
     record {
       turn = inner_turn s here (Star a first) stands a c state state refl refl spans.0 spans.1 spans.2 (λ mid m walk. search rules);
       goes = (all_of a.index (sym root), sym end);
@@ -124,12 +124,11 @@ pub opt_turned : (s : Subject) (here : Matched) (a : NodeId) (first : Bool) (sta
     (here.start < here.stop) ⊎ ((here.stop ≤ here.start) × (IsTrue first × HasSpan (nodes_in s) (subject_text s) a.index here.start here.start)) → Takes before after 1 →
     NodeTurned s here (Opt a first) state state r r (Two (record { node = a.index; start = here.start; stop = here.stop }) (Forget a.index)) before after
 opt_turned s here a first state r before after stands ends which cost =
-    let at : HasSpan (nodes_in s) (subject_text s) a.index here.start here.stop = search (rules, opened s here (Opt a first) stands) in
     search (
       rules,
       last_of here.node a.index (Opt a first) stands.is refl ends.0,
       inner_turned s here (Opt a first) stands a.index r r before after,
-      inner_turn s here (Opt a first) stands a here.start state state refl refl (omega arith) stands.there.up at (λ mid m walk. search rules),
+      inner_turn s here (Opt a first) stands a here.start state state refl refl (omega arith) stands.there.up (search (rules, opened s here (Opt a first) stands)) (λ mid m walk. search rules),
     )
 
 pub opt_done : (s : Subject) (here : Matched) (a : NodeId) (first : Bool) (state : GroupState) (r : Region) (before after : ℕ) → NodeMatches s here (Opt a first) → here.stop ≤ here.start →
