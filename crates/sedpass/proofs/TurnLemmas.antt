@@ -87,13 +87,8 @@ alt_turned s here a b c state r r' before after stands ends which cost looks =
 pub group_turned : (s : Subject) (here : Matched) (k : ℕ) (a : NodeId) (state : GroupState) (r : Region) (steps : ℕ) → NodeMatches s here (Group k a) → EndsRegion s r here →
     NodeTurned s here (Group k a) state (settle k (Some (here.start, here.stop)) state) r r (Two (record { node = a.index; start = here.start; stop = here.stop }) (Forget a.index)) steps steps
 group_turned s here k a state r steps stands ends =
-    search (
-      rules,
-      last_of here.node a.index (Group k a) stands.is refl ends.0,
-      inner_turned s here (Group k a) stands a.index r r steps steps,
-      inner_turn s here (Group k a) stands a here.start state
-          (settle k (Some (here.start, here.stop)) state) refl refl (omega arith) stands.there.up (opened s here (Group k a) stands) (λ mid m walk. inr (m, refl, mid, walk, refl)),
-    )
+    let turn = inner_turn s here (Group k a) stands a here.start state (settle k (Some (here.start, here.stop)) state) refl refl (omega arith) stands.there.up (opened s here (Group k a) stands) (λ mid m walk. inr (m, refl, mid, walk, refl)) in
+    search (rules, turn, last_of here.node a.index (Group k a) stands.is refl ends.0, inner_turned s here (Group k a) stands a.index r r steps steps)
 
 -- a repetition goes on with its last copy, in a region of its own
 pub star_turned : (s : Subject) (here : Matched) (a : NodeId) (first : Bool) (c : ℕ) (state : GroupState) (r r' : Region) (before after : ℕ) → NodeMatches s here (Star a first) → IsCopyFrom s here a first (Some c) →
@@ -124,12 +119,8 @@ pub opt_turned : (s : Subject) (here : Matched) (a : NodeId) (first : Bool) (sta
     (here.start < here.stop) ⊎ ((here.stop ≤ here.start) × (IsTrue first × HasSpan (nodes_in s) (subject_text s) a.index here.start here.start)) → Takes before after 1 →
     NodeTurned s here (Opt a first) state state r r (Two (record { node = a.index; start = here.start; stop = here.stop }) (Forget a.index)) before after
 opt_turned s here a first state r before after stands ends which cost =
-    search (
-      rules,
-      last_of here.node a.index (Opt a first) stands.is refl ends.0,
-      inner_turned s here (Opt a first) stands a.index r r before after,
-      inner_turn s here (Opt a first) stands a here.start state state refl refl (omega arith) stands.there.up (search (rules, opened s here (Opt a first) stands)) (λ mid m walk. search rules),
-    )
+    let turn = inner_turn s here (Opt a first) stands a here.start state state refl refl (omega arith) stands.there.up (search (rules, opened s here (Opt a first) stands)) (λ mid m walk. search rules) in
+    search (rules, turn, last_of here.node a.index (Opt a first) stands.is refl ends.0, inner_turned s here (Opt a first) stands a.index r r before after)
 
 pub opt_done : (s : Subject) (here : Matched) (a : NodeId) (first : Bool) (state : GroupState) (r : Region) (before after : ℕ) → NodeMatches s here (Opt a first) → here.stop ≤ here.start →
     ((IsTrue first × HasSpan (nodes_in s) (subject_text s) a.index here.start here.start) → ⊥) → Takes before after 1 → NodeTurned s here (Opt a first) state state r r Done before after
