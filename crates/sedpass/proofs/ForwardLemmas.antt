@@ -36,7 +36,7 @@ module _ (p : WrittenExpression) (t : Table) (w : List ℕ) (start place code o 
   dead_end noted single is =
       let none = row_empty _ w _ place _ t.way.mirrored _ _ arrived.1 (is_shown.1.0 is) in
       all_below _ w _ _ _ _ noted (λ k late some. dead _ w _ place some.0 k _ (seen-arena t.way.mirrored p table.expr.arena) (rw arrived.0 (omega (arith, table.expr.arena.nonempty, seen-length t.way.mirrored p)))
-          none some.1 (omega (arith, (rw single at some.1).1)) (omega arith) (rw arrived.0 some.2))
+      none some.1 (omega (arith, (rw single at some.1).1)) (omega arith) (rw arrived.0 some.2))
 
   pub arrive_at : (noted : Option ℕ) (over : Bool) → noted ≡ option_or (then_some flags.ends place) end → (IsTrue over → IsTrue (is_over t.way.all_starts flags)) → PassIs p t w start (record { offset = o; place = place; end = noted; over = over })
   arrive_at noted over is_noted is_over =
