@@ -1,7 +1,7 @@
 -- The groups that are given as due, as the state of a decision; what nodes and regions cost.
-use Rattle.sedpass.proofs.Words.{rules, ◌≡◌, ℕ, zero, suc, ◌+◌, ◌-◌, ◌*◌, ◌<◌, ◌≤◌, ◌&&◌, not, Bool, true, false, List, [], ◌∷◌, length, Option, None, Some, refl, sym, ◌∙◌, arith, IfSome, eqb, replicate, slice_get, slice_set, slice_index_or, vec_capacity, cases_eq, eqb_tells, get_or-set_other, cases_lt, or_cases, expression_tree, size, group_depth, sequence, either_of, grouped, any_copies, one_or_none, ext_get_or, length-set, mul-le-mul_right, Tree, WrittenExpression, tree_at, IsArena, IsExpr, AreRanges, Node, NodeId, Seq, Group, Star, tree_at-node, LastCut, LastCopy, SpansOfGroups, HasSpan, one_start, node_at, Matches-forward, Decided, GroupSet, Matched, Kept, Subject, Facts, spans_in, flags_of, known_groups, HasBlank, IsAtEnd, HasDesk, AreTables, HasSpace, nodes_in, subject_text, NodeMatches, SameSpace, ends_shown, IsFacts, is_one_set, repeated_set, reported, holds, IsRunOf, repeated, in_group, IsSetAt, root_of, has_group, settle, IsFirstState, GroupRoom, Tables}
+use Rattle.sedpass.proofs.Words.{rules, ◌≡◌, ℕ, zero, suc, ◌+◌, ◌-◌, ◌*◌, ◌<◌, ◌≤◌, ◌&&◌, not, Bool, true, false, List, [], ◌∷◌, length, Option, None, Some, refl, sym, ◌∙◌, arith, IfSome, eqb, replicate, slice_get, slice_set, slice_index_or, vec_capacity, cases_eq, eqb_tells, get_or-set_other, cases_lt, or_cases, expression_tree, size, group_depth, sequence, either_of, grouped, any_copies, one_or_none, ext_get_or, length-set, mul-le-mul_right, Tree, WrittenExpression, tree_at, IsArena, IsExpr, AreRanges, Node, NodeId, Seq, Group, Star, tree_at-node, LastCut, LastCopy, SpansOfGroups, HasSpan, one_start, node_at, Matches-forward, Decided, GroupSet, Matched, Kept, Subject, Facts, spans_in, flags_of, known_groups, HasBlank, IsAtEnd, HasDesk, AreTables, HasSpace, nodes_in, subject_text, NodeMatches, SameSpace, ends_shown, IsFacts, is_one_set, repeated_set, reported, then_some, is_some, holds, IsRunOf, repeated, in_group, IsSetAt, root_of, has_group, settle, IsFirstState, GroupRoom, Tables}
 use Rattle.sedpass.proofs.LengthLemmas.{all_long, copies_long, AllLong}
-use Rattle.sedpass.proofs.OneGroupLemmas.{copy_spans, deed, left, set_due}
+use Rattle.sedpass.proofs.OneGroupLemmas.{copy_spans, set_due}
 use Rattle.sedpass.proofs.TurnLemmas.{opened}
 use Rattle.sedpass.proofs.TableLemmas.{same_all}
 
@@ -24,14 +24,13 @@ depth_few e groups expr = search (rules, (depths (expression_tree e) 0).0, expr.
 
 -- what is due and is not taken is due still
 pub flags_left : (old other new : GroupSet) (n : ℕ) (x : Bool) (v : Option (ℕ × ℕ)) → holds old 0 ≡ false → holds other n ≡ (reported n && x) → holds new n ≡ (holds old n && not (holds other n)) →
-    slice_index_or (flags_of new) n false ≡ left (slice_index_or (flags_of old) n false) (deed x v)
+    slice_index_or (flags_of new) n false ≡ (not (is_some (then_some x v)) && slice_index_or (flags_of old) n false)
 flags_left old other new n x v whole is without = grind (arith, cases_eq n 0, flags_at old n, flags_at new n)
 
 -- a span more
 found_set : (g : SpansOfGroups) (k : ℕ) (v : Option (ℕ × ℕ)) → spans_in (slice_set g k v) ≤ spans_in g + 1
-found_set [] k v = omega arith
 found_set (x ∷ g) (suc k) v = search (rules, found_set g k v)
-found_set (x ∷ g) k v = search rules
+found_set g k v = search rules
 
 -- a group that is due is settled
 pub settled : (t : Decided) (one new : GroupSet) (k : ℕ) (v : Option (ℕ × ℕ)) → HasBlank t → holds t.due k ≡ true → ((n : ℕ) → holds one n ≡ (reported n && eqb k n)) → ((n : ℕ) → holds new n ≡ (holds t.due n && not (holds one n))) →
@@ -65,9 +64,8 @@ cut_fixed s here a b x n facts stands is decided =
 pub copy_fixed : (s : Subject) (here : Matched) (a : NodeId) (first : Bool) (x n : ℕ) (facts : Facts) → NodeMatches s here (Star a first) → here.start < here.stop → x ≡ a.index → IsFacts (tree_at (nodes_in s) x) x facts →
     facts.length ≡ Some n → (n ≤ here.stop) × LastCopy (HasSpan (nodes_in s) (subject_text s) a.index) here.stop here.start (here.stop - n)
 copy_fixed s here a first x n facts stands some same is decided =
-    let R = HasSpan (nodes_in s) (subject_text s) a.index in
-    let long : AllLong R n = search (rules, all_long (tree_at (nodes_in s) x) (subject_text s) n) in
-    search (rules, copy_spans R here.stop here.start (here.stop - n), copies_long R here.stop n long here.start some (opened s here (Star a first) stands), long (here.stop - n) here.stop)
+    let long : AllLong (HasSpan (nodes_in s) (subject_text s) a.index) n = search (rules, all_long (tree_at (nodes_in s) x) (subject_text s) n) in
+    search (rules, copy_spans, copies_long _ here.stop n long here.start some (opened s here (Star a first) stands), long (here.stop - n) here.stop)
 
 -- Runs.
 
@@ -82,8 +80,7 @@ run_within (suc n) nodes arena ranges x c low inside decided =
   where
     by : ((y : ℕ) → y < x → repeated_set (tree_at nodes y) y ≡ Some c → IsRun nodes y c) → (m : Node) → slice_get nodes x ≡ Some m → repeated_set (tree_at nodes x) x ≡ Some c → IsRun nodes x c
     by below (Group k a) is h =
-        let inner : IsRun nodes a.index c = search (rules, ranges x (Group k a) is, tree_at-node nodes x (Group k a) arena is, below a.index) in
-        (in_group x k a is inner.0, inner.1)
+        search (rules, in_group, ranges x (Group k a) is, tree_at-node nodes x (Group k a) arena is, below a.index)
     by below (Star a first) is h =
         let here : (a.index ≡ c) × (is_one_set (tree_at nodes a.index) ≡ true) = search (rules, ranges x (Star a first) is, tree_at-node nodes x (Star a first) arena is) in
         let set = node_at nodes a.index (omega (arith, inside, ranges x (Star a first) is)) in

@@ -35,8 +35,8 @@ module _ (p : WrittenExpression) (t : Table) (w : List ℕ) (start place code o 
   dead_end : (noted : Option ℕ) → t.way.all_starts ≡ false → IsTrue flags.dead → EndsBelow p t.way w start (place + 1) noted → IsPassEnd t.way.all_starts (nodes_of t.way p) w (root_of p) (starts_of t.way.all_starts start w) noted
   dead_end noted single is =
       let none = row_empty _ w _ place _ t.way.mirrored _ _ arrived.1 (is_shown.1.0 is) in
-      let inside : root_of p < length (nodes_of t.way p) = omega (arith, table.expr.arena.nonempty, seen-length t.way.mirrored p) in
-      all_below _ w _ _ _ _ noted (λ k late some. dead _ w _ place some.0 k _ (seen-arena t.way.mirrored p table.expr.arena) (rw arrived.0 inside) none some.1 (omega (arith, (rw single at some.1).1)) (omega arith) (rw arrived.0 some.2))
+      all_below _ w _ _ _ _ noted (λ k late some. dead _ w _ place some.0 k _ (seen-arena t.way.mirrored p table.expr.arena) (rw arrived.0 (omega (arith, table.expr.arena.nonempty, seen-length t.way.mirrored p)))
+      none some.1 (omega (arith, (rw single at some.1).1)) (omega arith) (rw arrived.0 some.2))
 
   pub arrive_at : (noted : Option ℕ) (over : Bool) → noted ≡ option_or (then_some flags.ends place) end → (IsTrue over → IsTrue (is_over t.way.all_starts flags)) → PassIs p t w start (record { offset = o; place = place; end = noted; over = over })
   arrive_at noted over is_noted is_over =

@@ -1,34 +1,18 @@
 -- What becomes of one group of a match while all are decided from its end; so decided, they are those decided from the left.
-use Rattle.sedpass.proofs.Words.{rules, ◌≡◌, ℕ, suc, ◌<◌, ◌≤◌, Bool, true, false, List, [], ◌∷◌, length, Option, None, Some, refl, inl, inr, arith, replicate, eqb, slice_get, slice_set, slice_index_or, option_or, cond, cases_Bool, cases_lt, get_or-set_same, get_or-set_other, length-set, slice_get_past, unwrap_or-slice_get, Tree, null_string, byte_of, text_begin, text_end, sequence, either_of, grouped, any_copies, one_or_none, SpansOfGroups, forget, no_groups, groups_after, Captures, LastCopy, LastCut, only, then_copy, IsReport, Matches, groups_after-is, get_or_past, eqb_tells, Captures-unique, GroupState, is_due, settle, drop_groups, GroupIsIn, WalkEnters, IsFirstState, has_group, NoneDue, EntersGroups, TakesAtLeast, NoGroups}
+use Rattle.sedpass.proofs.Words.{rules, ◌≡◌, ℕ, suc, ◌<◌, ◌≤◌, Bool, true, false, List, [], ◌∷◌, length, Option, None, Some, refl, inl, inr, arith, replicate, eqb, slice_get, slice_set, slice_index_or, option_or, then_some, is_some, not, ◌&&◌, cond, cases_Bool, cases_lt, get_or-set_same, get_or-set_other, length-set, slice_get_past, unwrap_or-slice_get, Tree, null_string, byte_of, text_begin, text_end, sequence, either_of, grouped, any_copies, one_or_none, SpansOfGroups, forget, no_groups, groups_after, Captures, LastCopy, LastCut, only, then_copy, IsReport, Matches, groups_after-is, get_or_past, eqb_tells, Captures-unique, GroupState, is_due, settle, drop_groups, GroupIsIn, WalkEnters, IsFirstState, has_group, NoneDue, EntersGroups, TakesAtLeast, NoGroups}
 
 abbrev Span : Type 0
 Span = Option (ℕ × ℕ)
 
 -- the entry of the group, if there is one, after nothing or this is done to it
 abbrev pub lay : Option Span → Option Span → Option Span
-lay None d = None
-lay (Some v) None = Some v
 lay (Some v) (Some u) = Some u
-
--- the same where the group is due
-abbrev pub put : Bool → Option Span → Option Span → Option Span
-put true x d = lay x d
-put false x d = x
-
--- whether it is due after that
-abbrev pub left : Bool → Option Span → Bool
-left b None = b
-left b (Some u) = false
-
--- it is done where the test holds
-abbrev pub deed : Bool → Span → Option Span
-deed true v = Some v
-deed false v = None
+lay x d = x
 
 -- this becomes of group k from one state to the other
 pub record Takes (k : ℕ) (d : Option Span) (old new : GroupState) : Type 0 where
-  pub due : is_due new k ≡ left (is_due old k) d
-  pub span : slice_get new.spans k ≡ put (is_due old k) (slice_get old.spans k) d
+  pub due : is_due new k ≡ (not (is_some d) && is_due old k)
+  pub span : slice_get new.spans k ≡ cond (is_due old k) (lay (slice_get old.spans k) d) (slice_get old.spans k)
   pub long : length new.due ≡ length old.due
 
 -- the last copy
@@ -37,19 +21,19 @@ copy_spans R j i c (only _ lt r) = (omega arith, lt, r)
 copy_spans R j i c (then_copy _ k _ up low r rest most last) = let later = copy_spans R j k c last in (omega arith, later.1, later.2)
 
 -- one group is set
-set_at : (n k : ℕ) (v : Span) (g : SpansOfGroups) → slice_get (slice_set g n v) k ≡ lay (slice_get g k) (deed (eqb n k) v)
+set_at : (n k : ℕ) (v : Span) (g : SpansOfGroups) → slice_get (slice_set g n v) k ≡ lay (slice_get g k) (then_some (eqb n k) v)
 set_at n k v [] = refl
 set_at (suc n) (suc k) v (x ∷ g) = search (rules, eqb_tells n k, eqb_tells (suc n) (suc k), set_at n k v g)
 set_at n k v (x ∷ g) = search rules
 
-pub set_due : (n k : ℕ) (v : Span) (due : List Bool) → slice_index_or (slice_set due n false) k false ≡ left (slice_index_or due k false) (deed (eqb n k) v)
+pub set_due : (n k : ℕ) (v : Span) (due : List Bool) → slice_index_or (slice_set due n false) k false ≡ (not (is_some (then_some (eqb n k) v)) && slice_index_or due k false)
 set_due n k v due = search (rules, eqb_tells n k, cases_lt n (length due), get_or-set_same, get_or-set_other, get_or_past, length-set)
 
-pub settle_takes : (n k : ℕ) (v : Span) (s : GroupState) → Takes k (deed (eqb n k) v) s (settle n v s)
+pub settle_takes : (n k : ℕ) (v : Span) (s : GroupState) → Takes k (then_some (eqb n k) v) s (settle n v s)
 settle_takes n k v s = grind (arith, eqb_tells n k, cases_Bool (is_due s n), set_due, set_at, length-set)
 
 -- the groups of an expression are dropped, and forgotten
-pub drops : (t : Tree) (k : ℕ) (g : SpansOfGroups) → (slice_get (forget t g) k ≡ lay (slice_get g k) (deed (has_group t k) None)) × ((s : GroupState) → Takes k (deed (has_group t k) None) s (drop_groups t s))
+pub drops : (t : Tree) (k : ℕ) (g : SpansOfGroups) → (slice_get (forget t g) k ≡ lay (slice_get g k) (then_some (has_group t k) None)) × ((s : GroupState) → Takes k (then_some (has_group t k) None) s (drop_groups t s))
 drops (sequence a b) k g = search (rules, drops a k g, drops b k (forget a g))
 drops (either_of a b) k g = search (rules, drops a k g, drops b k (forget a g))
 drops (grouped n a) k g = search (rules, set_at n k None g, drops a k (slice_set g n None), settle_takes n k None)
@@ -75,12 +59,12 @@ module _ (k : ℕ) (w : List ℕ) where
   both a b i j c g old mid new cut one two = (two.0, (c, cut, (one.0, one.1, two.1)), option_or two.2 one.2, search rules, search rules)
 
   inside : (a e : Tree) (i j c d : ℕ) (g : SpansOfGroups) (old mid new : GroupState) → new ≡ drop_groups a mid → ((h : SpansOfGroups) → Captures a w c d (forget a g) h → Captures e w i j g h) → Ends a c d (forget a g) old mid → Ends e i j g old new
-  inside a e i j c d g old mid new is wrap one = (one.0, wrap one.0 one.1, option_or one.2 (deed (has_group a k) None), search (rules, one.3, drops a k g), search (rules, one.4, (drops a k g).1 mid))
+  inside a e i j c d g old mid new is wrap one = (one.0, wrap one.0 one.1, option_or one.2 (then_some (has_group a k) None), search (rules, one.3, drops a k g), search (rules, one.4, (drops a k g).1 mid))
 
   enclosed : (n : ℕ) (a : Tree) (i j : ℕ) (g : SpansOfGroups) (old mid new : GroupState) → new ≡ drop_groups a mid → Ends a i j (forget (grouped n a) g) (settle n (Some (i, j)) old) mid → Ends (grouped n a) i j g old new
   enclosed n a i j g old mid new is one =
       let v = Some (i, j) in
-      (slice_set one.0 n v, (one.0, one.1, refl), option_or (deed (eqb n k) v) (option_or one.2 (deed (has_group a k) None)), search (rules, drops (grouped n a) k g, set_at n k v one.0), search (rules, one.4, settle_takes n k v old, (drops a k g).1 mid))
+      (slice_set one.0 n v, (one.0, one.1, refl), option_or (then_some (eqb n k) v) (option_or one.2 (then_some (has_group a k) None)), search (rules, drops (grouped n a) k g, set_at), search (rules, one.4, settle_takes n k v old, (drops a k g).1 mid))
 
   walked : (e : Tree) (i j n : ℕ) (old new : GroupState) → Matches e w i j → WalkEnters e w i j old new n → (g : SpansOfGroups) → Ends e i j g old new
   walked null_string i j n old new spans walk g = (g, refl, None, search rules, search rules)
@@ -88,9 +72,8 @@ module _ (k : ℕ) (w : List ℕ) where
   walked text_begin i j n old new spans walk g = (g, refl, None, search rules, search rules)
   walked text_end i j n old new spans walk g = (g, refl, None, search rules, search rules)
   walked other i j n old new spans (inl by) g =
-      let h = groups_after other w i j g in
       let c = groups_after-is other w i j g spans in
-      (h, c, cond (has_group other k) (slice_get h k) None, captured other i j g h c, search (rules, by.0 k, cases_Bool (has_group other k)))
+      (groups_after other w i j g, c, cond (has_group other k) (slice_get (groups_after other w i j g) k) None, captured other i j g (groups_after other w i j g) c, search (rules, by.0 k, cases_Bool (has_group other k)))
   walked (sequence a b) i j n old new spans (inr (p, q, is, c, cut, mid, second, first)) g =
       let one = walked a i c q mid new cut.left first g in
       both a b i j c g old mid new cut one (walked b c j p old mid cut.right second one.0)

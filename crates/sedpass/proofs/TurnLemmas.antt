@@ -53,24 +53,18 @@ pub seq_turned : (s : Subject) (here : Matched) (a b : NodeId) (k : ℕ) (state 
     (HasNoKnownLength (nodes_in s) a.index → HasNoKnownLength (nodes_in s) b.index → TakesAtLeast before after (k - here.start)) →
     NodeTurned s here (Seq a b) state state r r' (Two (record { node = b.index; start = k; stop = here.stop }) (Apart (record { node = a.index; start = here.start; stop = k }))) before after
 seq_turned s here a b k state r r' before after stands ends cut cost looks =
-    let up = Matches-forward (tree_at (nodes_in s) a.index) (subject_text s) here.start k cut.left in
-    let on = Matches-forward (tree_at (nodes_in s) b.index) (subject_text s) k here.stop cut.right in
-    let turn : IsTurn s here state state (Two (record { node = b.index; start = k; stop = here.stop }) (Apart (record { node = a.index; start = here.start; stop = k }))) 1 = record {
-      run = λ rest f m run.
-          let next = run.4 in
-          (next.0, 1 + (run.1 + next.1), next.2, close_walk s here (Seq a b) stands state next.0 _ (inr (run.1, next.1, refl, k, cut, run.0, run.3, next.3)), next.4, omega (arith, run.5, next.5));
-      ready = search (rules, part_inside s here (Seq a b) stands a.index (inl refl), part_inside s here (Seq a b) stands b.index (inr refl));
-      less = omega (arith, long s here (Seq a b) stands);
-    } in
-    let nodes = nodes_in s in
     let depth = deep s here (Seq a b) stands in
     record {
-      turn = turn;
+      turn = record {
+        run = λ rest f m run. (run.4.0, 1 + (run.1 + run.4.1), run.4.2, close_walk s here (Seq a b) stands state run.4.0 _ (inr (run.1, run.4.1, refl, k, cut, run.0, run.3, run.4.3)), run.4.4, omega (arith, run.5, run.4.5));
+        ready = search (rules, Matches-forward, part_inside s here (Seq a b) stands a.index (inl refl), part_inside s here (Seq a b) stands b.index (inr refl));
+        less = omega (arith, long s here (Seq a b) stands);
+      };
       goes = search (rules, last_of here.node b.index (Seq a b) stands.is refl ends.0);
       cost = λ some. (
         cost.0,
-        parts_paid (length nodes) _ (group_depth (tree_at nodes a.index)) (group_depth (tree_at nodes b.index)) here.start k here.stop (owed_region (length nodes) r here.start) (owed_region (length nodes) r' k)
-            (size (tree_at nodes a.index)) (size (tree_at nodes b.index)) _ before after some (omega (arith, depth)) (omega (arith, depth)) up on (omega (arith, long s here (Seq a b) stands)) cost.1,
+        parts_paid (length (nodes_in s)) _ _ _ here.start k here.stop _ _ _ _ _ before after some (omega (arith, depth)) (omega (arith, depth))
+            (search (rules, Matches-forward, cut.left)) (search (rules, Matches-forward, cut.right)) (omega (arith, long s here (Seq a b) stands)) cost.1,
       );
       looks = looks;
     }
@@ -82,10 +76,9 @@ pub alt_turned : (s : Subject) (here : Matched) (a b : NodeId) (c : ℕ) (state 
     NodeTurned s here (Alt a b) state state r r' (One (record { node = c; start = here.start; stop = here.stop })) before after
 alt_turned s here a b c state r r' before after stands ends which cost looks =
     let part : IsPart (Alt a b) c = search rules in
-    let at : HasSpan (nodes_in s) (subject_text s) c here.start here.stop = search (rules, opened s here (Alt a b) stands) in
     let turn : IsTurn s here state state (One (record { node = c; start = here.start; stop = here.stop })) 1 = record {
       run = λ rest f m run. (run.0, 1 + run.1, run.2, close_walk s here (Alt a b) stands state run.0 _ (search (rules, run.3)), run.4, omega (arith, run.5));
-      ready = search (rules, part_inside s here (Alt a b) stands c part);
+      ready = search (rules, part_inside s here (Alt a b) stands c part, opened s here (Alt a b) stands);
       less = search (rules, long s here (Alt a b) stands);
     } in
     search (rules, last_of here.node c (Alt a b) stands.is part ends.0, inner_turned s here (Alt a b) stands c r r' before after)
@@ -94,30 +87,22 @@ alt_turned s here a b c state r r' before after stands ends which cost looks =
 pub group_turned : (s : Subject) (here : Matched) (k : ℕ) (a : NodeId) (state : GroupState) (r : Region) (steps : ℕ) → NodeMatches s here (Group k a) → EndsRegion s r here →
     NodeTurned s here (Group k a) state (settle k (Some (here.start, here.stop)) state) r r (Two (record { node = a.index; start = here.start; stop = here.stop }) (Forget a.index)) steps steps
 group_turned s here k a state r steps stands ends =
-    search (
-      rules,
-      last_of here.node a.index (Group k a) stands.is refl ends.0,
-      inner_turned s here (Group k a) stands a.index r r steps steps,
-      inner_turn s here (Group k a) stands a here.start state
-          (settle k (Some (here.start, here.stop)) state) refl refl (omega arith) stands.there.up (opened s here (Group k a) stands) (λ mid m walk. inr (m, refl, mid, walk, refl)),
-    )
+    let turn = inner_turn s here (Group k a) stands a here.start state (settle k (Some (here.start, here.stop)) state) refl refl (omega arith) stands.there.up (opened s here (Group k a) stands) (λ mid m walk. inr (m, refl, mid, walk, refl)) in
+    search (rules, turn, last_of here.node a.index (Group k a) stands.is refl ends.0, inner_turned s here (Group k a) stands a.index r r steps steps)
 
 -- a repetition goes on with its last copy, in a region of its own
 pub star_turned : (s : Subject) (here : Matched) (a : NodeId) (first : Bool) (c : ℕ) (state : GroupState) (r r' : Region) (before after : ℕ) → NodeMatches s here (Star a first) → IsCopyFrom s here a first (Some c) →
     r'.root ≡ a.index → r'.end ≡ here.stop → Takes before after (owed_region (length (nodes_in s)) r here.start + 72 * length (nodes_in s) * (here.stop - here.start) + 1) → LooksAt s here (Star a first) None before after →
     NodeTurned s here (Star a first) state state r r' (Two (record { node = a.index; start = c; stop = here.stop }) (Forget a.index)) before after
 star_turned s here a first c state r r' before after stands copy root end cost looks =
-    let R = HasSpan (nodes_in s) (subject_text s) a.index in
-    let spans : (here.start ≤ c) × (c ≤ here.stop) × R c here.stop = search (rules, copy_spans R here.stop here.start c) in
-    let next : Matched = record { node = a.index; start = c; stop = here.stop } in
-    let m = length (nodes_in s) in
+    let spans : (here.start ≤ c) × (c ≤ here.stop) × HasSpan (nodes_in s) (subject_text s) a.index c here.stop = search (rules, copy_spans) in
     record {
       turn = inner_turn s here (Star a first) stands a c state state refl refl spans.0 spans.1 spans.2 (λ mid m walk. search rules);
       goes = (all_of a.index (sym root), sym end);
       cost = λ some. (
         cost.0,
-        copy_paid m _ (group_depth (tree_at (nodes_in s) a.index)) (here.stop - here.start) (here.stop - c) (owed_region m r here.start) (match_cost (nodes_in s) r' next) (size (tree_at (nodes_in s) a.index)) _ before after
-            some (deep s here (Star a first) stands) (omega (arith, spans.0)) (begun_paid (nodes_in s) r' next end) (omega (arith, long s here (Star a first) stands)) cost.1,
+        copy_paid (length (nodes_in s)) _ _ (here.stop - here.start) (here.stop - c) _ _ _ _ before after some (deep s here (Star a first) stands) (omega (arith, spans.0))
+            (begun_paid (nodes_in s) r' (record { node = a.index; start = c; stop = here.stop }) end) (omega (arith, long s here (Star a first) stands)) cost.1,
       );
       looks = looks;
     }
@@ -134,13 +119,8 @@ pub opt_turned : (s : Subject) (here : Matched) (a : NodeId) (first : Bool) (sta
     (here.start < here.stop) ⊎ ((here.stop ≤ here.start) × (IsTrue first × HasSpan (nodes_in s) (subject_text s) a.index here.start here.start)) → Takes before after 1 →
     NodeTurned s here (Opt a first) state state r r (Two (record { node = a.index; start = here.start; stop = here.stop }) (Forget a.index)) before after
 opt_turned s here a first state r before after stands ends which cost =
-    let at : HasSpan (nodes_in s) (subject_text s) a.index here.start here.stop = search (rules, opened s here (Opt a first) stands) in
-    search (
-      rules,
-      last_of here.node a.index (Opt a first) stands.is refl ends.0,
-      inner_turned s here (Opt a first) stands a.index r r before after,
-      inner_turn s here (Opt a first) stands a here.start state state refl refl (omega arith) stands.there.up at (λ mid m walk. search rules),
-    )
+    let turn = inner_turn s here (Opt a first) stands a here.start state state refl refl (omega arith) stands.there.up (search (rules, opened s here (Opt a first) stands)) (λ mid m walk. search rules) in
+    search (rules, turn, last_of here.node a.index (Opt a first) stands.is refl ends.0, inner_turned s here (Opt a first) stands a.index r r before after)
 
 pub opt_done : (s : Subject) (here : Matched) (a : NodeId) (first : Bool) (state : GroupState) (r : Region) (before after : ℕ) → NodeMatches s here (Opt a first) → here.stop ≤ here.start →
     ((IsTrue first × HasSpan (nodes_in s) (subject_text s) a.index here.start here.start) → ⊥) → Takes before after 1 → NodeTurned s here (Opt a first) state state r r Done before after

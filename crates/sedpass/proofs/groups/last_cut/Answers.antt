@@ -55,9 +55,8 @@ takes_byte c =
 pub returns-then-not-marks-clause-cut : goal.returns-then-not-marks-clause-cut
 returns-then-not-marks-clause-cut c =
     let at = c.requires in
-    let here = (goal.at.returns-then-not-marks-clause-cut c).After-marks in
     stops_at_cut _ _ _ c.args.here.stop c.args.here.node c.args.a c.args.b at.stands.arena at.ends.0 at.stands.is c.args.here.start c.args.here.start at.stands.there.at
-    (omega arith, λ q low before. absurd (omega arith), λ met. search (rules, (takes_byte here).1 met))
+    (omega arith, λ q low before. absurd (omega arith), λ met. search (rules, (takes_byte (goal.at.returns-then-not-marks-clause-cut c).After-marks).1 met))
 
 -- where the passes cease to meet
 ceases : (c : After-cut) → CeasesAt (nodes_in c.args.subject) (subject_text c.args.subject) c.args.kept.now.region.root (one_start c.args.here.stop) c.args.a.index c.args.here.start c.cut.result

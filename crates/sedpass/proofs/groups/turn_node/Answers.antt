@@ -1,4 +1,4 @@
-use Rattle.sedpass.proofs.Words.{rules, ◌≡◌, ◌+◌, ◌≤◌, Some, refl, inl, ◌∙◌, Alt, HasBlank, known_groups, spans_in, last_of, settle, arith, length, ◌↔◌, IsTrue, IsCounted, TakesAtLeast, CostsWithin, HasSpan, one_start, KeepsGroupDesk, SameKept, nodes_in, subject_text, owed_region}
+use Rattle.sedpass.proofs.Words.{rules, ◌≡◌, ◌+◌, ◌≤◌, Some, refl, inl, ◌∙◌, HasBlank, known_groups, spans_in, last_of, settle, arith, length, ◌↔◌, IsTrue, IsCounted, TakesAtLeast, CostsWithin, HasSpan, one_start, KeepsGroupDesk, SameKept, nodes_in, subject_text, owed_region}
 use Rattle.sedpass.proofs.DecideLemmas.{flags_at, settled}
 use Rattle.sedpass.proofs.TurnLemmas.{alt_turned, group_turned, leaf_turned, opt_done, opt_turned, seq_turned, star_done, star_turned}
 use Rattle.sedpass.proofs.groups.turn_node.Goals as goal
@@ -25,8 +25,7 @@ looked c =
           let null = rw c.index-left.ensures at w.is_null-spans.ensures.null in
           rw (w.spans-is, w.tables-is, w.kept-is, w.steps-is) (rw (← w.if-here.true) null, search (rules, at.desk), search rules, omega (arith, w.is_null-spans.ensures.cost), omega (arith, w.is_null-spans.ensures.cost))
       | else-here w ↦
-          let last = last_of here.node c.in-Alt.a.index (Alt c.in-Alt.a c.in-Alt.b) at.stands.is (inl refl) at.ends.0 in
-          let both = reaches_ends _ (subject_text c.args.subject) _ c.in-Alt.a.index here.start (one_start c.args.kept.now.region.end) at.stands.arena last in
+          let both = reaches_ends _ (subject_text c.args.subject) _ c.in-Alt.a.index here.start (one_start c.args.kept.now.region.end) at.stands.arena (last_of here.node c.in-Alt.a.index _ at.stands.is (inl refl) at.ends.0) in
           let look = w.marks-spans.ensures in
           let shown = rw (c.index-left.ensures, at.desk.one_end) at look.marked in
           let spans : IsTrue w.marks-spans.result ↔ HasSpan (nodes_in c.args.subject) (subject_text c.args.subject) c.in-Alt.a.index here.start here.stop = (
