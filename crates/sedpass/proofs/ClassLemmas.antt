@@ -30,11 +30,6 @@ parted_more sets n members alone old of count next is parted more =
     let apart : (b other : ℕ) → b < 256 → other < 256 → IsTrue (slice_index_or alone b false) → at of other ≡ at of b → other ≡ b = λ b other low low' marked e. parted.apart b other low low' marked (more.alike other b low' low e).0 in
     search (rules, same_Some, cases_eq)
 
--- a set of one byte that is marked parts nothing more
-pub alone_more : (sets : List (List Bool)) (n : ℕ) (members alone : List Bool) (b : ℕ) (of : List ℕ) (count : ℕ) → slice_get sets n ≡ Some members → ((c : ℕ) → IsTrue (has members c) → c ≡ b) →
-    IsTrue (slice_index_or alone b false) → AreParted sets n of count alone → AreParted sets (n + 1) of count alone
-alone_more sets n members alone b of count is sole marked parted = search rules
-
 -- a byte is marked that gets a class of its own
 pub apart_more : (sets : List (List Bool)) (n : ℕ) (alone : List Bool) (b : ℕ) (of : List ℕ) (count : ℕ) → count < 256 → b < 256 → AreParted sets n of count alone →
     AreParted sets n (slice_set of b count) (count + 1) (slice_set alone b true)

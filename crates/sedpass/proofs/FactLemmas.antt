@@ -1,6 +1,6 @@
 -- What is found out of each node once, and what it means for passes.
 use Rattle.std.proofs.lemmas.List.{get_or_append_left}
-use Rattle.sedpass.proofs.Words.{rules, ◌≡◌, ℕ, zero, suc, ◌+◌, ◌<◌, ◌≤◌, ◌⊎◌, ◌↔◌, Bool, true, false, ◌&&◌, List, [], ◌∷◌, ◌++◌, length, Some, IsTrue, refl, ap, inl, inr, arith, bit_and, bit_or, ◌||◌, slice_get, eqb, option_eq, bit_at_and, bit_at_or, bit_at-lt, cases_lt, same_Some, none-some, size, IsArena, IsExpr, IsPart, FollowsParts, mirror, seen, Node, Seq, Alt, Group, Star, Opt, tree_at-node, tree_at-mirror, seen-length, Matches, no_copy, IsPlace, Matches-forward, node_at, Facts, PlaceKind, Tree, byte_of, sequence, either_of, grouped, WrittenExpression, tree_of, tree_at, size_positive, nullable, null_in, null_at, is_one_set, IsFacts, AreFacts, IsShort, length_of, at_begin, at_edge, IsNodeRange, AreNull, SameNulls, not, ◌∙◌, AreParents, seen-node, slice_get_within, slice_index_or}
+use Rattle.sedpass.proofs.Words.{rules, ◌≡◌, ℕ, zero, suc, ◌+◌, ◌<◌, ◌≤◌, ◌⊎◌, ◌↔◌, Bool, true, false, ◌&&◌, List, [], ◌∷◌, ◌++◌, length, Some, IsTrue, refl, ap, inl, inr, arith, bit_and, bit_or, ◌||◌, slice_get, eqb, option_eq, bit_at_and, bit_at_or, bit_at-lt, cases_lt, same_Some, none-some, size, IsArena, IsExpr, IsPart, FollowsParts, mirror, seen, Node, Seq, Alt, Group, Star, Opt, tree_at-node, tree_at-mirror, seen-length, Matches, no_copy, IsPlace, Matches-forward, node_at, Facts, PlaceKind, Tree, sequence, either_of, grouped, WrittenExpression, tree_of, tree_at, size_positive, nullable, null_in, null_at, is_one_set, IsFacts, AreFacts, length_of, at_begin, at_edge, IsNodeRange, AreNull, SameNulls, not, ◌∙◌, AreParents, seen-node, slice_get_within, slice_index_or}
 use Rattle.sedpass.proofs.LengthLemmas.{sum_parts, same_parts}
 use Rattle.sedpass.proofs.RowLemmas.{part_mirror, range_of, mirror_range}
 use Rattle.sedpass.proofs.GroupSetLemmas.{two_bits}
@@ -9,7 +9,6 @@ use Rattle.sedpass.proofs.GroupSetLemmas.{two_bits}
 module _ (w : List ℕ) (p : ℕ) (first last : Bool) (there : IsPlace w p first last) where
   -- the null string at a place of the kind
   pub nullable_is : (t : Tree) → IsTrue (nullable first last t) ↔ Matches t w p p
-  nullable_is (byte_of members) = search rules
   nullable_is (sequence a b) = grind (arith, nullable_is a, nullable_is b, Matches-forward a w p, Matches-forward b w)
   nullable_is (either_of a b) = search (rules, nullable_is a, nullable_is b)
   nullable_is (grouped k a) = nullable_is a
@@ -44,9 +43,7 @@ module _ (nodes : List Node) (groups : ℕ) (expr : IsExpr nodes groups) where
   by_parts : (x low mid a b : ℕ) (node : Node) → slice_get nodes x ≡ Some node → IsPart node a → IsPart node b → ((c : ℕ) → IsPart node c → (a ≡ c) ⊎ (b ≡ c)) →
       (mid ≤ a + 1) × (low ≤ mid) × (a < x) × (b + 1 ≡ x) × (low + size (tree_at nodes a) ≡ a + 1) × (mid + size (tree_at nodes b) ≡ b + 1) → RangesBelow x → IsNodeRange nodes low x
   by_parts x low mid a b node is left right only long below =
-      let range = below a low (omega (arith, long)) (omega (arith, long)) in
-      let range' = below b mid (omega (arith, long)) (omega (arith, long)) in
-      range_of nodes x low node is (omega (arith, long)) (λ c from to. search (rules, cases_lt a c)) (λ d c that tree. search (rules, only d that))
+      range_of nodes x low node is (omega (arith, long)) (λ c from to. search (rules, cases_lt a c, below a low, below b mid)) (λ d c that tree. search (rules, only d that, below a low, below b mid))
 
   range_by : (x low : ℕ) (node : Node) → slice_get nodes x ≡ Some node → FollowsParts nodes x node → RangesBelow x → low + size (tree_of (tree_at nodes) node) ≡ x + 1 → IsNodeRange nodes low x
   range_by x low (Seq a b) is follows below long = by_parts x low (a.index + 1) a.index b.index _ is (inl refl) (inr refl) (λ c part. part) (search (rules, size_positive)) below
@@ -75,14 +72,11 @@ pub shown_set : (a : Tree) (x : ℕ) (part : Facts) → IsFacts a x part → par
 shown_set a x part shown low long = search (rules, shown.low, shown.long, size_positive)
 
 -- an expression has no longer matches of one length than nodes
-length_short : (t : Tree) (n : ℕ) → length_of t ≡ Some n → n ≤ size t
+pub length_short : (t : Tree) (n : ℕ) → length_of t ≡ Some n → n ≤ size t
 length_short (sequence a b) n is = grind (arith, sum_parts (length_of a) (length_of b) n is, length_short a, length_short b)
-length_short (either_of a b) n is = grind (arith, same_parts (length_of a) (length_of b) n is, length_short a)
+length_short (either_of a b) n is = search (rules, same_parts (length_of a) (length_of b) n is, length_short a n)
 length_short (grouped k a) n is = omega (arith, length_short a n is)
 length_short other n is = search (rules, same_Some)
-
-pub shown_short : (a : Tree) (x : ℕ) (part : Facts) → IsFacts a x part → size a ≤ 65536 → IsShort part.length
-shown_short a x part shown small = search (rules, length_short)
 
 -- what is known of one more
 last_shown : (shown : List Facts) (next fact : Facts) (x : ℕ) → slice_get (shown ++ next ∷ []) x ≡ Some fact → (slice_get shown x ≡ Some fact) ⊎ ((x ≡ length shown) × (fact ≡ next))
@@ -94,16 +88,13 @@ pub facts_more : (nodes : List Node) (arena : IsArena nodes) (shown : List Facts
     IsFacts (tree_of (tree_at nodes) node) (length shown) next → AreFacts nodes (shown ++ next ∷ [])
 facts_more nodes arena shown node next facts there here x fact is = search (rules, last_shown shown next fact x is, facts x fact, tree_at-node nodes (length shown) node arena there)
 
-noted_part : (e : WrittenExpression) (p x : ℕ) (node : Node) → slice_get e.nodes p ≡ Some node → IsPart node x → (mirrored : Bool) (other : Node) → slice_get (seen mirrored e).nodes p ≡ Some other → IsPart other x
-noted_part e p x node is part mirrored other at = search (rules, seen-node mirrored e p node is, same_Some, part_mirror)
-
 -- the node that is noted for a part has it, mirrored or not
 pub parent_is : (e : WrittenExpression) (parents : List ℕ) (x noted : ℕ) → IsArena e.nodes → AreParents e.nodes parents (length e.nodes) → x + 1 < length e.nodes → noted ≡ slice_index_or parents x 0 →
     (noted < length e.nodes) × (x < noted) × ((mirrored : Bool) (node : Node) → slice_get (seen mirrored e).nodes noted ≡ Some node → IsPart node x)
 parent_is e parents x noted arena notes inside is =
     let p = arena.each x inside in
     let low = slice_get_within e.nodes p.0 p.1 p.2 in
-    rw (is ∙ notes p.0 x p.1 low p.2 p.3) (low, arena.below p.0 x p.1 p.2 p.3, λ mirrored node at. noted_part e p.0 x p.1 p.2 p.3 mirrored node at)
+    rw (is ∙ notes p.0 x p.1 low p.2 p.3) (low, arena.below p.0 x p.1 p.2 p.3, λ mirrored node at. search (rules, seen-node mirrored e p.0 p.1 p.2, same_Some, part_mirror))
 
 -- a node was noted for its parts
 pub parents_more : (nodes : List Node) (arena : IsArena nodes) (old after : List ℕ) (x : ℕ) (node : Node) → length old ≡ x → slice_get nodes x ≡ Some node → ((c : ℕ) → IsPart node c → slice_index_or after c 0 ≡ x) →

@@ -1,12 +1,10 @@
-use Rattle.sedpass.proofs.Words.{arith, rules, slice_get_within}
-use Rattle.sedpass.proofs.FactLemmas.{null_both, null_either, shown_short}
+use Rattle.sedpass.proofs.Words.{rules, slice_get_within}
+use Rattle.sedpass.proofs.FactLemmas.{null_both, null_either, length_short}
 use Rattle.sedpass.proofs.nodes.facts_of.Goals as goal
 
 pub returns-in-Seq : goal.returns-in-Seq
 returns-in-Seq c nodes groups expr facts is =
-    let follows = expr.ranges _ _ (rw c.in-Seq.is at is) in
-    let inside = slice_get_within nodes _ _ is in
-    rw c.in-Seq.is (search (rules, null_both, shown_short, facts _ _ c.of_part-left.ensures, facts _ _ c.of_part-right.ensures, expr.sizes c.in-Seq.a.index (omega (arith, follows.0, inside)), expr.few))
+    rw c.in-Seq.is (search (rules, null_both, length_short, facts _ _ c.of_part-left.ensures, facts _ _ c.of_part-right.ensures, expr.ranges _ _ (rw c.in-Seq.is at is), slice_get_within nodes _ _ is, expr.sizes c.in-Seq.a.index, expr.few))
 
 pub returns-in-Alt : goal.returns-in-Alt
 returns-in-Alt c nodes groups expr facts is =

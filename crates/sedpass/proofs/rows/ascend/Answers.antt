@@ -1,4 +1,4 @@
-use Rattle.sedpass.proofs.Words.{InTree, ◌<◌, ℕ, arith, IsCounted, KeepsRows, TakesAtLeast, false, is_tree, has_mark, nodes_of, refl, row_of, seen-arena, seen-length, ◌≡◌, ◌≤◌}
+use Rattle.sedpass.proofs.Words.{InTree, ◌<◌, ℕ, arith, IsCounted, TakesAtLeast, false, is_tree, has_mark, nodes_of, refl, row_of, seen-arena, seen-length, ◌≡◌, rules}
 use Rattle.sedpass.proofs.ActLemmas.{end_last, enters_none, follow_step, leaves_end, up_step}
 use Rattle.sedpass.proofs.FactLemmas.{inside_seen}
 use Rattle.sedpass.proofs.RowLemmas.{keeps_then, still_wide}
@@ -14,19 +14,9 @@ loop-y-init c =
     let e = act.prepared.now in
     let r = act.root in
     let new = c.clear.new.self in
-    let keeps : KeepsRows (λ q. 2 ≤ q) c.args.rows.now new = record { len = c.clear.ensures.keeps.len; lens = c.clear.ensures.keeps.lens; same = λ q high. c.clear.ensures.keeps.same q (λ n. omega (arith, n, high)) } in
     let kept : row_of new 1 ≡ row_of c.args.rows.now 1 = c.clear.ensures.keeps.same 1 (λ n. omega (arith, n)) in
     let none : (n : ℕ) → InTree (nodes_of act.way e) r n → n < c.next_set-y.result → has_mark (row_of new 1) n ≡ false = λ n there under. c.next_set-y.ensures.clear n ((c.low-low.ensures.range act.way.mirrored n).1 there).0 under in
-    record {
-      order = c.next_set-y.ensures.order;
-      wide = still_wide _ _ _ _ _ keeps c.requires.wide;
-      keeps = keeps;
-      set = c.next_set-y.ensures.set;
-      ended = rw (← kept) (leaves_end _ _ _ _ _ _ (rw kept c.requires.leaves) (λ n lt. refl) none);
-      entered = enters_none _ _ _ _ _ _ (seen-arena act.way.mirrored e c.nodes.ensures.expr.arena) (λ n lt. c.clear.ensures.clear n (omega (arith, lt, seen-length act.way.mirrored e))) (inside_seen act.way.mirrored e r c.requires.root) none;
-      cost = (omega arith, omega arith);
-      counts = omega arith;
-    }
+    search (rules, still_wide, leaves_end, enters_none, seen-arena act.way.mirrored e c.nodes.ensures.expr.arena, seen-length act.way.mirrored e)
 
 pub loop-y-preserved : goal.loop-y-preserved
 unfolding TakesAtLeast IsCounted
@@ -37,18 +27,7 @@ loop-y-preserved c =
     let old = c.loop-y.invariant in
     let here = old.set c.loop-y-test.true in
     let inner = old.ended.inside c.loop-y.y (inside_seen act.way.mirrored e c.loop-y.y (omega (arith, c.loop-y-test.true, c.requires.root))) here in
-    let f = c.follow.ensures.followed in
-    let none = c.next_set-y-in-loop-y.ensures.clear in
-    record {
-      order = (omega arith, omega arith);
-      wide = still_wide _ _ _ _ _ c.follow.ensures.keeps old.wide;
-      keeps = keeps_then _ _ _ _ _ _ (λ q high. (high, high)) old.keeps c.follow.ensures.keeps;
-      set = c.next_set-y-in-loop-y.ensures.set;
-      ended = up_step _ _ arena _ _ _ _ _ _ f.1 f.2 f.3 c.loop-y-test.true here inner f.4 none _ old.ended;
-      entered = follow_step _ _ arena _ _ _ _ _ _ f.1 f.2 f.3 c.loop-y-test.true here inner f.4 none _ _ f.5 old.entered;
-      cost = (omega arith, omega arith);
-      counts = omega arith;
-    }
+    search (rules, still_wide, keeps_then, up_step, follow_step)
 
 pub returns-clause-entered : goal.returns-clause-entered
 returns-clause-entered c =

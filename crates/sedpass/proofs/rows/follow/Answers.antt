@@ -1,4 +1,4 @@
-use Rattle.sedpass.proofs.Words.{Act, AddsMarks, EndsAfter, IsPart, IsTrue, ◌↔◌, List, Bool, NodeId, Seq, Star, StartsAfter, ap, arith, eq-eqb, inr, length, null_in, refl, row_of, slice_set, sym, true, true≢false, ℕ, ◌<◌, ◌∙◌, ◌≡◌}
+use Rattle.sedpass.proofs.Words.{Act, AddsMarks, EndsAfter, IsPart, IsTrue, ◌↔◌, List, Bool, NodeId, Seq, Star, StartsAfter, ap, arith, eq-eqb, inr, length, null_in, refl, row_of, slice_set, sym, true, true≢false, ℕ, ◌<◌, ◌∙◌, ◌≡◌, rules}
 use Rattle.sedpass.proofs.ActLemmas.{adds_none, adds_one, none_begins, other_ends, second_begins, seq_ends}
 use Rattle.sedpass.proofs.rows.follow.Goals as goal
 use Rattle.sedpass.proofs.rows.follow.Goals.{After-look, After-null_at, in_default-via-in-Seq+else-index-y, in_default-via-in_default}
@@ -30,9 +30,8 @@ module _ (c : After-null_at) where
 
   begins : (after : List Bool) → after ≡ row_of c.set.new.self 0 → AddsMarks (row_of c.args.rows.now 0) after (StartsAfter (null c.args.act) c.look.result c.args.y)
   begins after is =
-      let low = c.look.ensures.arena.below c.parent-parent.result c.in-Seq.b.index c.look.result c.look.ensures.node (rw c.in-Seq.is (inr refl)) in
       rw c.in-Seq.is (second_begins (null c.args.act) c.in-Seq.a c.in-Seq.b c.args.y apart at _ after (is ∙ c.set.ensures.marks ∙ ap (λ x. slice_set (row_of c.args.rows.now 0) x true) c.index-b.ensures)
-      (omega (arith, low, c.parent-parent.ensures.inside, c.requires.wide.2 0 (omega (arith, c.requires.wide.1)))))
+      (omega (arith, c.look.ensures.arena.below c.parent-parent.result c.in-Seq.b.index c.look.result c.look.ensures.node (rw c.in-Seq.is (inr refl)), c.parent-parent.ensures.inside, c.requires.wide.2 0 (omega (arith, c.requires.wide.1)))))
 
 pub returns-then-null_at-clause-followed : goal.returns-then-null_at-clause-followed
 returns-then-null_at-clause-followed c =
@@ -45,8 +44,7 @@ pub returns-else-null_at-clause-followed : goal.returns-else-null_at-clause-foll
 returns-else-null_at-clause-followed c =
     let n = (goal.at.returns-else-null_at-clause-followed c).After-null_at in
     let kept : row_of c.set.new.self 1 ≡ row_of c.args.rows.now 1 = c.set.ensures.keeps.same 1 (λ e. omega (arith, e)) in
-    let stays = λ (k : ℕ) (h : (k ≡ c.parent-parent.result) × EndsAfter (null c.args.act) c.look.result c.args.y). true≢false (sym ((ends_null n).0 h.1) ∙ c.if-null_at.false) in
-    (c.parent-parent.result, c.look.result, c.look.ensures.node, part (goal.at.returns-else-null_at-clause-followed c).After-look, rw kept (adds_none _ _ stays), begins n _ refl)
+    (c.parent-parent.result, c.look.result, c.look.ensures.node, part (goal.at.returns-else-null_at-clause-followed c).After-look, rw kept (adds_none _ _ (λ k h. true≢false (sym ((ends_null n).0 h.1) ∙ c.if-null_at.false))), begins n _ refl)
 
 pub returns-in-Star-clause-followed : goal.returns-in-Star-clause-followed
 returns-in-Star-clause-followed c =
@@ -55,16 +53,14 @@ returns-in-Star-clause-followed c =
     let is_after = c.set-in-Star-2.ensures.keeps.same 0 (λ e. omega (arith, e)) ∙ c.set-in-Star.ensures.marks in
     let own = rw c.in-Star.is at (part f) in
     let end = ends f _ is_ended (rw c.in-Star.is (eq-eqb c.in-Star.field-0.index c.args.y own)) in
-    let room' = room f 0 c.args.y (omega arith) (omega (arith, c.requires.there, c.requires.root)) in
-    let begin = adds_one _ _ c.args.y (StartsAfter (null c.args.act) c.look.result c.args.y) is_after room' (rw c.in-Star.is (own, eq-eqb c.in-Star.field-0.index c.args.y own)) (λ n told. sym (rw c.in-Star.is at told.0) ∙ own) in
+    let begin = adds_one _ _ c.args.y (StartsAfter (null c.args.act) c.look.result c.args.y) is_after (search (rules, room f 0)) (rw c.in-Star.is (own, eq-eqb c.in-Star.field-0.index c.args.y own)) (λ n told. sym (rw c.in-Star.is at told.0) ∙ own) in
     (c.parent-parent.result, c.look.result, c.look.ensures.node, part f, end, begin)
 
 pub returns-in_default-clause-followed : goal.returns-in_default-clause-followed
 returns-in_default-clause-followed c =
     let f = (goal.at.returns-in_default-clause-followed c).After-look in
+    let not_first : (a b : NodeId) → c.look.result ≡ Seq a b → a.index ≡ c.args.y → ⊥ = λ a b e at. search (rules, c.in_default.branch) in
+    let no_star : (a : NodeId) (first : Bool) → c.look.result ≡ Star a first → ⊥ = λ a first e. search (rules, c.in_default.branch) in
     let kept : row_of c.set-in_default.new.self 0 ≡ row_of c.args.rows.now 0 = c.set-in_default.ensures.keeps.same 0 (λ e. omega (arith, e)) in
-    let not_first : (a b : NodeId) → c.look.result ≡ Seq a b → a.index ≡ c.args.y → ⊥ = λ a b e at.
-    elim c.in_default.branch [ in_default-via-in-Seq+else-index-y w ↦ w.if-index-y.false (cc) | in_default-via-in_default w ↦ w.in_default.not-Seq a b e ] in
-    let no_star : (a : NodeId) (first : Bool) → c.look.result ≡ Star a first → ⊥ = λ a first e. elim c.in_default.branch [ in_default-via-in-Seq+else-index-y w ↦ cc | in_default-via-in_default w ↦ w.in_default.not-Star a first e ] in
     let end = other_ends (null c.args.act) c.args.y _ (part f) not_first in
     (c.parent-parent.result, c.look.result, c.look.ensures.node, part f, ends f _ c.set-in_default.ensures.marks end, rw kept (adds_none _ _ (λ n. none_begins (null c.args.act) c.args.y n _ not_first no_star)))

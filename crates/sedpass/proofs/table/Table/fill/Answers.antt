@@ -7,8 +7,6 @@ use Rattle.sedpass.proofs.table.Table.fill.Goals as goal
 leads : (c : After-make-next) → Codes c.args.prepared.now c.args.self.now c.make-next.new.self (IsNext c.args.prepared.now c.args.self.now c.args.offset c.args.byte c.args.edge) c.make-next.result
 leads c =
     let T = c.args.self.now in
-    let table = c.requires.table in
-    let offset = c.requires.offset in
     codes_map _ _ _ _ _ c.make-next.result
     (λ b. leads_on _ (state_of (length c.args.prepared.now.nodes) T (c.args.offset / 2 ^ T.layout.shift)) b c.args.byte c.args.edge (search (rules, get_or_default)) c.edge_kind.ensures) (rw c.state_at-state.ensures at c.make-next.ensures.codes)
 

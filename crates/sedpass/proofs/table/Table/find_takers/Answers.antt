@@ -1,11 +1,6 @@
-use Rattle.sedpass.proofs.Words.{IsApart, KeepsRows, arith, cases_eq, false, get_or-set_other, inl, inr, column_for, slice_set, takers_row, true, ◌≢◌, ◌∙◌, sym}
+use Rattle.sedpass.proofs.Words.{arith, cases_eq, false, get_or-set_other, inl, inr, column_for, slice_set, takers_row, true, ◌∙◌, sym, rules}
 use Rattle.sedpass.proofs.TableLemmas.{bytes_alike, table_notes, takers_alike}
-use Rattle.sedpass.proofs.table.Table.find_takers.Goals.{After-mark_takers}
 use Rattle.sedpass.proofs.table.Table.find_takers.Goals as goal
-
--- the rows are as they were but for one of takers
-keeps : (c : After-mark_takers) → KeepsRows (λ q. IsApart 2 c.args.self.now.count q × (q ≢ c.takers_row-row.result)) c.args.self.now.rows c.mark_takers.new.rows
-keeps c = record { len = c.mark_takers.ensures.keeps.len; lens = c.mark_takers.ensures.keeps.lens; same = λ q far. c.mark_takers.ensures.keeps.same q far.1 }
 
 pub returns-then-not-self-column-clause-table : goal.returns-then-not-self-column-clause-table
 returns-then-not-self-column-clause-table c =
@@ -14,10 +9,9 @@ returns-then-not-self-column-clause-table c =
     let column = c.column-column.result in
     let table = c.requires.table in
     let z = c.takers_row-row.result in
-    let rest = c.mark_takers.ensures.keeps.same in
-    table_notes e t c.mark_takers.new.rows z (slice_set t.has_takers column true) (omega (arith, c.takers_row-row.ensures)) (keeps (goal.at.returns-then-not-self-column-clause-table c).After-mark_takers) table (
+    table_notes e t c.mark_takers.new.rows z (slice_set t.has_takers column true) (omega (arith, c.takers_row-row.ensures)) (search rules) table (
     λ byte lt few small h. let other = column_for t.layout byte in elim (cases_eq other column) [
       | inl e' ↦ rw (e', ← c.takers_row-row.ensures) (takers_alike t.way e c.args.byte byte _ (bytes_alike e.nodes t.way.mirrored t.layout table.layout c.args.byte byte c.ranges.byte.fits lt (omega (arith, small, e', c.column-column.ensures.is)) (sym (e' ∙ c.column-column.ensures.is))) (rw c.requires.way at c.mark_takers.ensures.takers))
-      | inr ne ↦ rw (rest (takers_row other) (λ n. omega (arith, n, ne, c.takers_row-row.ensures))) (table.takers byte lt few small (rw (get_or-set_other t.has_takers column other true false ne) at h))
+      | inr ne ↦ rw (c.mark_takers.ensures.keeps.same (takers_row other) (λ n. omega (arith, n, ne, c.takers_row-row.ensures))) (table.takers byte lt few small (rw (get_or-set_other t.has_takers column other true false ne) at h))
     ]
     )
