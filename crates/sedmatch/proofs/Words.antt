@@ -19,7 +19,6 @@ pub use Rattle.sedtext.specs.Following.{CanEndEarly, LiesOn, LooksPast, OccursAf
 pub use Rattle.sedtext.specs.Links.{AreAlternatives, ChainLeads, IsChain, LinkLeads}
 pub use Rattle.sedtext.specs.Hints.{Narrowed}
 pub use Rattle.sedtext.specs.Sieve.{PassesSieve}
-pub use Rattle.sedtext.specs.declared.counted.sieve.Sieve.{Sieve}
 pub use Rattle.sedtext.specs.declared.links.Link.{Link}
 pub use Rattle.sedtext.specs.Groups.{group_depth}
 pub use Rattle.sedpass.proofs.DecideLemmas.{has_desk, space_again}
@@ -37,11 +36,10 @@ pub use Rattle.sedpass.specs.Table.{IsRoomy, IsTable, SameRoom, SameShape}
 pub use Rattle.sedpass.specs.declared.search.Seeking.{Seeking}
 pub use Rattle.sedpass.specs.declared.table.Table.{Table}
 pub use Rattle.sedmatch.specs.Candidates.{NoMatchBefore}
-pub use Rattle.sedmatch.specs.Direct.{FormSpans, IsDirect, SpannedAs, bytes_looked_at}
+pub use Rattle.sedmatch.specs.Direct.{IsDirect}
 pub use Rattle.sedmatch.specs.Occurrences.{ServesOn, AnswersNext, HasOwn, HasTable, IsLook, IsReady, IsReverseAny, RoomAt, RoomFor, ServesFrom, TakesFirst, owed, owed_after, owed_direct, owed_search}
 pub use Rattle.sedmatch.specs.Passes.{AnswersMatch, IsDesk, KeepsDesk}
 pub use Rattle.sedmatch.specs.Stretches.{ComesFirst, FirstOf, Follow, StretchSpans, behind_first}
-pub use Rattle.sedmatch.specs.declared.direct.DirectForm.{DirectForm}
 pub use Rattle.sedmatch.specs.declared.occurrences.Occurrences.{Occurrences}
 pub use Rattle.sedmatch.specs.declared.scratch.Desk.{Desk}
 pub use Rattle.sedmatch.specs.declared.stretches.Anchoring.TheVariants.{AtEnd}

@@ -1,7 +1,6 @@
 -- What proofs here take from other crates, the definitions and the types of the code, in one place.
-pub use Rattle.std.proofs.Common.{Bool, Global, IfSome, IsTrue, List, None, Option, Some, Vec, [], add-one, ap, arith, bit_and, bit_or, cond, eqb, false, inl, inr, is_some, length, length-append, max, min, mul-le-mul_left, nat_eq, not, refl, replicate, reverse, rules, slice_get, slice_index_or, slice_set, subst, suc, sym, true, true≢false, vec_capacity, w16, zero, ℕ, ⊎_elim, ◌%◌, ◌&&◌, ◌*◌, ◌++◌, ◌+◌, ◌-◌, ◌/◌, ◌<◌, ◌^◌, ◌||◌, ◌↔◌, ◌∙◌, ◌∷◌, ◌≡◌, ◌≢◌, ◌≤◌, ◌⊎◌, nat_le, nat_lt}
+pub use Rattle.std.proofs.Common.{Bool, Global, IfSome, IsTrue, List, None, Option, Some, Vec, [], ap, arith, bit_and, bit_or, cond, eqb, false, inl, inr, is_some, length, length-append, max, min, mul-le-mul_left, not, refl, replicate, reverse, rules, slice_get, slice_index_or, slice_set, subst, suc, sym, true, true≢false, vec_capacity, w16, zero, ℕ, ◌%◌, ◌&&◌, ◌*◌, ◌++◌, ◌+◌, ◌-◌, ◌/◌, ◌<◌, ◌^◌, ◌||◌, ◌↔◌, ◌∙◌, ◌∷◌, ◌≡◌, ◌≢◌, ◌≤◌, ◌⊎◌, nat_le, nat_lt}
 pub use Rattle.std.proofs.Math.Bool.{and-false, beq}
-pub use Rattle.std.proofs.Math.Dec.{leb, ltb}
 pub use Rattle.std.proofs.Math.Nat.{div-mul-le_self, lt-div-mul-add, mod-eq_of_lt, mul-div-le, mul-le-mul_right, mul-sub, pow-le-pow_right}
 pub use Rattle.std.proofs.Math.Pow.{pow_mono}
 pub use Rattle.std.proofs.lemmas.Bool.{and_from, and_parts, both_ways, cases_Bool, cases_eq, cases_lt, eq-eqb, eqb-true, le-leb, leb-true, lt-ltb, ltb-true, ne_eqb, not-false, or_cases}
@@ -19,17 +18,17 @@ pub use Rattle.std.specs.Vec.{with_item}
 pub use Rattle.sedre.proofs.MirrorLemmas.{old_node, seen-arena, seen-length, seen-node, tree_at-mirror}
 pub use Rattle.sedre.proofs.TreeLemmas.{tree_at-node}
 pub use Rattle.sedre.proofs.Written.{size_positive}
-pub use Rattle.sedre.specs.Arena.{AreRanges, FollowsParts, HasTwoParts, IsArena, IsExpr, IsPart}
+pub use Rattle.sedre.specs.Arena.{AreRanges, FollowsParts, IsArena, IsExpr, IsPart}
 pub use Rattle.sedre.specs.Mirror.{mirror, mirror_node, seen}
 pub use Rattle.sedre.specs.Sets.{has}
 pub use Rattle.sedre.specs.Steps.{CostsWithin, Takes}
 unfoldable pub use Rattle.sedre.specs.Steps.{IsCounted, TakesAtLeast}
 pub use Rattle.sedre.specs.Tree.{Tree, WrittenExpression, any_copies, byte_of, either_of, expression_tree, grouped, null_string, one_or_none, sequence, size, text_begin, text_end, tree_at, tree_of}
 pub use Rattle.sedre.specs.declared.types.Node.{Node}
-pub use Rattle.sedre.specs.declared.types.Node.TheVariants.{Alt, Begin, Empty, End, Group, Opt, Seq, Set, Star}
+pub use Rattle.sedre.specs.declared.types.Node.TheVariants.{Alt, Group, Opt, Seq, Set, Star}
 pub use Rattle.sedre.specs.declared.types.NodeId.{NodeId}
 pub use Rattle.sedtext.proofs.CapsLemmas.{Captures-unique}
-pub use Rattle.sedtext.proofs.CountLemmas.{least_both, least_less, least_none, least_since, least_up}
+pub use Rattle.sedtext.proofs.CountLemmas.{least_both, least_less, least_none, least_since}
 pub use Rattle.sedtext.proofs.FixedRunLemmas.{CopiesLead-join}
 pub use Rattle.sedtext.proofs.GroupLemmas.{NoGroups}
 pub use Rattle.sedtext.proofs.MatchingLemmas.{both-iff, either-iff, groups_after-is}
@@ -42,7 +41,7 @@ pub use Rattle.sedtext.specs.Hints.{Narrowed, NoneIn}
 pub use Rattle.sedtext.specs.Caps.{Captures, IsReport, LastCopy, LastCut, only, then_copy}
 pub use Rattle.sedtext.specs.Following.{LooksPast}
 pub use Rattle.sedtext.specs.Groups.{SpansOfGroups, deeper, forget, group_depth, no_groups}
-pub use Rattle.sedtext.specs.Matching.{byte_is_in, groups_after, leftmost_longest}
+pub use Rattle.sedtext.specs.Matching.{byte_is_in, groups_after}
 pub use Rattle.sedtext.specs.Nodes.{IsRepetitionOf, parts_of}
 pub use Rattle.sedtext.specs.Places.{Ascending, IsPlace}
 pub use Rattle.sedtext.specs.Reach.{BeginsWith, CanEnd, Enters, HasSpan, IsLongestFrom, IsStart, SomeSpan, Starts, after_left, again, at_root, one_start, starts_to, with_whole}
@@ -52,11 +51,11 @@ pub use Rattle.sedpass.specs.Classes.{IsFiner, IsNumbering}
 pub use Rattle.sedpass.specs.Decide.{AreTables, EndsRegion, HasBlank, HasDesk, HasNoKnownLength, HasSpace, IsAtEnd, IsCopyFrom, IsTaskReady, IsTurn, KeepsGroupDesk, KeepsGroupRoom, LooksAt, NodeMatches, NodeTurned, NoneSettled, Works, entered_at, flags_of, known_groups, match_cost, nodes_in, region_cost, spans_in, subject_text, task_cost, tasks_after, tasks_cost, then_cost, weights}
 pub use Rattle.sedpass.specs.Forwards.{Arrives, EndsBelow, IsPassEnd, LastBelow, PassIs, is_over, starts_of}
 pub use Rattle.sedpass.specs.Kept.{AllMarked, ComesDown, EdgesFrom, Follows, IsEdge, IsKept, IsLive, IsRegion, KeepsRegion, KeptAt, Meet, PassesDownTo, RowKept, SameKept, SameSpace, due_place, ends_shown, owed_region, starts_shown}
-pub use Rattle.sedpass.specs.Prepared.{AreFacts, AreParents, IsFacts, IsShort, SameNulls, holds, is_one_set, length_of, null_at, null_in, nullable, repeated_set, reported, same_of, sum_of}
+pub use Rattle.sedpass.specs.Prepared.{AreFacts, AreParents, IsFacts, SameNulls, holds, is_one_set, length_of, null_at, null_in, nullable, repeated_set, reported, same_of, sum_of}
 pub use Rattle.sedpass.specs.Regions.{CanLeave, CeasesAt, EndsPastIn, EndsWith, IsLastIn, IsLastPart, IsRunOf, IsSetAt, MeetsAt, ReachesEnd, all_of, at_end, before_copies, before_right, in_group, last_of, repeated, with_end}
-pub use Rattle.sedpass.specs.Rows.{AddsMarks, AreNull, AreTakers, AreWide, EndKept, EndsAfter, EndsUpTo, EntersDownTo, InTree, IsApart, IsNodeRange, LeafAt, MarkLeaves, RowFollows, RowLeadsTo, RowOfPlace, SameBytes, ShowTook, TookBy, marks_of, StartsAfter, StartsWith, TakenBy, Took, at_begin, at_edge, bits, ended_by, ends_row, entered_by, is_tree, leaves_row, has_mark, nodes_of, part_of, root_of, takers_row}
+pub use Rattle.sedpass.specs.Rows.{AddsMarks, AreNull, AreTakers, AreWide, EndsAfter, EndsUpTo, EntersDownTo, InTree, IsApart, IsNodeRange, MarkLeaves, RowFollows, RowOfPlace, SameBytes, ShowTook, TookBy, marks_of, StartsAfter, StartsWith, TakenBy, Took, at_begin, at_edge, bits, ended_by, ends_row, entered_by, is_tree, leaves_row, has_mark, nodes_of, part_of, root_of, takers_row}
 pub use Rattle.sedpass.specs.Search.{LooksFrom, Searched, owed_after_search, owed_kept, owed_seeking, search_cost}
-pub use Rattle.sedpass.specs.Table.{AddsStates, BeginsIn, Codes, FlagsShow, HasNewRow, HasOrigin, HasRoom, HasRows, HasTakers, IsBase, RowIs, edge_kind, middle, IsForwardOne, IsLayout, IsMade, IsNext, IsOffset, IsOrigin, IsRoomy, IsTable, LeadsBy, LeadsOn, LinksTo, MayBegin, NamesState, PassState, SameRoom, SameShape, StateAt, beginning_at, beginning_of, cell_of, code_of, cell_for, cells_in, column_for, kind_number, state_of}
+pub use Rattle.sedpass.specs.Table.{AddsStates, BeginsIn, Codes, FlagsShow, HasNewRow, HasOrigin, HasRoom, HasRows, HasTakers, IsBase, RowIs, edge_kind, IsForwardOne, IsLayout, IsMade, IsNext, IsOffset, IsOrigin, IsRoomy, IsTable, LeadsBy, LeadsOn, MayBegin, NamesState, PassState, SameRoom, SameShape, StateAt, beginning_at, beginning_of, cell_of, code_of, cell_for, cells_in, column_for, state_of}
 pub use Rattle.sedpass.specs.Walks.{EntersGroups, GroupIsIn, GroupState, IsFirstState, NoneDue, WalkEnters, drop_groups, has_group, is_due, settle}
 pub use Rattle.sedpass.specs.declared.cells.Layout.{Layout}
 pub use Rattle.sedpass.specs.declared.cells.StateFlags.{StateFlags}
