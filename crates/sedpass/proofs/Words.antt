@@ -28,7 +28,7 @@ pub use Rattle.sedre.specs.declared.types.Node.{Node}
 pub use Rattle.sedre.specs.declared.types.Node.TheVariants.{Alt, Group, Opt, Seq, Set, Star}
 pub use Rattle.sedre.specs.declared.types.NodeId.{NodeId}
 pub use Rattle.sedtext.proofs.CapsLemmas.{Captures-unique}
-pub use Rattle.sedtext.proofs.CountLemmas.{least_both, least_less, least_none, least_since}
+pub use Rattle.sedtext.proofs.CountLemmas.{least_both, least_less, least_none, least_since, least_up}
 pub use Rattle.sedtext.proofs.FixedRunLemmas.{CopiesLead-join}
 pub use Rattle.sedtext.proofs.GroupLemmas.{NoGroups}
 pub use Rattle.sedtext.proofs.MatchingLemmas.{both-iff, either-iff, groups_after-is}
@@ -41,7 +41,7 @@ pub use Rattle.sedtext.specs.Hints.{Narrowed, NoneIn}
 pub use Rattle.sedtext.specs.Caps.{Captures, IsReport, LastCopy, LastCut, only, then_copy}
 pub use Rattle.sedtext.specs.Following.{LooksPast}
 pub use Rattle.sedtext.specs.Groups.{SpansOfGroups, deeper, forget, group_depth, no_groups}
-pub use Rattle.sedtext.specs.Matching.{byte_is_in, groups_after}
+pub use Rattle.sedtext.specs.Matching.{byte_is_in, groups_after, leftmost_longest}
 pub use Rattle.sedtext.specs.Nodes.{IsRepetitionOf, parts_of}
 pub use Rattle.sedtext.specs.Places.{Ascending, IsPlace}
 pub use Rattle.sedtext.specs.Reach.{BeginsWith, CanEnd, Enters, HasSpan, IsLongestFrom, IsStart, SomeSpan, Starts, after_left, again, at_root, one_start, starts_to, with_whole}
